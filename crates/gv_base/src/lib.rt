@@ -3,10 +3,16 @@
 
 mod constant;
 mod fault;
+mod keeper;
 mod place;
+mod sink;
+mod source;
 mod text;
 
 pub use constant::{Const, ConstText, Kind};
 pub use fault::{Denied, Failed, NoMemory};
+pub use keeper::{Fault, Keeper, MemKeeper, SureKeeper};
 pub use place::Place;
+pub use sink::{MemSink, Sink, SureSink, Unwritten, write_all};
+pub use source::{MemSource, Source, SureSource};
 pub use text::{Bytes, Row};
