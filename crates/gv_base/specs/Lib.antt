@@ -4,3 +4,4 @@ pub mod Counts
 pub mod Sources
 pub mod Sinks
 pub mod Keepers
+pub mod Lines
