@@ -9,6 +9,8 @@ mod lines;
 mod place;
 mod sink;
 mod source;
+#[cfg(test)]
+mod tests;
 mod text;
 
 pub use constant::{Const, ConstText, Kind};
