@@ -1,0 +1,10 @@
+//! Laws of the texts. Their bodies are empty: the contracts are the laws.
+ghost use Rattle.std.specs.Prelude.{◌≡◌, List};
+ghost use Rattle.gv_bytes.specs.Spelling.{items, AreItems};
+ghost use Rattle.action_graph.specs.Marks.{mark, IsMark};
+ghost use Rattle.action_graph.specs.declared.marks.MarkLine.{MarkLine};
+
+/// Distinct lists of marks have distinct spellings, and so bytes have one reading.
+pub fn one_marks_text()
+    ensures { (xs ys : List MarkLine) → AreItems IsMark xs → AreItems IsMark ys → items mark xs ≡ items mark ys → xs ≡ ys }
+{}

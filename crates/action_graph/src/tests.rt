@@ -1,0 +1,49 @@
+use super::*;
+use gv_base::Place;
+use std::test::Fail;
+
+#[test]
+fn two_marks(rt: HostRuntime) -> Result<(), Fail> {
+    let alloc = rt.alloc();
+    let rule = MarkLine {
+        at: Place {
+            file: 0,
+            offset: 17,
+        },
+        limit: false,
+        number: 31,
+    };
+    let limit = MarkLine {
+        at: Place {
+            file: 4294967295,
+            offset: 4294967295,
+        },
+        limit: true,
+        number: 255,
+    };
+    let text = write_marks(alloc, &[rule, limit])?;
+    assert_eq!(rt;
+        text.as_slice(),
+        b"2;0;17;0;31;4294967295;4294967295;1;255;".as_slice()
+    );
+    let read = read_marks(alloc, &text)?.ok_or("two marks")?;
+    assert_eq!(rt; read.as_slice(), [rule, limit].as_slice());
+    let empty = write_marks(alloc, &[])?;
+    assert_eq!(rt; empty.as_slice(), b"0;".as_slice());
+    assert!(rt; read_marks(alloc, b"0;")?.is_some());
+    Ok(())
+}
+
+#[rattlefmt::skip]
+#[test]
+fn malformed(rt: HostRuntime) -> Result<(), Fail> {
+    let texts: [&[u8]; 20] = [
+        b"", b"0", b"00;", b"-0;", b"+0;", b"-1;", b"1;", b"0;0;", b"1;0;17;0;", b"1;0;17;0;31", b"1;0;17;0;31;0;", b"2;0;17;0;31;",
+        b"1;0;17;2;31;", b"1;0;17;-1;31;", b"1;0;17;0;256;", b"1;0;17;0;-1;", b"1;4294967296;17;0;31;", b"1;0;4294967296;0;31;",
+        b"1;0;017;0;31;", b"18446744073709551615;",
+    ];
+    for bytes in texts {
+        assert!(rt; read_marks(rt.alloc(), bytes)?.is_none());
+    }
+    Ok(())
+}
