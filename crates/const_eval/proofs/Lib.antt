@@ -1,0 +1,5 @@
+pub mod BitLaws
+pub mod DigitLaws
+pub mod Marks
+pub mod Shifts
+mod SpecificationFacts
