@@ -1,0 +1,4 @@
+pub mod FirstCharacters
+pub mod Digits
+pub mod Readings
+pub mod OneFormat
