@@ -1,0 +1,2 @@
+mod LexemeFacts
+pub mod Literals

@@ -1,0 +1,7 @@
+use Rattle.std.proofs.Common.{refl, ◌∙◌}
+use Rattle.go_tree.specs.Lexeme.{keywords}
+use Rattle.go_lexeme.proofs.Slots.{slot_place_is}
+use Rattle.go_lexeme.proofs.table.keyword_place.Goals as goal
+
+pub returns-clause-place : goal.returns-clause-place
+returns-clause-place c = c.place_in.ensures.place ∙ slot_place_is keywords _ _ refl refl

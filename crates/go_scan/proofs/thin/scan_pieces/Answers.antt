@@ -1,0 +1,29 @@
+use Rattle.std.proofs.Common.{arith}
+use Rattle.go_scan.proofs.ThinLaws.{no_thin_item, thin_refused}
+use Rattle.go_tree.specs.Thin.{thin_item_of}
+use Rattle.go_scan.proofs.Cuts.{step, step_within, finish, refuse, some_size, reaches_start}
+use Rattle.go_scan.proofs.thin.scan_pieces.Goals as goal
+
+pub loop-at-smaller : goal.loop-at-smaller
+loop-at-smaller c = omega (arith, some_size thin_item_of no_thin_item _ _ c.thin_piece_at-piece.ensures, step_within thin_item_of no_thin_item _ _ _ c.loop-at-test.true c.thin_piece_at-piece.ensures)
+
+pub loop-at-preserved : goal.loop-at-preserved
+loop-at-preserved c = record {
+  within = step_within thin_item_of no_thin_item _ _ _ c.loop-at-test.true c.thin_piece_at-piece.ensures;
+  reaches = step thin_item_of no_thin_item _ _ _ _ _ _ _ _ c.loop-at.invariant.reaches c.thin_piece_at-piece.ensures c.in_default.not-Wrong c.due_after-due.ensures (c.in_ok-push_token.ensures) c.item_token.ensures;
+}
+
+pub returns-in-Wrong : goal.returns-in-Wrong
+returns-in-Wrong c = thin_refused _ _ _ (refuse thin_item_of no_thin_item _ _ _ _ _ _ c.loop-at.invariant.reaches c.thin_piece_at-piece.ensures c.in-Wrong.is c.requires.passes)
+
+pub returns : goal.returns
+returns c = record {
+  ascii = c.requires.ascii;
+  lexed = finish thin_item_of no_thin_item _ _ _ _ _ _ c.loop-at.invariant.reaches c.loop-at-test.false c.in_ok-push_token-2.ensures c.semicolon.ensures c.requires.passes;
+}
+
+pub loop-at-init : goal.loop-at-init
+loop-at-init c = record {
+  within = c.front_mark-at.ensures.within;
+  reaches = reaches_start thin_item_of no_thin_item _ _ _ c.front_mark-at.ensures.mark c.new-tokens.ensures.items;
+}
