@@ -1,0 +1,10 @@
+pub mod Standing
+pub mod NameLemmas
+pub mod AnnotationLemmas
+pub mod RuleLemmas
+pub mod ItemLemmas
+pub mod AttributeLemmas
+pub mod OrderLemmas
+pub mod GraphLemmas
+pub mod RefusalLemmas
+pub mod ListLemmas
