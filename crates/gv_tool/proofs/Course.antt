@@ -1,0 +1,59 @@
+-- The course of a session over its turns.
+use Rattle.std.proofs.Common.{◌≡◌, ℕ, ◌+◌, List, [], ◌++◌, length, refl, arith, Option, Some, None}
+use Rattle.std.proofs.lemmas.List.{length-append}
+use Rattle.gv_base.specs.Counts.{RoseBy}
+use Rattle.gv_base.specs.Sources.{SourceView}
+use Rattle.gv_base.specs.Sinks.{SinkView}
+use Rattle.gv_tool.specs.declared.session.Session.{Session}
+use Rattle.gv_tool.specs.declared.status.Status.{Status}
+use Rattle.gv_tool.specs.declared.status.Status.TheVariants.{Usage}
+use Rattle.gv_tool.specs.Outcome.{Outcome}
+use Rattle.gv_tool.specs.Replies.{Standing, at_start}
+use Rattle.gv_tool.specs.Desk.{standing_of}
+use Rattle.gv_tool.specs.Turn.{Turns, SoFar, Runs}
+use Rattle.gv_base.proofs.Known.{Appends-none, Appends-trans, Consumes-none, Consumes-trans}
+use Rattle.gv_tool.proofs.Steps.{Answered-none}
+
+-- a count that rose twice
+RoseBy-trans : (a b c m n : ℕ) → RoseBy m a b → RoseBy n b c → RoseBy (m + n) a c
+RoseBy-trans a b c m n h k = omega arith
+
+RoseBy-length : (a b c : ℕ) (xs ys : List ℕ) → RoseBy (length xs) a b → RoseBy (length ys) b c → RoseBy (length (xs ++ ys)) a c
+RoseBy-length a b c xs ys h k = rw length-append (RoseBy-trans a b c (length xs) (length ys) h k)
+
+-- at the start
+pub SoFar-start : (source : SourceView) (sink : SinkView) (session : Session) → standing_of session.desk ≡ at_start → session.pending ≡ [] → session.offset ≡ 0 → SoFar source source sink sink session
+SoFar-start source sink session s p o = record {
+  given = [];
+  out = [];
+  takes = Consumes-none source.left;
+  counts = omega arith;
+  says = Appends-none sink.held;
+  stands = record { read = []; reached = rw (s, p) (record { parts = refl; within = omega arith; answered = Answered-none at_start }); offset = o };
+}
+
+-- a turn that goes on
+pub SoFar-turn : {a b c : SourceView} {x y z : SinkView} {session session' : Session} → SoFar a b x y session → Turns b c y z session session' None → SoFar a c x z session'
+SoFar-turn {a} {b} {c} {x} {y} {z} h t = record {
+  given = h.given ++ t.given;
+  out = h.out ++ t.said;
+  takes = Consumes-trans a.left b.left c.left h.given t.given h.takes t.takes;
+  counts = RoseBy-length a.given b.given c.given h.given t.given h.counts t.counts;
+  says = Appends-trans x.held y.held z.held h.out t.said h.says t.says;
+  stands = t.goes at_start h.given h.out h.stands;
+}
+
+-- a turn that ends the session
+pub Runs-turn : {a b c : SourceView} {x y z : SinkView} {session session' : Session} {status : Status} → SoFar a b x y session → Turns b c y z session session' (Some status) → Runs a c x z status
+Runs-turn {a} {b} {c} {x} {y} {z} h t = record {
+  given = h.given ++ t.given;
+  out = h.out ++ t.said;
+  takes = Consumes-trans a.left b.left c.left h.given t.given h.takes t.takes;
+  counts = RoseBy-length a.given b.given c.given h.given t.given h.counts t.counts;
+  says = Appends-trans x.held y.held z.held h.out t.said h.says t.says;
+  outcome = t.goes at_start h.given h.out h.stands;
+}
+
+-- no session ends as a call with wrong words
+pub never_usage : (start : Standing) (given out : List ℕ) (left : Option (List ℕ)) (status : Status) → Outcome start given out left status → status ≡ Usage → ⊥
+never_usage start given out left status o e = let u : Outcome start given out left Usage = rw e at o in u.ends

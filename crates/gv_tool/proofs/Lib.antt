@@ -1,0 +1,13 @@
+pub mod Grammar
+pub mod RunLaws
+pub mod FieldLaws
+pub mod PathLaws
+pub mod FileLaws
+pub mod WordLaws
+pub mod JudgingLaws
+pub mod Steps
+pub mod Course
+pub mod PrefixLaws
+pub mod DueLaws
+pub mod OutputLaws
+pub mod HeadlineLaws

@@ -1,0 +1,16 @@
+use Rattle.std.proofs.Common.{◌∙◌, sym}
+use Rattle.gv_tool.specs.declared.status.Status.TheVariants.{Refused, NotBuilt}
+use Rattle.gv_tool.proofs.HeadlineLaws.{Session-of, EndedBy-of, only-refused, only-not_built, exact-of}
+use Rattle.gv_tool.proofs.call.session.Goals as goal
+
+pub returns-clause-session : goal.returns-clause-session
+returns-clause-session g c = Session-of (g.I.Source.view c.args.input.now) (g.I.Source.view c.run.new.input) (g.O.Sink.view c.args.output.now) (g.O.Sink.view c.run.new.output) c.run.result c.number.result c.run.ensures.outcome c.number.ensures
+
+pub returns-clause-refused : goal.returns-clause-refused
+returns-clause-refused g c = λ e. EndedBy-of (g.I.Source.view c.args.input.now) (g.I.Source.view c.run.new.input) (g.O.Sink.view c.args.output.now) (g.O.Sink.view c.run.new.output) c.run.result Refused c.run.ensures.outcome (only-refused c.run.result (sym c.number.ensures ∙ e))
+
+pub returns-clause-not_built : goal.returns-clause-not_built
+returns-clause-not_built g c = λ e. EndedBy-of (g.I.Source.view c.args.input.now) (g.I.Source.view c.run.new.input) (g.O.Sink.view c.args.output.now) (g.O.Sink.view c.run.new.output) c.run.result NotBuilt c.run.ensures.outcome (only-not_built c.run.result (sym c.number.ensures ∙ e))
+
+pub returns-clause-exact : goal.returns-clause-exact
+returns-clause-exact g c = λ script whole due e d. rw c.number.ensures (exact-of (g.I.Source.view c.args.input.now) (g.I.Source.view c.run.new.input) (g.O.Sink.view c.args.output.now) (g.O.Sink.view c.run.new.output) c.run.result script whole due c.run.ensures.outcome e d)

@@ -1,0 +1,117 @@
+use Rattle.std.proofs.Common.{arith, refl, []}
+use Rattle.std.proofs.lemmas.List.{append-nil}
+use Rattle.gv_tool.specs.Next.{IsNext, command_of}
+use Rattle.gv_tool.specs.declared.script.Next.TheVariants.{Whole, Refused, NeedMore}
+use Rattle.gv_tool.specs.Replies.{Does}
+use Rattle.gv_tool.specs.Desk.{standing_of, IsAnswer}
+use Rattle.gv_tool.specs.declared.desk.Answer.TheVariants.{Reply, NotBuilt}
+use Rattle.gv_base.proofs.Known.{Appends-none, Consumes-none}
+use Rattle.gv_tool.proofs.Steps.{Outcome-refused, Outcome-unbuilt, Outcome-finished, IsEnding-of, IsUnbuilt-of, IsRefused-none, Stands-piece, WentOut-full, WentOut-before, StandsOrEnds-reply, PastLimit-over}
+use Rattle.gv_tool.proofs.top.turn.Goals as goal
+
+pub returns-then-is_end-clause-turns : goal.returns-then-is_end-clause-turns
+returns-then-is_end-clause-turns g c =
+    let source = g.I.Source.view c.args.input.now in
+    let session = c.args.session.now in record {
+      given = [];
+      said = [];
+      takes = Consumes-none source.left;
+      counts = omega arith;
+      says = Appends-none (g.O.Sink.view c.args.output.now).held;
+      goes = λ start before out s.
+          let next : IsNext session.pending (Whole c.in-Whole.command c.in-Whole.len) = rw c.as_slice.ensures at c.in-Whole.ensures in
+          rw (append-nil before, c.verdict.ensures) (Outcome-finished session source.left s (IsEnding-of session c.in-Whole.command c.in-Whole.len source.left next (c.if-is_end.ensures.0 refl)));
+    }
+
+pub returns-in-Ok-Reply-clause-turns : goal.returns-in-Ok-Reply-clause-turns
+returns-in-Ok-Reply-clause-turns g c =
+    let source = g.I.Source.view c.args.input.now in
+    let session = c.args.session.now in
+    let r = c.tell.ensures.tells in record {
+      given = [];
+      said = r.said;
+      takes = Consumes-none source.left;
+      counts = omega arith;
+      says = r.says;
+      goes = λ start before out s.
+          let next : IsNext session.pending (Whole c.in-Whole.command c.in-Whole.len) = rw c.as_slice.ensures at c.in-Whole.ensures in
+          let does : Does (command_of c.in-Whole.command) (standing_of session.desk) (standing_of c.apply.new.self) c.as_slice-in-Ok-Reply.result.now = rw c.as_slice-in-Ok-Reply.ensures (let a : IsAnswer (command_of c.in-Whole.command) (standing_of session.desk) (standing_of c.apply.new.self) (Reply c.in-Ok-Reply.reply) = rw c.in-Ok-Reply.field-0-is at c.in-Ok-Reply.ensures in a) in
+          rw (append-nil before) (StandsOrEnds-reply session (record session { desk = c.apply.new.self }) c.tell.new.session c.in-Whole.command c.in-Whole.len c.as_slice-in-Ok-Reply.result.now r.said source.left c.tell.result s next does refl refl r.leaves);
+    }
+
+pub returns-in-Ok-NotBuilt-clause-turns : goal.returns-in-Ok-NotBuilt-clause-turns
+returns-in-Ok-NotBuilt-clause-turns g c =
+    let source = g.I.Source.view c.args.input.now in
+    let session = c.args.session.now in
+    let r = c.stop.ensures.says in record {
+      given = [];
+      said = r.said;
+      takes = Consumes-none source.left;
+      counts = omega arith;
+      says = r.says;
+      goes = λ start before out s.
+          let next : IsNext session.pending (Whole c.in-Whole.command c.in-Whole.len) = rw c.as_slice.ensures at c.in-Whole.ensures in
+          let a : IsAnswer (command_of c.in-Whole.command) (standing_of session.desk) (standing_of c.apply.new.self) NotBuilt = rw c.in-Ok-NotBuilt.field-0-is at c.in-Ok-NotBuilt.ensures in
+          rw (append-nil before) (Outcome-unbuilt session source.left r.said c.stop.result s (IsUnbuilt-of session c.in-Whole.command c.in-Whole.len next a.0 a.1) r.line);
+    }
+
+pub returns-in-Err-clause-turns : goal.returns-in-Err-clause-turns
+returns-in-Err-clause-turns g c =
+    let source = g.I.Source.view c.args.input.now in record {
+      given = [];
+      said = [];
+      takes = Consumes-none source.left;
+      counts = omega arith;
+      says = Appends-none (g.O.Sink.view c.args.output.now).held;
+      goes = λ start before out s. rw (append-nil before) (WentOut-before c.args.session.now source.left s);
+    }
+
+pub returns-in-Refused-clause-turns : goal.returns-in-Refused-clause-turns
+returns-in-Refused-clause-turns g c =
+    let source = g.I.Source.view c.args.input.now in
+    let session = c.args.session.now in
+    let r = c.refuse.ensures.says in record {
+      given = [];
+      said = r.said;
+      takes = Consumes-none source.left;
+      counts = omega arith;
+      says = r.says;
+      goes = λ start before out s.
+          let none : IsNext session.pending Refused = rw c.as_slice.ensures at c.in-Refused.ensures in
+          rw (append-nil before) (Outcome-refused session source.left r.said c.refuse.result s (IsRefused-none session source.left none) r.line);
+    }
+
+pub returns-in-More-clause-turns : goal.returns-in-More-clause-turns
+returns-in-More-clause-turns g c =
+    let r = c.in-More.ensures.takes in record {
+      given = r.given;
+      said = [];
+      takes = r.takes;
+      counts = r.counts;
+      says = Appends-none (g.O.Sink.view c.args.output.now).held;
+      goes = λ start before out s. Stands-piece c.args.session.now c.take_piece.new.session r.given s r.leaves.0 r.leaves.2 r.leaves.3;
+    }
+
+pub returns-in-Over-clause-turns : goal.returns-in-Over-clause-turns
+returns-in-Over-clause-turns g c =
+    let r = c.in-Over.ensures.takes in record {
+      given = r.given;
+      said = [];
+      takes = r.takes;
+      counts = r.counts;
+      says = Appends-none (g.O.Sink.view c.args.output.now).held;
+      goes = λ start before out s.
+          let begun : IsNext c.args.session.now.pending NeedMore = rw c.as_slice.ensures at c.in-NeedMore.ensures in
+          PastLimit-over c.args.session.now r.given (g.I.Source.view c.take_piece.new.input).left s begun r.leaves.1 r.leaves.0;
+    }
+
+pub returns-in-Full-clause-turns : goal.returns-in-Full-clause-turns
+returns-in-Full-clause-turns g c =
+    let r = c.in-Full.ensures.takes in record {
+      given = r.given;
+      said = [];
+      takes = r.takes;
+      counts = r.counts;
+      says = Appends-none (g.O.Sink.view c.args.output.now).held;
+      goes = λ start before out s. WentOut-full c.args.session.now (g.I.Source.view c.take_piece.new.input).left r.given s;
+    }

@@ -1,0 +1,21 @@
+-- What a session holds, as the place where it stands.
+use Rattle.std.specs.Prelude.{◌≡◌, true}
+use Rattle.gv_tool.specs.declared.desk.Desk.{Desk}
+use Rattle.gv_tool.specs.declared.desk.Answer.{Answer}
+use Rattle.gv_tool.specs.declared.desk.Answer.TheVariants.{Reply, NotBuilt}
+use Rattle.gv_tool.specs.Script.{Command}
+use Rattle.gv_tool.specs.Judging.{IsBuilt}
+use Rattle.gv_tool.specs.Replies.{Standing, is_run, Runs, Does}
+
+abbrev pub standing_of : Desk → Standing
+standing_of desk = record { tree = desk.files; found = desk.found }
+
+-- what is answered to a command
+abbrev pub IsAnswer : Command → Standing → Standing → Answer → Type 0
+IsAnswer command old now (Reply text) = Does command old now text
+IsAnswer command old now NotBuilt = (is_run command.word ≡ true) × (IsBuilt old.tree → ⊥)
+
+-- what is answered to a run
+abbrev pub IsReport : Standing → Standing → Answer → Type 0
+IsReport old now (Reply text) = Runs old now text
+IsReport old now NotBuilt = IsBuilt old.tree → ⊥

@@ -1,0 +1,84 @@
+-- What a whole session does.
+use Rattle.std.specs.Prelude.{◌≡◌, ◌⊎◌, ℕ, List, [], ◌∷◌, codes, map, Option, None, Some, String}
+use Rattle.std.specs.String.{string_bytes}
+use Rattle.std.specs.Global.{Global}
+use Rattle.gv_base.specs.Counts.{Rose}
+use Rattle.gv_base.specs.Sources.{SourceView}
+use Rattle.gv_base.specs.Sinks.{SinkView}
+use Rattle.gv_tool.specs.declared.status.Status.{Status}
+use Rattle.gv_tool.specs.declared.status.Status.TheVariants.{Done, Found, Usage, SourceFault, SinkFault, NoMemory, Refused, TooLong, Stuck, NotBuilt}
+use Rattle.gv_tool.specs.Replies.{at_start}
+use Rattle.gv_tool.specs.Outcome.{IsPrefix, Outcome}
+use Rattle.gv_tool.specs.Turn.{Runs}
+
+-- the number of a status
+abbrev pub number_of : Status → ℕ
+number_of Done = 0
+number_of Found = 1
+number_of Usage = 2
+number_of SourceFault = 3
+number_of SinkFault = 6
+number_of NoMemory = 7
+number_of Refused = 8
+number_of TooLong = 9
+number_of Stuck = 10
+number_of NotBuilt = 11
+
+-- the statuses with which all that is due has gone out
+abbrev pub IsAllDue : Status → Type 0
+IsAllDue Done = Unit {0}
+IsAllDue Found = Unit {0}
+IsAllDue Usage = ⊥
+IsAllDue SourceFault = ⊥
+IsAllDue SinkFault = ⊥
+IsAllDue NoMemory = ⊥
+IsAllDue Refused = Unit {0}
+IsAllDue TooLong = Unit {0}
+IsAllDue Stuck = ⊥
+IsAllDue NotBuilt = Unit {0}
+
+-- what is due for a script, and with which status: a session that is given all of it
+pub record Due (script out : List ℕ) (status : Status) : Type 0 where
+  pub all : IsAllDue status
+  pub outcome : Outcome at_start script out (Some []) status
+
+-- What went out for a script: all that is due and no other is due, or the beginning of whatever is due.
+pub record GoesOut (script out : List ℕ) (status : Status) : Type 0 where
+  pub due : IsAllDue status → Due script out status
+  pub single : IsAllDue status → (whole : List ℕ) (other : Status) → Due script whole other → (out ≡ whole) × (status ≡ other)
+  pub prefix : (whole : List ℕ) (other : Status) → Due script whole other → IsPrefix out whole
+
+-- the same where the source told its script
+abbrev pub IsDueOf : Option (List ℕ) → List ℕ → Status → Type 0
+IsDueOf None out status = Unit {0}
+IsDueOf (Some script) out status = GoesOut script out status
+
+-- A whole session, by the status's number: what was given and went out in this call, where the session then stood and how it ended; and where the source tells, what was due.
+pub record Session (source source' : SourceView) (sink sink' : SinkView) (result : ℕ) : Type 0 where
+  pub status : Status
+  pub number : result ≡ number_of status
+  pub course : Runs source source' sink sink' status
+  pub due : IsDueOf source.left course.out status
+
+-- a session that ended with this status
+pub record EndedBy (source source' : SourceView) (sink sink' : SinkView) (status : Status) : Type 0 where
+  pub course : Runs source source' sink sink' status
+  pub due : IsDueOf source.left course.out status
+
+-- the words of a call
+abbrev pub IsSession : List (String Global) → Type 0
+IsSession words = map string_bytes words ≡ codes "session" ∷ []
+
+-- all that is due went out, or memory was wanting
+abbrev pub IsComplete : ℕ → Type 0
+IsComplete result = (status : Status) × (result ≡ number_of status) × (IsAllDue status ⊎ (status ≡ NoMemory))
+
+-- the status of want of memory, or of a device that failed or stalled
+abbrev pub IsCutShort : ℕ → Type 0
+IsCutShort result = (result ≡ 7) ⊎ ((result ≡ 3) ⊎ ((result ≡ 6) ⊎ (result ≡ 10)))
+
+-- no count of a fault or a stall rose
+pub record NothingRose (before after : SourceView) (held taken : SinkView) : Type 0 where
+  pub source : Rose before.faults after.faults → ⊥
+  pub sink : Rose held.faults taken.faults → ⊥
+  pub stalls : Rose held.stalls taken.stalls → ⊥

@@ -1,0 +1,12 @@
+pub mod Words
+pub mod Script
+pub mod Runs
+pub mod Segments
+pub mod Fields
+pub mod Next
+pub mod Judging
+pub mod Replies
+pub mod Desk
+pub mod Outcome
+pub mod Turn
+pub mod Headline

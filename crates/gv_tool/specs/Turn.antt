@@ -1,0 +1,136 @@
+-- One turn of the session's loop.
+use Rattle.std.specs.Prelude.{◌≡◌, ℕ, ◌+◌, ◌-◌, ◌*◌, ◌<◌, Bool, true, false, drop, List, [], ◌++◌, length, Option, None, Some}
+use Rattle.std.specs.Io.KnownBytes.{Appends, Consumes, IsAtEnd}
+use Rattle.gv_base.specs.Counts.{RoseBy}
+use Rattle.gv_base.specs.Sources.{SourceView}
+use Rattle.gv_base.specs.Sinks.{SinkView}
+use Rattle.gv_tool.specs.declared.status.Status.{Status}
+use Rattle.gv_tool.specs.declared.status.Status.TheVariants.{Done, Found, Usage, SourceFault, SinkFault, NoMemory, Refused, TooLong, Stuck, NotBuilt}
+use Rattle.gv_tool.specs.declared.session.Session.{Session}
+use Rattle.gv_tool.specs.declared.pieces.Taken.{Taken}
+use Rattle.gv_tool.specs.declared.pieces.Taken.TheVariants.{More, AtEnd, Over, Fault, Full}
+use Rattle.gv_tool.specs.Desk.{standing_of}
+use Rattle.gv_tool.specs.Replies.{Standing, at_start}
+use Rattle.gv_tool.specs.Outcome.{limit, Reached, Outcome, IsPrefix}
+
+-- the session stands where the commands among the bytes lead, and holds the others
+pub record Stands (start : Standing) (given out : List ℕ) (session : Session) : Type 0 where
+  pub read : List ℕ
+  pub reached : Reached start (standing_of session.desk) given read session.pending out
+  pub offset : session.offset ≡ length read
+
+-- it stands on, or has ended
+abbrev pub StandsOrEnds : Standing → List ℕ → List ℕ → Session → Option (List ℕ) → Option Status → Type 0
+StandsOrEnds start given out session left None = Stands start given out session
+StandsOrEnds start given out session left (Some status) = Outcome start given out left status
+
+-- a turn takes bytes from the source and gives bytes to the sink
+pub record Turns (source source' : SourceView) (sink sink' : SinkView) (old new : Session) (result : Option Status) : Type 0 where
+  pub given : List ℕ
+  pub said : List ℕ
+  pub takes : Consumes source.left source'.left given
+  pub counts : RoseBy (length given) source.given source'.given
+  pub says : Appends sink.held sink'.held said
+  pub goes : (start : Standing) (before out : List ℕ) → Stands start before out old → StandsOrEnds start (before ++ given) (out ++ said) new source'.left result
+
+-- what a reading of one more piece leaves, by how it ended
+abbrev pub Leaves : Session → Session → List ℕ → Type 0 → Taken → Type 0
+Leaves old new given at_end More = (new.pending ≡ old.pending ++ given) × (0 < length given) × (new.desk ≡ old.desk) × (new.offset ≡ old.offset)
+Leaves old new given at_end AtEnd = (given ≡ []) × at_end × (new.desk ≡ old.desk) × (new.pending ≡ old.pending) × (new.offset ≡ old.offset)
+Leaves old new given at_end Over = (0 < length given) × (old.offset + length old.pending ≡ limit)
+Leaves old new given at_end Fault = given ≡ []
+Leaves old new given at_end Full = Unit {0}
+
+-- one more piece was taken from the source
+pub record TakesPiece (source source' : SourceView) (old new : Session) (result : Taken) : Type 0 where
+  pub given : List ℕ
+  pub takes : Consumes source.left source'.left given
+  pub counts : RoseBy (length given) source.given source'.given
+  pub leaves : Leaves old new given (IsAtEnd source'.left) result
+
+-- the status of a session that has come to its end
+abbrev pub verdict_of : Bool → Status
+verdict_of true = Found
+verdict_of false = Done
+
+-- a status that the sink is the cause of
+abbrev pub IsOfSink : Status → Type 0
+IsOfSink SinkFault = Unit {0}
+IsOfSink Stuck = Unit {0}
+IsOfSink Done = ⊥
+IsOfSink Found = ⊥
+IsOfSink Usage = ⊥
+IsOfSink SourceFault = ⊥
+IsOfSink NoMemory = ⊥
+IsOfSink Refused = ⊥
+IsOfSink TooLong = ⊥
+IsOfSink NotBuilt = ⊥
+
+-- A reply to the command of the first len pending bytes: it went out whole, and they are passed over; or a part of it did.
+abbrev pub LeavesReply : ℕ → List ℕ → List ℕ → Session → Session → Option Status → Type 0
+LeavesReply len reply said old new None = (said ≡ reply) × (new.desk ≡ old.desk) × (new.pending ≡ drop len old.pending) × (new.offset ≡ old.offset + len)
+LeavesReply len reply said old new (Some status) = IsPrefix said reply × IsOfSink status
+
+pub record Tells (sink sink' : SinkView) (len : ℕ) (reply : List ℕ) (old new : Session) (result : Option Status) : Type 0 where
+  pub said : List ℕ
+  pub says : Appends sink.held sink'.held said
+  pub leaves : LeavesReply len reply said old new result
+
+-- what the line that ends a session with this status leaves: it stands whole, or a beginning of it
+abbrev pub IsLastLine : List ℕ → Status → List ℕ → Status → Type 0
+IsLastLine line wanted said Refused = (wanted ≡ Refused) × (said ≡ line)
+IsLastLine line wanted said NotBuilt = (wanted ≡ NotBuilt) × (said ≡ line)
+IsLastLine line wanted said SinkFault = IsPrefix said line
+IsLastLine line wanted said Stuck = IsPrefix said line
+IsLastLine line wanted said NoMemory = said ≡ []
+IsLastLine line wanted said Done = ⊥
+IsLastLine line wanted said Found = ⊥
+IsLastLine line wanted said Usage = ⊥
+IsLastLine line wanted said SourceFault = ⊥
+IsLastLine line wanted said TooLong = ⊥
+
+pub record SaysLast (sink sink' : SinkView) (text : List ℕ) (wanted result : Status) : Type 0 where
+  pub said : List ℕ
+  pub says : Appends sink.held sink'.held said
+  pub line : IsLastLine text wanted said result
+
+-- the end of the input after the pending bytes
+pub record Ends (sink sink' : SinkView) (session : Session) (result : Status) : Type 0 where
+  pub said : List ℕ
+  pub says : Appends sink.held sink'.held said
+  pub goes : (start : Standing) (given out : List ℕ) (left : Option (List ℕ)) → Stands start given out session → IsAtEnd left → Outcome start given (out ++ said) left result
+
+-- a whole session
+pub record Runs (source source' : SourceView) (sink sink' : SinkView) (status : Status) : Type 0 where
+  pub given : List ℕ
+  pub out : List ℕ
+  pub takes : Consumes source.left source'.left given
+  pub counts : RoseBy (length given) source.given source'.given
+  pub says : Appends sink.held sink'.held out
+  pub outcome : Outcome at_start given out source'.left status
+
+-- a session in its course
+pub record SoFar (source source' : SourceView) (sink sink' : SinkView) (session : Session) : Type 0 where
+  pub given : List ℕ
+  pub out : List ℕ
+  pub takes : Consumes source.left source'.left given
+  pub counts : RoseBy (length given) source.given source'.given
+  pub says : Appends sink.held sink'.held out
+  pub stands : Stands at_start given out session
+
+-- bytes that may still come, twice, and bytes that are not yet answered
+abbrev pub work_left : Session → ℕ
+work_left session = 2 * (limit - (session.offset + length session.pending)) + length session.pending
+
+-- a status that comes with a line of its own
+abbrev pub IsLast : Status → Type 0
+IsLast Refused = Unit {0}
+IsLast NotBuilt = Unit {0}
+IsLast Done = ⊥
+IsLast Found = ⊥
+IsLast Usage = ⊥
+IsLast SourceFault = ⊥
+IsLast SinkFault = ⊥
+IsLast NoMemory = ⊥
+IsLast TooLong = ⊥
+IsLast Stuck = ⊥

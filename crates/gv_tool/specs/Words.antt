@@ -1,0 +1,41 @@
+-- The words of a script: how each is spelled, and what follows it.
+use Rattle.std.specs.Prelude.{ℕ, List, [], ◌∷◌, ◌++◌, codes, Bool, false, ◌==◌, ◌||◌, not}
+use Rattle.std.specs.List.{list_all}
+use Rattle.gv_tool.specs.declared.word.Word.{Word}
+use Rattle.gv_tool.specs.declared.word.Word.TheVariants.{Put, Del, Check, End}
+use Rattle.gv_tool.specs.declared.word.Shape.{Shape}
+use Rattle.gv_tool.specs.declared.word.Shape.TheVariants.{Bare, Path, File}
+
+-- the bytes of a word, and the byte behind it
+abbrev pub text_of : Word → List ℕ
+text_of Put = codes "put "
+text_of Del = codes "del "
+text_of Check = codes "check" ++ 10 ∷ []
+text_of End = codes "end" ++ 10 ∷ []
+
+-- what follows a word
+abbrev pub shape_of : Word → Shape
+shape_of Put = File
+shape_of Del = Path
+shape_of Check = Bare
+shape_of End = Bare
+
+abbrev pub number_of : Word → ℕ
+number_of Put = 0
+number_of Del = 1
+number_of Check = 2
+number_of End = 3
+
+-- the words in the order of their numbers
+abbrev pub words : List Word
+words = Put ∷ Del ∷ Check ∷ End ∷ []
+
+-- two texts differ before one of them ends
+abbrev pub differ : List ℕ → List ℕ → Bool
+differ [] ys = false
+differ (x ∷ xs) [] = false
+differ (x ∷ xs) (y ∷ ys) = not (x == y) || differ xs ys
+
+-- no word's text begins another's
+abbrev pub are_apart : List Word → Bool
+are_apart ws = list_all (λ w. list_all (λ v. number_of w == number_of v || differ (text_of w) (text_of v)) ws) ws

@@ -1,0 +1,42 @@
+//! Taking the next piece of a script.
+ghost use Rattle.std.specs.Prelude.{◌≡◌};
+ghost use Rattle.gv_tool.specs.Outcome.{OnlyWhereRose};
+ghost use Rattle.gv_tool.specs.Turn.{TakesPiece};
+
+use crate::session::Session;
+use gv_base::Source;
+
+/// How the taking of a piece ended.
+#[derive(Clone, Copy, Debug, PartialEq, Eq, Drop)]
+pub enum Taken {
+    More,
+    AtEnd,
+    /// The limit stood before the piece.
+    Over,
+    Fault,
+    /// No memory.
+    Full,
+}
+
+/// The most bytes that are taken at once.
+const PIECE: usize = 4096;
+
+/// Takes a piece from the source, and no byte past the limit but one.
+pub(crate) fn take_piece<I: Source>(session: &mut Session, input: &mut I) -> Taken
+    ensures takes { TakesPiece (I.view input.old) (I.view input.new) session.old session.new result }
+    ensures fault { OnlyWhereRose (I.view input.old).faults (I.view input.new).faults (result ≡ Taken.Fault) }
+{
+    let held = session.pending.count();
+    let room = Session::LIMIT - session.offset - held;
+    let mut piece = [0; PIECE];
+    let most = room.min(PIECE).max(1);
+    match input.read(&mut piece[..most]) {
+        Err(_) => Taken::Fault,
+        Ok(0) => Taken::AtEnd,
+        Ok(_) if room == 0 => Taken::Over,
+        Ok(count) => match session.pending.add(&piece[..count]) {
+            Ok(()) => Taken::More,
+            Err(_) => Taken::Full,
+        },
+    }
+}

@@ -1,0 +1,241 @@
+//! Whole sessions over devices in memory. What no clause says is looked at here: that a call with
+//! ample memory answers, and the printed lines.
+use crate::adapters::{StdSink, StdSource};
+use crate::call::{gvet, session};
+use crate::options::ToolOptions;
+use gv_base::{MemSink, MemSource, SureKeeper, SureTree};
+use std::alloc::Global;
+use std::test::Fail;
+use std::thread::Threads;
+
+/// Commands, and the reply to each.
+#[rattlefmt::skip]
+const COMMANDS: [(&[u8], &[u8]); 8] = [
+    (b"check\n", b"packages 0, errors 0\n"),
+    (b"put a/b.go 23\npackage a\n\nconst A = A\n\n", b""),
+    (b"check\n", b"a/b.go:3:7: E4 declaration cycle\npackages 1, errors 1\n"),
+    (b"put a/b.go 10\npackage a\n\n", b""),
+    (b"put a.b-c_d/+~@/...go 1\n\n\n", b""),
+    (b"check\n", b"packages 1, errors 0\n"),
+    (b"del a/b.go\n", b""),
+    (b"check\n", b"packages 0, errors 0\n"),
+];
+
+/// Scripts, and the output and the status of each.
+#[rattlefmt::skip]
+const SCRIPTS: [(&[u8], &[u8], u8); 22] = [
+    (b"", b"", 0),
+    (b"end\nrubbish", b"", 0),
+    (b"check\nput a.go 100\npackage a\n", b"packages 0, errors 0\nscript refused at 6\n", 8),
+    (b"check\nput a 01\n", b"packages 0, errors 0\nscript refused at 6\n", 8),
+    (b"check\nchec", b"packages 0, errors 0\nscript refused at 6\n", 8),
+    (b"put a 1234567890\n", b"script refused at 0\n", 8),
+    (b"put a 1\nxycheck\n", b"script refused at 0\n", 8),
+    (b"put  a 1\nx\n", b"script refused at 0\n", 8),
+    (b"del a/../b\n", b"script refused at 0\n", 8),
+    (b"del .\n", b"script refused at 0\n", 8),
+    (b"del ..\n", b"script refused at 0\n", 8),
+    (b"del ...\n", b"", 0),
+    (b"del a//b\n", b"script refused at 0\n", 8),
+    (b"del /a\n", b"script refused at 0\n", 8),
+    (b"del a/\n", b"script refused at 0\n", 8),
+    (b"del \n", b"script refused at 0\n", 8),
+    (b"del a b\n", b"script refused at 0\n", 8),
+    (b"del a:b\n", b"script refused at 0\n", 8),
+    (b"Check\n", b"script refused at 0\n", 8),
+    (b"check\r\n", b"script refused at 0\n", 8),
+    (b"put a/a.go 1\n\n\nput x/a.go 1\n\n\ncheck\n", b"not built at 30\n", 11),
+    (b"put x/a.go 1\n\n\ndel x/a.go\ncheck\nput x.go 0\n\ncheck\nend\n", b"packages 0, errors 0\nnot built at 44\n", 11),
+];
+
+/// Trees, and the reply to a check of each: rules at their places, and what is not built.
+#[rattlefmt::skip]
+const TREES: [(&[u8], &[u8], u8); 14] = [
+    (b"put a/a.go 39\npackage a\n\nconst A = B + 1\nconst B = A\n\ncheck\n", b"a/a.go:3:7: E4 declaration cycle\na/a.go:4:7: E4 declaration cycle\npackages 1, errors 2\n", 1),
+    (b"put a/a.go 35\npackage a\n\nconst A = Z\nconst A = 1\n\ncheck\n", b"a/a.go:3:11: E3 undefined\na/a.go:4:7: E1 redeclared\npackages 1, errors 2\n", 1),
+    (b"put a/a.go 77\npackage a\n\nconst A = 170141183460469231731687303715884105727\nconst B = A + 1\n\ncheck\n", b"a/a.go:4:11: outside profile: wide\npackages 1, errors 1\n", 1),
+    (b"put a/a.go 21\npackage a\n\nvar x int\n\ncheck\n", b"not built at 36\n", 11),
+    (b"put a/a.go 39\npackage a\n\nconst A = B\nconst B = B + 1\n\ncheck\n", b"a/a.go:4:7: E4 declaration cycle\npackages 1, errors 1\n", 1),
+    (b"put a/b.go 23\npackage a\n\nconst A = 1\n\nput a/a.go 35\npackage a\n\nconst A = 2\nconst B = C\n\nput a/c.go 23\npackage a\n\nconst C = B\n\ncheck\n", b"a/a.go:4:7: E4 declaration cycle\na/b.go:3:7: E1 redeclared\na/c.go:3:7: E4 declaration cycle\npackages 1, errors 3\n", 1),
+    (b"put a/a.go 45\npackage a\n\nconst A = 1 +\n\t2 + A0\nconst A0 = 3\nput a/a_test.go 1\nx\nput a/_a.go 1\nx\nput a/notes 1\nx\nput testdata/a.go 1\nx\ncheck\n", b"packages 1, errors 0\n", 0),
+    (b"put a/a.go 11\npackage a\n\n\nput a/b.go 10\npackage b\n\ncheck\n", b"not built at 51\n", 11),
+    (b"put a/a.go 11\npackage a\n\n\nput b/a.go 11\npackage a\n\n\ncheck\n", b"not built at 52\n", 11),
+    (b"put go.mod 9\nmodule m\n\ncheck\n", b"not built at 23\n", 11),
+    (b"put std/a 1\nx\ncheck\n", b"not built at 14\n", 11),
+    (b"put a/a.go 25\npackage a\n\nconst int = 1\n\ncheck\n", b"not built at 40\n", 11),
+    (b"put a/a.go 24\npackage a\n\nconst A = 01\n\ncheck\n", b"not built at 39\n", 11),
+    (b"put a/a.go 39\npackage a\n\nconst A = B + 1\nconst B = A\n\ncheck\ndel a/a.go\ncheck\n", b"a/a.go:3:7: E4 declaration cycle\na/a.go:4:7: E4 declaration cycle\npackages 1, errors 2\npackages 0, errors 0\n", 0),
+];
+
+fn answer<R: Threads + Sync>(
+    rt: &R,
+    alloc: Global,
+    script: &[u8],
+    failing_reads: &[u64],
+    failing_writes: &[u64],
+    stalling: &[u64],
+) -> Result<(u8, Vec<u8>), Fail> {
+    let mut keeper = SureKeeper::new(alloc, None);
+    let mut input = MemSource::new(script.to_vec(alloc)?, failing_reads.to_vec(alloc)?);
+    let mut output = MemSink::new(
+        Vec::new(alloc),
+        failing_writes.to_vec(alloc)?,
+        stalling.to_vec(alloc)?,
+    );
+    let options = ToolOptions::PLAIN;
+    let status = session(rt, alloc, &options, &mut keeper, &mut input, &mut output);
+    Ok((status, output.bytes().to_vec(alloc)?))
+}
+
+#[test]
+fn answers_scripts(rt: HostRuntime) -> Result<(), Fail> {
+    for (script, due, number) in SCRIPTS {
+        let (status, out) = answer(&rt, rt.alloc(), script, &[], &[], &[])?;
+        assert_eq!(rt; out.as_slice(), due);
+        assert_eq!(rt; status, number);
+    }
+    for (script, due, number) in TREES {
+        let (status, out) = answer(&rt, rt.alloc(), script, &[], &[], &[])?;
+        assert_eq!(rt; out.as_slice(), due);
+        assert_eq!(rt; status, number);
+    }
+    Ok(())
+}
+
+/// What is due for the first `cut` bytes of the commands: the replies of those that are whole, and
+/// the line for the one that isn't.
+fn due_at(alloc: Global, cut: usize) -> Result<(u8, Vec<u8>), Fail> {
+    let mut due = Vec::new(alloc);
+    let mut at = 0usize;
+    let mut found = 0;
+    for (command, reply) in COMMANDS {
+        let end = at.saturating_add(command.len());
+        if cut < end {
+            if at < cut {
+                let line = format!(in alloc; "script refused at {at}\n")?;
+                due.extend_from_slice(line.as_bytes())?;
+                found = 8;
+            }
+            return Ok((found, due));
+        }
+        due.extend_from_slice(reply)?;
+        if !reply.is_empty() {
+            found = if reply.starts_with(b"packages") { 0 } else { 1 };
+        }
+        at = end;
+    }
+    Ok((found, due))
+}
+
+fn whole_script(alloc: Global) -> Result<Vec<u8>, Fail> {
+    let mut script = Vec::new(alloc);
+    for (command, _reply) in COMMANDS {
+        script.extend_from_slice(command)?;
+    }
+    Ok(script)
+}
+
+#[test]
+fn refuses_what_is_cut_short(rt: HostRuntime) -> Result<(), Fail> {
+    let script = whole_script(rt.alloc())?;
+    for cut in 0..=script.len() {
+        let (number, due) = due_at(rt.alloc(), cut)?;
+        let (status, out) = answer(&rt, rt.alloc(), &script[..cut], &[], &[], &[])?;
+        assert_eq!(rt; out.as_slice(), due.as_slice());
+        assert_eq!(rt; status, number);
+    }
+    Ok(())
+}
+
+#[test]
+fn ends_where_a_device_fails(rt: HostRuntime) -> Result<(), Fail> {
+    let script = b"check\nput a.go 10\npackage a\n\ncheck\ndel a.go\ncheck\n";
+    let dues = [
+        (0, b"".as_slice()),
+        (1, b"packages 0, errors 0\n".as_slice()),
+        (
+            2,
+            b"packages 0, errors 0\npackages 1, errors 0\n".as_slice(),
+        ),
+    ];
+    let all = b"packages 0, errors 0\npackages 1, errors 0\npackages 0, errors 0\n".as_slice();
+    for (call, due) in dues {
+        let (status, out) = answer(&rt, rt.alloc(), script, &[], &[call], &[])?;
+        assert_eq!(rt; out.as_slice(), due);
+        assert_eq!(rt; status, 6);
+        let (status, out) = answer(&rt, rt.alloc(), script, &[], &[], &[call])?;
+        assert_eq!(rt; out.as_slice(), due);
+        assert_eq!(rt; status, 10);
+    }
+    let (status, out) = answer(&rt, rt.alloc(), script, &[2], &[3], &[3])?;
+    assert_eq!(rt; out.as_slice(), all);
+    assert_eq!(rt; status, 0);
+    let (status, out) = answer(&rt, rt.alloc(), script, &[0], &[], &[])?;
+    assert_eq!(rt; out.as_slice(), b"".as_slice());
+    assert_eq!(rt; status, 3);
+    let (status, out) = answer(&rt, rt.alloc(), script, &[1], &[], &[])?;
+    assert_eq!(rt; out.as_slice(), all);
+    assert_eq!(rt; status, 3);
+    Ok(())
+}
+
+fn status_of<R: Threads + Sync>(
+    rt: &R,
+    alloc: Global,
+    words: &[&str],
+) -> Result<(u8, usize), Fail> {
+    let mut list = Vec::new(alloc);
+    for word in words {
+        list.push(String::from_str(alloc, *word)?)?;
+    }
+    let mut tree = SureTree::new(alloc);
+    let mut keeper = SureKeeper::new(alloc, None);
+    let mut input = MemSource::new(b"check\n".to_vec(alloc)?, Vec::new(alloc));
+    let mut output = MemSink::new(Vec::new(alloc), Vec::new(alloc), Vec::new(alloc));
+    let status = gvet(
+        rt,
+        alloc,
+        &list,
+        &mut tree,
+        &mut keeper,
+        &mut input,
+        &mut output,
+    );
+    Ok((status, output.bytes().len()))
+}
+
+#[test]
+fn reads_its_words(rt: HostRuntime) -> Result<(), Fail> {
+    assert_eq!(rt; status_of(&rt, rt.alloc(), &["session"])?, (0, 21));
+    assert_eq!(rt; status_of(&rt, rt.alloc(), &[])?, (2, 0));
+    assert_eq!(rt; status_of(&rt, rt.alloc(), &["check"])?, (2, 0));
+    assert_eq!(rt;
+        status_of(&rt, rt.alloc(), &["session", "session"])?,
+        (2, 0)
+    );
+    assert_eq!(rt; status_of(&rt, rt.alloc(), &["session "])?, (2, 0));
+    Ok(())
+}
+
+#[test]
+fn reads_and_writes_by_std(rt: HostRuntime) -> Result<(), Fail> {
+    let mut written = Vec::new(rt.alloc());
+    let mut keeper = SureKeeper::new(rt.alloc(), None);
+    let mut input = StdSource::new(b"check\ncheck\n".as_slice());
+    let mut output = StdSink::new(&mut written);
+    let options = ToolOptions::PLAIN;
+    let status = session(
+        &rt,
+        rt.alloc(),
+        &options,
+        &mut keeper,
+        &mut input,
+        &mut output,
+    );
+    assert_eq!(rt; status, 0);
+    assert_eq!(rt;
+        written.as_slice(),
+        b"packages 0, errors 0\npackages 0, errors 0\n".as_slice()
+    );
+    Ok(())
+}
