@@ -1,6 +1,13 @@
 use super::*;
-use gv_base::Place;
+use gv_base::{Bytes, NoMemory, Place, Row, Text};
+use std::alloc::Global;
 use std::test::Fail;
+
+fn named(alloc: Global, path: &str, bytes: &[u8]) -> Result<(Text, Bytes), NoMemory> {
+    let path = Text::new(String::from_str(alloc, path)?);
+    let bytes = Bytes::new(bytes.to_vec(alloc)?);
+    Ok((path, bytes))
+}
 
 #[test]
 fn two_marks(rt: HostRuntime) -> Result<(), Fail> {
@@ -44,6 +51,26 @@ fn malformed(rt: HostRuntime) -> Result<(), Fail> {
     ];
     for bytes in texts {
         assert!(rt; read_marks(rt.alloc(), bytes)?.is_none());
+    }
+    Ok(())
+}
+
+#[test]
+fn texts_of_a_load(rt: HostRuntime) -> Result<(), Fail> {
+    let alloc = rt.alloc();
+    let mut files = Vec::new(alloc);
+    files.push(named(alloc, "p.go", b"package p")?)?;
+    let mut env = Vec::new(alloc);
+    env.push(named(alloc, "m/q", b"3;")?)?;
+    let path = Text::new(String::from_str(alloc, "m/p")?);
+    let files = Row::new(files);
+    let env = Row::new(env);
+    let input = LoadInput { path, files, env };
+    let texts = texts_of_load(alloc, &input)?;
+    let expected: [&[u8]; 6] = [b"m/p", b"p.go", b"package p", b"", b"m/q", b"3;"];
+    assert_eq!(rt; texts.as_slice().len(), expected.len());
+    for (text, bytes) in texts.iter().zip(expected.iter()) {
+        assert_eq!(rt; text.as_slice(), *bytes);
     }
     Ok(())
 }

@@ -1,0 +1,51 @@
+//! What types packages.
+ghost use Rattle.std.specs.Prelude.{◌≡◌, ◌+◌, ◌<◌, ◌^◌, ℕ, OnOk, OnErr};
+
+use gv_base::{Bytes, NoMemory, Row, Text};
+
+/// All that the load of a package reads.
+#[derive(Drop)]
+pub struct LoadInput {
+    /// The package's path.
+    pub path: Text,
+    /// The path and the bytes of each of its files, by path.
+    pub files: Row<(Text, Bytes)>,
+    /// The path and the export text of each package of its environment, by path.
+    pub env: Row<(Text, Bytes)>,
+}
+
+/// What comes of a load.
+#[derive(Drop)]
+pub enum Load<L> {
+    /// The package broke no rule.
+    Accepted {
+        /// The package as it was loaded.
+        loaded: L,
+        /// Its export text.
+        export: Bytes,
+    },
+    /// A rule was broken, or a limit passed.
+    Refused {
+        /// The text of the marks.
+        marks: Bytes,
+    },
+}
+
+/// What loads packages, and counts its loads.
+pub trait Kit {
+    /// A package as it is loaded.
+    type Loaded: Drop;
+
+    /// How many loads it has done.
+    ghost loads: { Self → ℕ };
+
+    /// How many runs of analyzers it has done.
+    ghost runs: { Self → ℕ };
+
+    /// Loads a package.
+    fn load(&mut self, input: &LoadInput) -> Result<Load<Self::Loaded>, NoMemory>
+        requires { loads self.old < 2 ^ 63 }
+        ensures counted { OnOk result (loads self.new ≡ loads self.old + 1) }
+        ensures refused { OnErr result (loads self.new ≡ loads self.old) }
+        ensures runs { runs self.new ≡ runs self.old };
+}

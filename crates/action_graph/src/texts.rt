@@ -1,0 +1,43 @@
+//! The texts beside which an outcome is kept.
+ghost use Rattle.std.specs.Prelude.{◌≡◌, ◌++◌, ◌∷◌, [], IfOk, OnOk};
+ghost use Rattle.action_graph.specs.Nodes.{pairs, load_texts};
+
+use crate::kit::LoadInput;
+use gv_base::{Bytes, NoMemory, Text};
+use std::alloc::Global;
+
+fn push_text(alloc: Global, texts: &mut Vec<Bytes>, text: &[u8]) -> Result<(), NoMemory>
+    ensures { OnOk result (texts.new.items ≡ texts.old.items ++ text.now ∷ []) }
+{
+    texts.push(Bytes::new(text.to_vec(alloc)?))?;
+    Ok(())
+}
+
+fn push_pair(alloc: Global, texts: &mut Vec<Bytes>, pair: &(Text, Bytes)) -> Result<(), NoMemory>
+    ensures { OnOk result (texts.new.items ≡ (texts.old.items ++ pair.now.0 ∷ []) ++ pair.now.1 ∷ []) }
+{
+    push_text(alloc, texts, pair.0.as_str().as_bytes())?;
+    push_text(alloc, texts, pair.1.as_slice())?;
+    Ok(())
+}
+
+fn push_pairs(alloc: Global, texts: &mut Vec<Bytes>, list: &[(Text, Bytes)]) -> Result<(), NoMemory>
+    ensures { OnOk result (texts.new.items ≡ texts.old.items ++ pairs list.now) }
+{
+    for pair in list {
+        push_pair(alloc, texts, pair)?;
+    }
+    Ok(())
+}
+
+/// The texts of a load's input, all that it reads.
+pub fn texts_of_load(alloc: Global, input: &LoadInput) -> Result<Vec<Bytes>, NoMemory>
+    ensures { IfOk result (λ v. v.items ≡ load_texts input.now) }
+{
+    let mut texts = Vec::new(alloc);
+    push_text(alloc, &mut texts, input.path.as_str().as_bytes())?;
+    push_pairs(alloc, &mut texts, input.files.as_slice())?;
+    push_text(alloc, &mut texts, b"")?;
+    push_pairs(alloc, &mut texts, input.env.as_slice())?;
+    Ok(texts)
+}
