@@ -1,14 +1,13 @@
-use Rattle.std.proofs.Common.{◌≡◌, ℕ, suc, ◌+◌, ◌-◌, ◌<◌, ◌≤◌, List, [], ◌∷◌, ◌++◌, length, refl, arith, subst, sym, ap, ◌∙◌}
+use Rattle.std.proofs.Common.{◌≡◌, ℕ, ◌-◌, ◌<◌, List, [], ◌∷◌, ◌++◌, length, arith, subst, sym, ap, ◌∙◌}
 use Rattle.std.specs.Prelude.{reverse}
 use Rattle.std.proofs.lemmas.List.{reverse-append}
 use Rattle.go_parse.specs.declared.parser.Task.{Task}
 use Rattle.go_parse.specs.declared.parser.Task.TheVariants.{Want, Close, After}
-use Rattle.go_tree.specs.Forest.{Forest, count}
+use Rattle.go_tree.specs.Forest.{Forest}
 use Rattle.go_tree.specs.Classes.{next}
 use Rattle.go_tree.specs.declared.tree.Node.{Node}
-use Rattle.go_tree.specs.Arena.{roots}
 use Rattle.go_tree.specs.declared.tree.NodeKind.{NodeKind}
-use Rattle.go_parse.specs.State.{State, Outcome, Goes, Takes, Refuses, turned, Completes, Based, Holds, Led, Leads, Fails, Passed, Passes}
+use Rattle.go_parse.specs.State.{State, Outcome, Goes, Takes, Refuses, turned, Completes, Holds, Leads}
 use Rattle.go_parse.specs.Machine.{FitsItem}
 use Rattle.go_parse.proofs.Arenas.{length_roots, length_heights, length_kinds}
 use Rattle.go_parse.proofs.Steps.{turns, Shorter, turn_shorter}

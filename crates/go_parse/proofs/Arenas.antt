@@ -1,9 +1,7 @@
-use Rattle.std.proofs.Common.{◌≡◌, ℕ, zero, suc, ◌+◌, ◌≤◌, List, [], ◌∷◌, ◌++◌, length, take, drop, refl, ap, arith, append_assoc, length-append, sym, ◌∙◌, add-suc, max}
-use Rattle.std.proofs.lemmas.List.{append-nil}
+use Rattle.std.proofs.Common.{◌≡◌, ℕ, zero, suc, ◌+◌, ◌≤◌, List, [], ◌∷◌, ◌++◌, length, take, drop, refl, ap, arith, append_assoc, length-append, sym, ◌∙◌, max}
 use Rattle.go_tree.specs.declared.tree.NodeKind.{NodeKind}
 use Rattle.go_tree.specs.Forest.{Forest, Empty, Grow, ◌⊕◌, count, front, back}
 use Rattle.go_tree.specs.Arena.{node_of, size, roots, flat, depth, highest, heights, kinds}
-use Rattle.go_tree.specs.declared.tree.Node.{Node}
 use Rattle.go_parse.proofs.Forests.{front_back, count_front}
 
 pub length_roots : (m : ℕ) (f : Forest) → length (roots m f) ≡ count f
@@ -77,7 +75,7 @@ close_roots b g k a l h =
     ∙ ap (λ v. roots 0 (front b g) ++ v ∷ []) e
     ∙ ap (λ v. v ++ length (flat 0 g) ∷ []) (sym (low_roots b g h))
 
-heights_beside : (f g : Forest) → heights (f ⊕ g) ≡ heights f ++ heights g
+pub heights_beside : (f g : Forest) → heights (f ⊕ g) ≡ heights f ++ heights g
 heights_beside Empty g = refl
 heights_beside (Grow k a b ps f) g = ap (λ v. suc (depth ps) ∷ v) (heights_beside f g)
 

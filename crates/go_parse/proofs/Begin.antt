@@ -1,12 +1,10 @@
 -- What a spelling begins with.
-use Rattle.std.proofs.Common.{drop, ◌≡◌, ℕ, suc, ◌<◌, ◌≤◌, Bool, true, false, List, [], ◌∷◌, cond, ◌&&◌, ◌||◌, ◌⊎◌, inl, inr, refl, arith, ap, ◌∙◌, ◌++◌}
+use Rattle.std.proofs.Common.{drop, ◌≡◌, ℕ, ◌<◌, ◌≤◌, Bool, true, false, List, [], ◌∷◌, cond, ◌&&◌, ◌||◌, ◌⊎◌, inl, inr, refl, arith, ap, ◌∙◌, ◌++◌}
 use Rattle.std.specs.Prelude.{nat_lt, nat_le, ◌==◌}
 use Rattle.go_tree.specs.declared.grammar.Setting.{Setting}
-use Rattle.go_tree.specs.declared.tree.NodeKind.{NodeKind}
 use Rattle.go_tree.specs.declared.grammar.Ending.{Ending}
 use Rattle.go_tree.specs.declared.grammar.Category.{Category}
 use Rattle.go_tree.specs.declared.grammar.Symbol.{Symbol}
-use Rattle.go_tree.specs.declared.grammar.Symbol.TheVariants.{Token, Part, Inline, Operand}
 use Rattle.go_tree.specs.Forest.{Forest}
 use Rattle.go_tree.specs.Classes.{told, level_of, next, ahead}
 use Rattle.go_tree.specs.First.{first, nullable, first_operand}
@@ -15,8 +13,7 @@ use Rattle.go_tree.specs.Inlines.{inlines}
 use Rattle.go_tree.specs.Nodes.{nodes}
 use Rattle.go_tree.specs.Operands.{prefixes, suffixes}
 use Rattle.go_tree.specs.Rule.{Rule}
-use Rattle.go_tree.specs.Terminals.{admits}
-use Rattle.go_tree.specs.Choice.{first_symbol, may_be_empty, begins, nothing, empty, rest, whole, fits_inline, fits_node}
+use Rattle.go_tree.specs.Choice.{first_symbol, may_be_empty, begins, nothing, empty, rest, whole, fits_inline}
 use Rattle.go_tree.specs.Spells.{Among, Spells, Closes, done, token, inline, node, prefix, suffix, is, bare, tail}
 use Rattle.go_parse.proofs.Check.{lone_nodes, low_suffix, implies, below, all, fine_rule, fine_prefix, fine_suffix, follows, lone, both, implied, at, all_at}
 use Rattle.go_parse.proofs.Checked.{inlines_are_fine, nodes_are_fine, prefixes_are_fine, suffixes_are_fine}

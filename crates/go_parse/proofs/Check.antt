@@ -1,4 +1,4 @@
-use Rattle.std.proofs.Common.{◌≡◌, ℕ, zero, suc, ◌<◌, Bool, true, false, List, [], ◌∷◌, cond, ◌&&◌, ◌⊎◌, inl, inr, Option, Some, None, refl, arith, subst, sym, ap, ◌∙◌}
+use Rattle.std.proofs.Common.{◌≡◌, ℕ, zero, suc, ◌<◌, Bool, true, false, List, [], ◌∷◌, cond, ◌&&◌, ◌⊎◌, inl, inr, Some, refl, arith, ap}
 use Rattle.go_tree.specs.declared.grammar.Setting.{Setting}
 use Rattle.go_tree.specs.declared.grammar.Category.{Category}
 use Rattle.go_tree.specs.declared.grammar.Symbol.{Symbol}
@@ -11,7 +11,7 @@ use Rattle.go_tree.specs.Operands.{prefixes, suffixes}
 use Rattle.go_tree.specs.Rule.{Rule}
 use Rattle.go_tree.specs.declared.grammar.Shape.{Shape}
 use Rattle.go_tree.specs.declared.grammar.Shape.TheVariants as s
-use Rattle.go_tree.specs.Choice.{first_symbol, may_be_empty, follow_symbol, begins, nothing, pick, empty, whole, fits_inline, fits_node}
+use Rattle.go_tree.specs.Choice.{follow_symbol, begins, nothing, pick, empty, whole, fits_inline, fits_node}
 use Rattle.go_tree.specs.Spells.{Among}
 use Rattle.std.specs.Prelude.{nat_le, ◌≤◌}
 use Rattle.std.proofs.Math.Nat.{le-suc_iff}

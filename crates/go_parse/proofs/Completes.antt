@@ -1,9 +1,8 @@
 -- What a state of the parser may still become: the stack of what is wanted, the trees that are done, the tokens that are left.
-use Rattle.std.proofs.Common.{◌≡◌, ℕ, suc, zero, ◌+◌, ◌-◌, ◌<◌, ◌≤◌, Bool, true, false, List, [], ◌∷◌, ◌++◌, length, cond, ◌&&◌, ◌||◌, ◌⊎◌, inl, inr, refl, arith, subst, sym, ap, ◌∙◌, Option, Some, None}
-use Rattle.std.specs.Prelude.{nat_lt, nat_le, ◌==◌}
+use Rattle.std.proofs.Common.{◌≡◌, ℕ, suc, zero, ◌-◌, ◌<◌, ◌≤◌, Bool, true, List, [], ◌∷◌, ◌++◌, length, ◌&&◌, ◌||◌, ◌⊎◌, inl, inr, refl, arith, subst, sym, ap, ◌∙◌, Some}
+use Rattle.std.specs.Prelude.{nat_lt, nat_le}
 use Rattle.std.proofs.Math.Nat.{le_refl}
 use Rattle.go_tree.specs.declared.grammar.Setting.{Setting}
-use Rattle.go_tree.specs.declared.tree.NodeKind.{NodeKind}
 use Rattle.go_tree.specs.declared.grammar.Ending.{Ending}
 use Rattle.go_tree.specs.declared.grammar.Ending.TheVariants.{Is, Bare, Tail}
 use Rattle.go_tree.specs.declared.grammar.Category.{Category}
@@ -12,9 +11,8 @@ use Rattle.go_tree.specs.declared.grammar.Symbol.{Symbol}
 use Rattle.go_tree.specs.declared.grammar.Symbol.TheVariants.{Token, Part, Inline, Operand}
 use Rattle.go_parse.specs.declared.parser.Task.{Task}
 use Rattle.go_parse.specs.declared.parser.Task.TheVariants.{Want, Close, After}
-use Rattle.go_tree.specs.Forest.{Forest, Empty, Grow, ◌⊕◌, count, front, back}
+use Rattle.go_tree.specs.Forest.{Forest, Empty, ◌⊕◌, count, front, back}
 use Rattle.go_tree.specs.Classes.{level_of, next}
-use Rattle.go_tree.specs.First.{first, nullable, first_operand}
 use Rattle.go_tree.specs.Follow.{follow}
 use Rattle.go_tree.specs.Inlines.{inlines}
 use Rattle.go_tree.specs.Nodes.{nodes}
@@ -24,14 +22,14 @@ use Rattle.go_tree.specs.Terminals.{admits}
 use Rattle.go_tree.specs.declared.grammar.Shape.{Shape}
 use Rattle.go_tree.specs.Shape.{shape}
 use Rattle.go_tree.specs.Arena.{kinds}
-use Rattle.go_tree.specs.Choice.{stands, first_symbol, follow_symbol, may_be_empty, begins, nothing, pick, pick_inline, pick_node, pick_prefix, pick_suffix, empty, rest, whole, permits, fits_inline, fits_node}
-use Rattle.go_tree.specs.Spells.{Among, Spells, Closes, done, token, inline, node, prefix, suffix, is, bare, tail}
+use Rattle.go_tree.specs.Choice.{stands, first_symbol, follow_symbol, may_be_empty, begins, nothing, pick_inline, pick_node, pick_prefix, pick_suffix, empty, rest, whole, permits, fits_inline, fits_node}
+use Rattle.go_tree.specs.Spells.{Among, Spells, Closes, done, token, inline, node, prefix, suffix, bare, tail}
 use Rattle.go_parse.proofs.Check.{lone_nodes, shapes, among_shapes, all_at, low_suffix, implies, implied, below, all, follows, lone, picked, pick_is, both, at, fine_rule, fine_prefix, fine_suffix}
 use Rattle.go_parse.proofs.Checked.{inlines_are_fine, nodes_are_fine, prefixes_are_fine, suffixes_are_fine}
-use Rattle.go_parse.proofs.Forests.{beside_none, beside_assoc, front_all, back_all, front_back, front_more, back_more, front_again, back_again, front_count, back_count}
-use Rattle.go_parse.proofs.Begin.{suffix_low, next_below, or_first, or_second, either, begins_split, begins_append, inline_fine, node_fine, rule_follows, prefix_follows, suffix_follows, prefix_full, suffix_full, suffix_level, starts, ends}
+use Rattle.go_parse.proofs.Forests.{beside_none, beside_assoc, front_back, front_more, back_more, front_again, back_again, front_count, back_count}
+use Rattle.go_parse.proofs.Begin.{suffix_low, next_below, or_first, or_second, either, begins_split, begins_append, prefix_full, suffix_full, suffix_level, starts, ends}
 use Rattle.go_parse.specs.State.{Grows, stop, goes_on, wants, Completes, opens, Tidy, Orderly}
-use Rattle.go_parse.proofs.Left.{Head, to_head, from_head}
+use Rattle.go_parse.proofs.Left.{to_head, from_head}
 
 cons : {n : ℕ} {s : Symbol} {ss : List Symbol} {f g : Forest} {xs ys zs : List ℕ}
     → Spells n (s ∷ []) f xs ys → Spells n ss g ys zs → Spells n (s ∷ ss) (f ⊕ g) xs zs

@@ -1,17 +1,15 @@
 -- Left recursion: an operand is a prefix and then suffixes, each of a level that its left side allows.
-use Rattle.std.proofs.Common.{Bool, ◌≡◌, ℕ, ◌≤◌, ◌-◌, List, [], ◌∷◌, length, refl, arith, subst, sym}
+use Rattle.std.proofs.Common.{◌≡◌, ℕ, ◌≤◌, ◌-◌, List, [], ◌∷◌, length, refl, arith, subst, sym}
 use Rattle.std.proofs.Math.Nat.{le_refl}
 use Rattle.go_tree.specs.declared.grammar.Setting.{Setting}
-use Rattle.go_tree.specs.declared.tree.NodeKind.{NodeKind}
-use Rattle.go_tree.specs.declared.grammar.Symbol.{Symbol}
-use Rattle.go_tree.specs.declared.grammar.Symbol.TheVariants.{Token, Part, Inline, Operand}
-use Rattle.go_tree.specs.Forest.{Forest, Empty, Grow, ◌⊕◌}
+use Rattle.go_tree.specs.declared.grammar.Symbol.TheVariants.{Operand}
+use Rattle.go_tree.specs.Forest.{Forest, ◌⊕◌}
 use Rattle.go_tree.specs.Operands.{prefixes, suffixes}
 use Rattle.go_tree.specs.Rule.{Rule}
 use Rattle.go_parse.specs.State.{Grows, stop, goes_on}
 use Rattle.go_parse.proofs.Forests.{beside_none}
 use Rattle.go_parse.proofs.Begin.{suffix_low}
-use Rattle.go_tree.specs.Spells.{Among, Spells, Closes, done, token, inline, node, prefix, suffix}
+use Rattle.go_tree.specs.Spells.{Among, Spells, Closes, done, prefix, suffix}
 
 pub weaken : {n p m : ℕ} {v : Setting} {f : Forest} {xs ys : List ℕ} → p ≤ m → Spells n (Operand m v ∷ []) f xs ys → Spells n (Operand p v ∷ []) f xs ys
 weaken h (prefix r a l s e t) = prefix r a (omega arith) s e t

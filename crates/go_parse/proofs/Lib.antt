@@ -12,8 +12,9 @@ pub mod Steps
 pub mod Advance
 pub mod Parse
 pub mod Unique
-pub mod Texts
 pub mod ThinLaws
 pub mod ThinTokens
 pub mod ThinTrees
 pub mod ThinShapes
+pub mod PieceLaws
+pub mod ChunkLaws

@@ -1,13 +1,13 @@
 -- The states of the machine, over the classes of tokens.
-use Rattle.std.proofs.Common.{◌≡◌, true, ℕ, suc, ◌+◌, ◌-◌, ◌<◌, ◌≤◌, List, [], ◌∷◌, ◌++◌, length, drop, refl, arith, subst, sym, ap, ◌∙◌, length-drop, get_or, drop-cons, add-one}
+use Rattle.std.proofs.Common.{◌≡◌, true, ℕ, ◌+◌, ◌-◌, ◌<◌, ◌≤◌, List, [], ◌∷◌, length, drop, refl, arith, subst, sym, ◌∙◌, length-drop, get_or, drop-cons, add-one}
 use Rattle.std.specs.Prelude.{◌==◌}
 use Rattle.go_tree.specs.declared.grammar.Category.{Category}
 use Rattle.go_tree.specs.declared.grammar.Symbol.TheVariants.{Inline}
-use Rattle.go_tree.specs.Classes.{next, ahead}
+use Rattle.go_tree.specs.Classes.{next}
 use Rattle.go_tree.specs.Follow.{follow}
-use Rattle.go_tree.specs.Forest.{Forest, Empty, ◌⊕◌}
+use Rattle.go_tree.specs.Forest.{Forest, ◌⊕◌}
 use Rattle.go_tree.specs.Spells.{Spells}
-use Rattle.go_parse.specs.State.{State, Completes, Holds, Led, Leads, Fails, Passed, Passes, Stops}
+use Rattle.go_parse.specs.State.{State, Completes, Holds, Fails, Passes, Stops}
 use Rattle.go_parse.specs.declared.parser.Step.{Step}
 use Rattle.go_parse.specs.declared.parser.Step.TheVariants as steps
 use Rattle.go_parse.specs.Machine.{Built, wanting, SpellsTo, Unspelled, Stepped, Ended}

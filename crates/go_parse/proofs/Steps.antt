@@ -1,5 +1,5 @@
 -- How many turns come before the next token is taken, at most.
-use Rattle.std.proofs.Common.{◌≡◌, ℕ, suc, zero, ◌+◌, ◌-◌, ◌<◌, ◌≤◌, Bool, true, false, List, [], ◌∷◌, ◌++◌, length, drop, cond, ◌&&◌, ◌||◌, ◌⊎◌, inl, inr, refl, arith, subst, sym, ap, ◌∙◌, Option, Some, None, append_assoc}
+use Rattle.std.proofs.Common.{◌≡◌, ℕ, suc, ◌+◌, ◌<◌, ◌≤◌, Bool, true, false, List, [], ◌∷◌, ◌++◌, length, drop, cond, ◌&&◌, refl, arith, subst, sym, ap, Option, Some, None, append_assoc}
 use Rattle.std.specs.Prelude.{nat_lt, nat_le}
 use Rattle.go_tree.specs.declared.grammar.Setting.{Setting}
 use Rattle.go_tree.specs.declared.grammar.Ending.{Ending}
@@ -10,7 +10,6 @@ use Rattle.go_tree.specs.declared.grammar.Symbol.TheVariants.{Token, Part, Inlin
 use Rattle.go_parse.specs.declared.parser.Task.{Task}
 use Rattle.go_parse.specs.declared.parser.Task.TheVariants.{Want, Close, After}
 use Rattle.go_tree.specs.First.{nullable}
-use Rattle.go_tree.specs.Follow.{follow}
 use Rattle.go_tree.specs.Inlines.{inlines}
 use Rattle.go_tree.specs.Nodes.{nodes}
 use Rattle.go_tree.specs.Operands.{prefixes, suffixes}
@@ -22,7 +21,7 @@ use Rattle.go_parse.proofs.Weights.{weight, weight_symbol, turns_of, end_turns, 
 use Rattle.go_tree.specs.Choice.{may_be_empty, begins, nothing, empty, rest, whole, fits_inline, fits_node, pick_inline, pick_node, pick_prefix, pick_suffix}
 use Rattle.go_parse.specs.State.{State, Outcome, Goes, Takes, Refuses, pushed, on_some, noded, turned, wants}
 use Rattle.go_tree.specs.Spells.{Among}
-use Rattle.go_parse.proofs.Check.{all, all_at, both, pick_is}
+use Rattle.go_parse.proofs.Check.{all_at, both, pick_is}
 use Rattle.go_parse.proofs.Begin.{inline_fine, node_fine, rule_empty}
 
 abbrev pub turns : List Task → ℕ

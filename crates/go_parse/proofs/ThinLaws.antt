@@ -1,9 +1,9 @@
 -- The answer of a thin file.
-use Rattle.std.proofs.Common.{◌≡◌, ℕ, ◌<◌, ◌≤◌, List, [], ◌∷◌, length, refl, arith, subst, sym, ap, ◌∙◌, true, Bool, drop}
+use Rattle.std.proofs.Common.{◌≡◌, ℕ, ◌<◌, ◌≤◌, List, length, refl, arith, subst, sym, ap, ◌∙◌, true, Bool, drop}
 use Rattle.go_tree.specs.declared.grammar.Category.TheVariants.{ThinFile}
 use Rattle.go_tree.specs.declared.token.Token.{Token}
 use Rattle.go_tree.specs.declared.tree.FileTree.{FileTree}
-use Rattle.go_tree.specs.Arena.{arena_of, depth, highest, flat, roots}
+use Rattle.go_tree.specs.Arena.{arena_of, depth, highest}
 use Rattle.go_tree.specs.Classes.{classes}
 use Rattle.go_tree.specs.Follow.{follow}
 use Rattle.go_tree.specs.Forest.{Forest, Empty}

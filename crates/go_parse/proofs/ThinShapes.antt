@@ -1,5 +1,5 @@
 -- The nodes of a thin file's tree, one by one.
-use Rattle.std.proofs.Common.{◌≡◌, ℕ, zero, suc, ◌+◌, ◌-◌, ◌<◌, ◌≤◌, ◌⊎◌, inl, inr, List, [], ◌∷◌, ◌++◌, length, refl, arith, subst, sym, ap, ◌∙◌, get_or, append_assoc, length-append}
+use Rattle.std.proofs.Common.{◌≡◌, ℕ, suc, ◌+◌, ◌-◌, ◌<◌, ◌≤◌, ◌⊎◌, inl, inr, List, [], ◌∷◌, ◌++◌, length, refl, arith, subst, sym, ap, ◌∙◌, get_or, append_assoc, length-append}
 use Rattle.std.proofs.lemmas.Bool.{cases_lt}
 use Rattle.std.proofs.lemmas.List.{get_or-append-add, append-nil}
 use Rattle.go_tree.specs.declared.token.Token.{Token}
@@ -10,7 +10,7 @@ use Rattle.go_tree.specs.declared.tree.NodeKind.{NodeKind}
 use Rattle.go_tree.specs.declared.tree.NodeKind.TheVariants as k
 use Rattle.go_tree.specs.Arena.{node_of, size, roots, flat, arena_of}
 use Rattle.go_tree.specs.Forest.{Forest, Empty, Grow, ◌⊕◌}
-use Rattle.go_tree.specs.ThinTree.{IsKind, IsLeaf, IsSum, IsToken, IsPackage, IsBinary, IsValues, IsConst, HasThinShape, IsConstFrom, AreConstsFrom, IsThinTree}
+use Rattle.go_tree.specs.ThinTree.{IsKind, IsLeaf, IsSum, IsPackage, IsBinary, IsValues, IsConst, HasThinShape, IsConstFrom, AreConstsFrom, IsThinTree}
 use Rattle.go_tree.specs.Tree.{SpelledThin}
 use Rattle.go_parse.proofs.Arenas.{flat_beside, roots_beside, length_flat, size_beside}
 use Rattle.go_parse.proofs.ThinTokens.{LeafAt, LeafTree, name, int, SumTree, leaf, plus, ConstTrees, none, more, FileTrees, file, Span}

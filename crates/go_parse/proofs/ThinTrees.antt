@@ -1,31 +1,28 @@
 -- What a spelling of a thin file is, read back.
-use Rattle.std.proofs.Common.{◌≡◌, ℕ, zero, suc, ◌+◌, ◌-◌, ◌<◌, ◌≤◌, ◌⊎◌, inl, inr, Bool, true, false, cond, ◌&&◌, ◌||◌, List, [], ◌∷◌, ◌++◌, length, refl, arith, subst, sym, ap, ◌∙◌, get_or, map, append_assoc, length-append}
-use Rattle.std.specs.Prelude.{nat_lt, ◌==◌, slice_index, not}
-use Rattle.std.proofs.lemmas.List.{get_or-map, get_or-append-add}
+use Rattle.std.proofs.Common.{◌≡◌, ℕ, zero, suc, ◌-◌, ◌<◌, ◌⊎◌, inl, inr, true, List, [], ◌∷◌, length, refl, arith, subst, sym, ap, ◌∙◌, get_or}
+use Rattle.std.proofs.lemmas.List.{get_or-map}
 use Rattle.std.proofs.Math.ListN.{length-map}
 use Rattle.go_tree.specs.declared.grammar.Category.{Category}
 use Rattle.go_tree.specs.declared.grammar.Category.TheVariants as c
-use Rattle.go_tree.specs.declared.grammar.Ending.TheVariants.{Is, Bare, Tail}
+use Rattle.go_tree.specs.declared.grammar.Ending.TheVariants.{Is, Tail}
 use Rattle.go_tree.specs.declared.grammar.Setting.TheVariants as m
 use Rattle.go_tree.specs.declared.grammar.Symbol.{Symbol}
 use Rattle.go_tree.specs.declared.grammar.Symbol.TheVariants.{Token, Part, Inline, Operand}
 use Rattle.go_tree.specs.declared.grammar.Terminal.{Terminal}
 use Rattle.go_tree.specs.declared.grammar.Terminal.TheVariants as t
 use Rattle.go_tree.specs.declared.token.Token.{Token as Lexeme}
-use Rattle.go_tree.specs.declared.token.TokenKind.{TokenKind}
 use Rattle.go_tree.specs.declared.token.TokenKind.TheVariants as tokens
 use Rattle.go_tree.specs.declared.tree.NodeKind.{NodeKind}
 use Rattle.go_tree.specs.declared.tree.NodeKind.TheVariants as k
-use Rattle.go_tree.specs.Classes.{told, next, ahead, class_in, classes, kind_class, mark_classes, is_blank}
+use Rattle.go_tree.specs.Classes.{next, class_in, classes}
 use Rattle.go_tree.specs.Forest.{Forest, Empty, Grow, ◌⊕◌}
 use Rattle.go_tree.specs.Inlines.{inlines}
 use Rattle.go_tree.specs.Nodes.{nodes}
 use Rattle.go_tree.specs.Operands.{prefixes, suffixes}
 use Rattle.go_tree.specs.Rule.{Rule, row, rule}
-use Rattle.go_tree.specs.Spells.{Among, Spells, Closes, done, token, inline, node, prefix, suffix, is, bare, tail}
+use Rattle.go_tree.specs.Spells.{Among, Spells, Closes, done, token, inline, node, prefix, suffix, is, tail}
 use Rattle.go_tree.specs.Terminals.{admits}
 use Rattle.go_tree.specs.Tree.{SpellsAll}
-use Rattle.go_parse.proofs.Check.{below, at}
 use Rattle.go_parse.proofs.Forests.{beside_none}
 use Rattle.go_parse.proofs.ThinTokens.{Suffix, next_suffix, suffix_length, suffix_get, LeafAt, LeafTree, Span, SumTree, ConstTrees, FileTrees, name_class, named_class, int_class, name_kind, int_kind, name, int, leaf, plus, none, more, file}
 

@@ -1,10 +1,9 @@
 -- A turn leads to a state that may become the same trees.
-use Rattle.std.proofs.Common.{◌≡◌, ℕ, suc, zero, ◌+◌, ◌-◌, ◌<◌, ◌≤◌, Bool, true, false, List, [], ◌∷◌, ◌++◌, length, take, drop, cond, ◌&&◌, ◌||◌, ◌⊎◌, inl, inr, refl, arith, subst, sym, ap, ◌∙◌, Option, Some, None, append_assoc}
-use Rattle.std.specs.Prelude.{nat_lt, nat_le, ◌==◌}
+use Rattle.std.proofs.Common.{◌≡◌, ℕ, suc, ◌-◌, ◌<◌, ◌≤◌, Bool, true, false, List, [], ◌∷◌, ◌++◌, length, take, drop, cond, ◌&&◌, ◌||◌, ◌⊎◌, inl, inr, refl, arith, subst, sym, ap, ◌∙◌, Option, Some, None, append_assoc}
+use Rattle.std.specs.Prelude.{nat_lt, nat_le}
 use Rattle.std.proofs.Math.Nat.{le_refl}
 use Rattle.go_tree.specs.declared.grammar.Setting.{Setting}
 use Rattle.go_tree.specs.declared.tree.NodeKind.{NodeKind}
-use Rattle.go_tree.specs.declared.grammar.Ending.{Ending}
 use Rattle.go_tree.specs.declared.grammar.Ending.TheVariants.{Is, Bare, Tail}
 use Rattle.go_tree.specs.declared.grammar.Category.{Category}
 use Rattle.go_tree.specs.declared.grammar.Terminal.{Terminal}
@@ -13,22 +12,20 @@ use Rattle.go_tree.specs.declared.grammar.Symbol.TheVariants.{Token, Part, Inlin
 use Rattle.go_parse.specs.declared.parser.Task.{Task}
 use Rattle.go_parse.specs.declared.parser.Task.TheVariants.{Want, Close, After}
 use Rattle.go_tree.specs.Forest.{Forest, Empty, Grow, ◌⊕◌, count, front, back}
-use Rattle.go_tree.specs.Arena.{node_of, flat, roots, heights, highest, kinds}
+use Rattle.go_tree.specs.Arena.{node_of, roots, highest, kinds}
 use Rattle.go_tree.specs.Classes.{level_of, next}
-use Rattle.go_tree.specs.First.{nullable}
 use Rattle.go_tree.specs.Follow.{follow}
 use Rattle.go_tree.specs.Inlines.{inlines}
 use Rattle.go_tree.specs.Nodes.{nodes}
 use Rattle.go_tree.specs.Operands.{prefixes, suffixes}
 use Rattle.go_tree.specs.Rule.{Rule}
 use Rattle.go_tree.specs.Terminals.{admits}
-use Rattle.go_tree.specs.declared.grammar.Shape.{Shape}
 use Rattle.go_tree.specs.Shape.{shape}
-use Rattle.go_tree.specs.Choice.{first_symbol, follow_symbol, begins, nothing, whole, fits_inline, fits_node, pick_inline, pick_node, pick_prefix, pick_suffix}
-use Rattle.go_tree.specs.Spells.{Among, Spells, Closes, is}
-use Rattle.go_parse.specs.State.{State, Outcome, Goes, Takes, Refuses, pushed, on_some, noded, turned, wants, Completes, opens, Orderly, Based, Holds, Led, Leads, Fails, Passed, Passes}
+use Rattle.go_tree.specs.Choice.{begins, nothing, whole, fits_inline, fits_node, pick_inline, pick_node, pick_prefix, pick_suffix}
+use Rattle.go_tree.specs.Spells.{Closes, is}
+use Rattle.go_parse.specs.State.{State, Outcome, Goes, Takes, Refuses, pushed, on_some, noded, turned, wants, Completes, opens, Orderly, Based, Leads, Fails, Passes}
 use Rattle.go_parse.proofs.Check.{pick_is, both, follows}
-use Rattle.go_parse.proofs.Forests.{beside_none, count_beside, count_front}
+use Rattle.go_parse.proofs.Forests.{count_beside, count_front}
 use Rattle.go_parse.proofs.Begin.{either, inline_fine, node_fine, rule_follows, prefix_follows, suffix_follows}
 use Rattle.go_parse.proofs.Arenas.{length_roots, close_flat, close_roots, close_heights, close_kinds, kinds_back}
 use Rattle.go_parse.proofs.Completes.{at_token, no_token, from_token, orderly, rule_orderly, Applies, at_inline, from_inline, at_part, from_part, at_tail, from_tail, at_operand, from_operand, at_suffix, from_suffix, at_stop, from_stop, at_bare, from_bare}

@@ -1,18 +1,18 @@
 -- A state becomes one forest at most.
-use Rattle.std.proofs.Common.{true, ◌≡◌, ℕ, zero, suc, ◌+◌, ◌-◌, ◌<◌, ◌≤◌, List, [], ◌∷◌, length, refl, arith, subst, sym, ap, ◌∙◌}
+use Rattle.std.proofs.Common.{true, ◌≡◌, ℕ, zero, suc, ◌-◌, ◌<◌, List, [], ◌∷◌, length, refl, arith, subst, sym, ◌∙◌}
 use Rattle.go_parse.specs.declared.parser.Task.{Task}
 use Rattle.go_tree.specs.Forest.{Forest, Empty}
 use Rattle.go_tree.specs.Classes.{next}
 use Rattle.go_tree.specs.declared.tree.Node.{Node}
 use Rattle.go_tree.specs.declared.tree.NodeKind.{NodeKind}
-use Rattle.go_parse.specs.State.{State, Outcome, Goes, Takes, Refuses, turned, Completes, Holds, Led, Leads, Fails, Passed, Passes}
+use Rattle.go_parse.specs.State.{State, Outcome, Goes, Takes, Refuses, turned, Completes, Holds, Passes}
 use Rattle.go_parse.specs.Machine.{wanting, SpellsTo}
 use Rattle.go_tree.specs.Follow.{follow}
 use Rattle.go_tree.specs.declared.grammar.Category.{Category}
 use Rattle.go_parse.proofs.Steps.{turns, Shorter, turn_shorter}
-use Rattle.go_parse.proofs.Turns.{Outcomes, under, turn_leads}
+use Rattle.go_parse.proofs.Turns.{Outcomes, turn_leads}
 use Rattle.go_parse.proofs.Advance.{state}
-use Rattle.go_parse.proofs.Parse.{Same, begin}
+use Rattle.go_parse.proofs.Parse.{begin}
 
 -- at most one, of what is left
 abbrev One : ℕ → List ℕ → Type 0

@@ -1,3 +1,5 @@
 pub mod State
 pub mod Machine
 pub mod Thin
+pub mod Reading
+pub mod Chunk

@@ -1,4 +1,4 @@
-use Rattle.std.specs.Prelude.{ℕ, ◌≡◌, ◌-◌, ◌≤◌, Bool, true, false, List, [], ◌∷◌, length, reverse}
+use Rattle.std.specs.Prelude.{ℕ, ◌≡◌, ◌≤◌, Bool, true, false, List, [], ◌∷◌, reverse}
 use Rattle.go_parse.specs.declared.parser.Parser.{Parser}
 use Rattle.go_parse.specs.declared.parser.Turn.{Turn}
 use Rattle.go_parse.specs.declared.parser.Turn.TheVariants as turns

@@ -1,16 +1,14 @@
 -- The state of the parser, what a turn makes of it, and what it may still become.
-use Rattle.std.specs.Prelude.{ℕ, suc, ◌≡◌, ◌+◌, ◌-◌, ◌<◌, ◌≤◌, Bool, true, false, List, [], ◌∷◌, ◌++◌, length, take, drop, cond, ◌&&◌, ◌||◌, ◌⊎◌, Option, Some, None, nat_lt, nat_le, ◌==◌, reverse}
+use Rattle.std.specs.Prelude.{ℕ, suc, ◌≡◌, ◌-◌, ◌<◌, ◌≤◌, Bool, true, List, [], ◌∷◌, ◌++◌, length, take, drop, cond, ◌&&◌, ◌||◌, Option, Some, None, nat_lt, nat_le, ◌==◌}
 use Rattle.go_tree.specs.declared.grammar.Setting.{Setting}
 use Rattle.go_tree.specs.declared.tree.NodeKind.{NodeKind}
 use Rattle.go_tree.specs.declared.grammar.Ending.{Ending}
 use Rattle.go_tree.specs.declared.grammar.Ending.TheVariants.{Is, Bare, Tail}
-use Rattle.go_tree.specs.declared.grammar.Category.{Category}
-use Rattle.go_tree.specs.declared.grammar.Terminal.{Terminal}
 use Rattle.go_tree.specs.declared.grammar.Symbol.{Symbol}
 use Rattle.go_tree.specs.declared.grammar.Symbol.TheVariants.{Token, Part, Inline, Operand}
 use Rattle.go_parse.specs.declared.parser.Task.{Task}
 use Rattle.go_parse.specs.declared.parser.Task.TheVariants.{Want, Close, After}
-use Rattle.go_tree.specs.Forest.{Forest, Empty, Grow, ◌⊕◌, count, front, back}
+use Rattle.go_tree.specs.Forest.{Forest, ◌⊕◌, count, front, back}
 use Rattle.go_tree.specs.Arena.{node_of, flat, roots, heights, highest, kinds}
 use Rattle.go_tree.specs.Classes.{level_of}
 use Rattle.go_tree.specs.Follow.{follow}

@@ -1,9 +1,9 @@
 //! The names that a thin file may have.
-ghost use Rattle.std.specs.Prelude.{◌≡◌, slice_range, bytes_eq};
+ghost use Rattle.std.specs.Prelude.{◌≡◌, bytes_eq};
 ghost use Rattle.std.specs.List.{list_any};
-ghost use Rattle.go_tree.specs.ThinNames.{text_of, is_kept, is_name, is_thin_name, are_thin_names};
+ghost use Rattle.go_tree.specs.ThinNames.{is_kept, is_name, is_thin_name, are_thin_names};
 
-use go_tree::{Token, TokenKind};
+use go_tree::{Token, TokenKind, token_text};
 
 /// The names of the universe block (Go 1.17, "Predeclared identifiers"), `_` and `init`.
 #[rattlefmt::skip]
@@ -16,16 +16,6 @@ const KEPT: [&[u8]; 41] = [
     b"append", b"cap", b"close", b"complex", b"copy", b"delete", b"imag",
     b"len", b"make", b"new", b"panic", b"print", b"println", b"real", b"recover",
 ];
-
-/// The bytes of a token in its source. A token that doesn't lie there has what of it does.
-#[tactic(auto, using(crate::proofs::Texts::clamped))]
-pub fn text<'a>(source: &'a [u8], token: &Token) -> &'a [u8]
-    ensures { result.now ≡ text_of source.now token.now }
-{
-    let end = (token.end as usize).min(source.len());
-    let start = (token.start as usize).min(end);
-    &source[start..end]
-}
 
 fn is_in(table: &[&[u8]], word: &[u8]) -> bool
     ensures { result ≡ list_any (λ name. bytes_eq name.now word.now) table.now }
@@ -49,7 +39,7 @@ fn is_name(kind: TokenKind) -> bool
 fn is_thin_name(source: &[u8], token: &Token) -> bool
     ensures { result ≡ is_thin_name source.now token.now }
 {
-    !(is_name(token.kind) && is_kept(text(source, token)))
+    !(is_name(token.kind) && is_kept(token_text(source, token)))
 }
 
 /// Whether no name among the tokens is `_`, `init` or predeclared.

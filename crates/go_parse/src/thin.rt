@@ -18,7 +18,7 @@ use gv_base::{NoMemory, Row};
 use std::alloc::{AllocError, Global};
 
 /// The most that a tree nests: a leaf has depth 1.
-const DEPTH_LIMIT: u32 = 250;
+pub const DEPTH_LIMIT: u32 = 250;
 
 /// The classes of the tokens in their source.
 pub fn classes(alloc: Global, tokens: &[Token], source: &[u8]) -> Result<Vec<u8>, AllocError>

@@ -1,2 +1,5 @@
 mod LexemeFacts
 pub mod Literals
+pub mod TokenTexts
+pub mod Spelled
+pub mod Heads

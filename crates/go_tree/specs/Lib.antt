@@ -20,6 +20,12 @@ pub mod Choice
 pub mod Spells
 pub mod Tree
 pub mod ThinTree
+pub mod Spelling
 pub mod ThinNames
+pub mod Pieces
 pub mod Names
 pub mod Needs
+pub mod ImportPaths
+pub mod Constraints
+pub mod Head
+pub mod Bindings

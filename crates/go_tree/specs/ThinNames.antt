@@ -1,6 +1,7 @@
 -- The names that a thin file leaves to the language.
-use Rattle.std.specs.Prelude.{ℕ, Bool, not, ◌&&◌, List, [], ◌∷◌, bytes_eq, codes, slice_range, true, false}
+use Rattle.std.specs.Prelude.{ℕ, Bool, not, ◌&&◌, List, [], ◌∷◌, bytes_eq, codes, true, false}
 use Rattle.std.specs.List.{list_all, list_any}
+use Rattle.go_tree.specs.Spelling.{text_of}
 use Rattle.go_tree.specs.declared.token.Token.{Token}
 use Rattle.go_tree.specs.declared.token.TokenKind.{TokenKind}
 use Rattle.go_tree.specs.declared.token.TokenKind.TheVariants.{Name, Int, Float, Imag, Rune, Text, Keyword, Mark, Semi}
@@ -23,10 +24,6 @@ is_kept word = list_any (λ name. bytes_eq name word) kept_names
 abbrev pub is_name : TokenKind → Bool
 is_name Name = true
 is_name _ = false
-
--- the bytes of a token in its source
-abbrev pub text_of : List ℕ → Token → List ℕ
-text_of source token = slice_range source token.start token.end
 
 abbrev pub is_thin_name : List ℕ → Token → Bool
 is_thin_name source token = not (is_name token.kind && is_kept (text_of source token))

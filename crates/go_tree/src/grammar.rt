@@ -300,6 +300,17 @@ pub enum Sort {
     SpreadGroup,
 }
 
+/// Which pieces of a file are wanted next.
+#[derive(Clone, Copy, PartialEq, Eq, Debug, Drop)]
+pub enum Stage {
+    /// The package clause.
+    Clause,
+    /// Imports, and then declarations.
+    Imports,
+    /// Declarations alone.
+    Declarations,
+}
+
 /// Where an operand stands.
 #[derive(Clone, Copy, PartialEq, Eq, Debug, Drop)]
 pub enum Setting {

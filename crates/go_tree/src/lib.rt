@@ -1,23 +1,33 @@
 //! Tokens and trees of Go source, and the definitions of lexing, spelling and denoting.
 #![tactic(auto)]
 
+mod bindings;
 mod class;
+mod constraint;
 mod declaration;
 mod escape;
 mod grammar;
+mod head;
+mod import_path;
 mod number;
 mod part;
 mod quoted;
+mod spelling;
 mod token;
 mod tree;
 mod value;
 
+pub use bindings::{Bindings, Object};
 pub use class::{Class, Digits, Escape, State};
+pub use constraint::{Comment, behind_blanks};
 pub use declaration::Declaration;
 pub use escape::{is_rune, is_text};
-pub use grammar::{Category, Ending, Guard, Setting, Shape, Sort, Symbol, Terminal};
+pub use grammar::{Category, Ending, Guard, Setting, Shape, Sort, Stage, Symbol, Terminal};
+pub use head::{Head, ImportLine, LocalName};
+pub use import_path::{Segment, are_segments};
 pub use number::number_kind;
 pub use quoted::text_value;
+pub use spelling::token_text;
 pub use token::{Item, Piece, Token, TokenKind, Why};
 pub use tree::{FileTree, Node, NodeKind, NodeRef};
 pub use value::{IntValue, int_value, rune_value};

@@ -5,9 +5,9 @@ ghost use Rattle.go_tree.specs.Thin.{LexedThin};
 ghost use Rattle.one_package.specs.Form.{IsThinText, AreThinTexts, NamesAgree, clause_name};
 ghost use Rattle.one_package.specs.Shown.{texts_shown, package_shown, clause_text};
 
-use go_parse::{are_thin_names, parse_thin, text};
+use go_parse::{are_thin_names, parse_thin};
 use go_scan::{one_thin_lexing, scan_thin};
-use go_tree::{FileTree, Token};
+use go_tree::{FileTree, Token, token_text};
 use gv_base::NoMemory;
 use std::alloc::Global;
 
@@ -68,7 +68,7 @@ fn clause_name<'a>(source: &'a [u8], tree: &FileTree) -> &'a [u8]
     let Some(token) = tree.tokens.as_slice().get(node.first as usize) else {
         return &source[..0];
     };
-    text(source, token)
+    token_text(source, token)
 }
 
 /// Whether the package clauses have one name.

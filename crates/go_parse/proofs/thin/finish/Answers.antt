@@ -1,4 +1,4 @@
-use Rattle.std.proofs.Common.{◌≡◌, ◌<◌, ◌≤◌, ◌∙◌, ap, arith}
+use Rattle.std.proofs.Common.{◌≡◌, ◌∙◌, ap, arith}
 use Rattle.go_tree.specs.Arena.{highest}
 use Rattle.go_parse.specs.Machine.{state_of}
 use Rattle.go_parse.proofs.ThinLaws.{deeper, shallow}

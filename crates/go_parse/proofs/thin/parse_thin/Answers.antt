@@ -1,4 +1,4 @@
-use Rattle.std.proofs.Common.{◌≡◌, ◌∙◌, true, false, arith, sym, subst, ap, List}
+use Rattle.std.proofs.Common.{◌≡◌, ◌∙◌, true, false, sym, subst, ap, List}
 use Rattle.go_tree.specs.Classes.{classes}
 use Rattle.go_tree.specs.Forest.{Empty}
 use Rattle.go_tree.specs.declared.token.Token.{Token}

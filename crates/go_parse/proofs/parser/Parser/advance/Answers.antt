@@ -2,12 +2,10 @@ use Rattle.std.proofs.Common.{◌≡◌, ◌-◌, ◌∙◌, ◌<◌, ℕ, List,
 use Rattle.std.specs.Prelude.{reverse}
 use Rattle.go_parse.specs.declared.parser.Turn.{Turn}
 use Rattle.go_tree.specs.Classes.{next}
-use Rattle.go_tree.specs.Forest.{Forest}
-use Rattle.go_parse.specs.State.{State, Goes, Takes, Refuses, Holds, Leads, turned}
+use Rattle.go_parse.specs.State.{State, Goes, Takes, Refuses, Holds, Leads}
 use Rattle.go_parse.specs.Machine.{state_of, outcome}
 use Rattle.go_parse.proofs.Steps.{turns}
 use Rattle.go_parse.proofs.Advance.{before, on, fits, fits_heights, fits_kinds, shorter}
-use Rattle.go_parse.proofs.Turns.{under}
 use Rattle.go_parse.proofs.parser.Parser.advance.Goals as goal
 
 pub turn-requires-clause-pending : goal.turn-requires-clause-pending

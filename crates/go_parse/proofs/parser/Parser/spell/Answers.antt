@@ -1,9 +1,8 @@
-use Rattle.std.proofs.Common.{◌≡◌, ◌∙◌, ◌∷◌, ◌≤◌, ◌<◌, ◌-◌, ◌+◌, List, [], length, drop, get_or, ap, refl, sym, subst, arith, ℕ}
-use Rattle.go_parse.specs.declared.parser.Step.{Step}
+use Rattle.std.proofs.Common.{◌≡◌, ◌+◌, [], length, drop, ap, sym, arith}
 use Rattle.go_parse.specs.declared.parser.Step.TheVariants as steps
 use Rattle.go_tree.specs.Classes.{next}
-use Rattle.go_parse.specs.Machine.{state_of, Stepped}
-use Rattle.go_parse.proofs.Parse.{Same, carry, start_same, need, here, cut, did, none_left, taken, refused, over_early, over, not_taken, at_the_end, did_last}
+use Rattle.go_parse.specs.Machine.{state_of}
+use Rattle.go_parse.proofs.Parse.{carry, start_same, need, cut, did, none_left, taken, refused, over_early, over, not_taken, at_the_end, did_last}
 use Rattle.go_parse.proofs.parser.Parser.spell.Goals as goal
 
 pub loop-at-init : goal.loop-at-init

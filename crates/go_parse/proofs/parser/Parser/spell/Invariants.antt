@@ -1,4 +1,4 @@
-use Rattle.std.proofs.Common.{◌≡◌, List, length, drop}
+use Rattle.std.proofs.Common.{length, drop}
 use Rattle.go_tree.specs.Forest.{Forest}
 use Rattle.go_parse.specs.Machine.{state_of, Built}
 use Rattle.go_parse.proofs.Parse.{Same}

@@ -1,28 +1,28 @@
--- The bytes of a token, where it doesn't lie in its source.
+-- A part of a list whose ends may lie past it.
 use Rattle.std.proofs.Common.{◌≡◌, ℕ, zero, suc, ◌-◌, ◌≤◌, ◌<◌, ◌⊎◌, inl, inr, List, [], ◌∷◌, length, take, drop, refl, arith, ap, sym, ◌∙◌, min, subst}
 use Rattle.std.proofs.Math.Nat.{min-eq_left, min-eq_right}
 use Rattle.std.proofs.lemmas.Bool.{cases_lt}
 use Rattle.std.proofs.lemmas.List.{drop_all, length-drop}
 
-take_none : (n : ℕ) (ys : List ℕ) → length ys ≡ 0 → take n ys ≡ []
+take_none : {A : Type 0} (n : ℕ) (ys : List A) → length ys ≡ 0 → take n ys ≡ []
 take_none zero ys e = refl
 take_none (suc n) [] e = refl
 take_none (suc n) (y ∷ ys) e = absurd (omega arith)
 
-take_past : (n m : ℕ) (xs : List ℕ) → length xs ≤ n → length xs ≤ m → take n xs ≡ take m xs
+take_past : {A : Type 0} (n m : ℕ) (xs : List A) → length xs ≤ n → length xs ≤ m → take n xs ≡ take m xs
 take_past n m [] k l = take_none n [] refl ∙ sym (take_none m [] refl)
 take_past zero m (x ∷ xs) k l = absurd (omega arith)
 take_past (suc n) zero (x ∷ xs) k l = absurd (omega arith)
 take_past (suc n) (suc m) (x ∷ xs) k l = ap (λ ys. x ∷ ys) (take_past n m xs (omega arith) (omega arith))
 
-take_zero : (n : ℕ) (xs : List ℕ) → n ≡ 0 → take n xs ≡ []
+take_zero : {A : Type 0} (n : ℕ) (xs : List A) → n ≡ 0 → take n xs ≡ []
 take_zero zero xs e = refl
 take_zero (suc n) xs e = absurd (omega arith)
 
-pub clamped : (xs : List ℕ) (a b s e : ℕ) → e ≡ min b (length xs) → s ≡ min a e → take (e - s) (drop s xs) ≡ take (b - a) (drop a xs)
-clamped xs a b s e p q = go (cases_lt b (length xs))
+pub clamped : {A : Type 0} (xs : List A) (a b s e : ℕ) → e ≡ min b (length xs) → s ≡ min a e → take (e - s) (drop s xs) ≡ take (b - a) (drop a xs)
+clamped {A = A} xs a b s e p q = go (cases_lt b (length xs))
   where
-    none : (n : ℕ) (ys : List ℕ) → ys ≡ [] → take n ys ≡ []
+    none : (n : ℕ) (ys : List A) → ys ≡ [] → take n ys ≡ []
     none n ys z = take_none n ys (ap length z)
 
     low : b ≤ length xs → e ≡ b → (a < b) ⊎ (b ≤ a) → take (e - s) (drop s xs) ≡ take (b - a) (drop a xs)

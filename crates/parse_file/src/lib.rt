@@ -1,0 +1,9 @@
+//! The verdict of a file: the scanner's refusal, the first piece that is not spelled, or the tree.
+#![tactic(auto)]
+
+mod verdict;
+
+pub use verdict::{FileVerdict, one_verdict, parse_file};
+
+#[cfg(test)]
+mod tests;
