@@ -48,11 +48,11 @@ fn nests_at_most_250_deep(rt: HostRuntime) -> Result<(), Fail> {
     assert!(&rt; is_too_deep(&verdict(rt.alloc(), &nested(rt.alloc(), 248, 248)?)?, 10));
     assert!(&rt;
         is_too_deep(
-            &verdict(rt.alloc(), &nested(rt.alloc(), 20000, 20000)?)?,
+            &verdict(rt.alloc(), &nested(rt.alloc(), 100000, 100000)?)?,
             10
         )
     );
-    assert!(&rt; is_syntax(&verdict(rt.alloc(), &nested(rt.alloc(), 20000, 0)?)?, 10));
+    assert!(&rt; is_syntax(&verdict(rt.alloc(), &nested(rt.alloc(), 100000, 0)?)?, 10));
     Ok(())
 }
 
