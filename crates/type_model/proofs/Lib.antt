@@ -4,4 +4,11 @@ pub mod TypeLaws
 pub mod WidthLaws
 pub mod KeyLaws
 pub mod StateLaws
+pub mod DeclareLaws
 pub mod OneInterface
+pub mod EndLaws
+pub mod IdentityLaws
+pub mod DeclarationLaws
+pub mod FormedLaws
+pub mod TableLaws
+pub mod SpecificationFacts

@@ -1,5 +1,5 @@
 -- What adding a term does to a table.
-use Rattle.std.proofs.Common.{below_more, ◌⊎◌, inl, inr, ◌≡◌, ◌≢◌, ℕ, zero, suc, ◌+◌, ◌<◌, ◌≤◌, ◌++◌, Bool, true, false, cond, List, [], ◌∷◌, length, slice_get, slice_index_or, get_or, set, Option, option_map, Some, None, refl, sym, ap, ◌∙◌, subst, arith, length-append}
+use Rattle.std.proofs.Common.{below_more, ◌⊎◌, inl, inr, ◌≡◌, ◌≢◌, ℕ, zero, suc, ◌+◌, ◌<◌, ◌≤◌, ◌++◌, Bool, true, false, cond, List, [], ◌∷◌, length, slice_get, slice_index_or, get_or, Option, option_map, Some, None, refl, sym, ap, ◌∙◌, subst, arith, length-append}
 use Rattle.std.specs.List.{All}
 use Rattle.std.specs.Prelude.{IsTrue, ◌↔◌, nat_eq, if◌then◌else◌}
 use Rattle.std.proofs.lemmas.Bool.Decides.{Decides-eqb}
@@ -9,25 +9,24 @@ use Rattle.std.specs.Str.{bytes_eq}
 use Rattle.std.specs.Global.{Vec}
 use Rattle.std.proofs.lemmas.Slice.Eq.{bytes_eq-Decides}
 use Rattle.std.proofs.lemmas.Option.{slice_get-get_or, slice_get_within}
-use Rattle.std.proofs.lemmas.List.{get_or_append_left, length-set, get_or-set_same, get_or-set_other}
+use Rattle.std.proofs.lemmas.List.{get_or_append_left}
 use Rattle.std.proofs.lemmas.List.Elements.{All-push, All-get_or}
 use Rattle.std.proofs.Math.Seq.{get_or-append_seam}
-use Rattle.gv_base.specs.declared.constant.Kind.{Kind}
 use Rattle.type_model.specs.declared.term.TypeId.{TypeId}
 use Rattle.type_model.specs.declared.term.Term.{Term}
-use Rattle.type_model.specs.declared.term.Term.TheVariants.{Defined, Array, Struct}
 use Rattle.type_model.specs.declared.term.TypeName.{TypeName}
-use Rattle.type_model.specs.declared.term.Method.{Method}
 use Rattle.type_model.specs.declared.term.Declared.{Declared}
 use Rattle.type_model.specs.declared.table.TypeTable.{TypeTable}
 use Rattle.type_model.specs.declared.table.Added.TheVariants.{Id, TooWide}
-use Rattle.type_model.specs.GoTypes.{fields_of, GoType, BasicType, DefinedType, PointerTo, SliceOf, ArrayOf, MapOf, ChanOf, FuncOf, StructOf, InterfaceOf, is_defined, nodes, type_number, type_of, types_of, IsOver}
+use Rattle.type_model.specs.GoTypes.{MethodsBelow, GoType, BasicType, DefinedType, PointerTo, SliceOf, ArrayOf, MapOf, ChanOf, FuncOf, StructOf, InterfaceOf, is_defined, nodes, type_number, type_of, types_of, IsOver}
 use Rattle.type_model.specs.Orders.{IsOrdered}
 use Rattle.type_model.specs.Spelling.{spelled}
 use Rattle.type_model.specs.Widths.{capped, width}
-use Rattle.type_model.specs.Tables.{declared_at, Meets, MeetsName, MeetsField, MeetsElement, MeetsUnder, Declares, under_from, found, AreTerms, IsIndex, AreWidths, IsTable, IsSame, PutsKey, Extends, Grown, IsAdded, count}
+use Rattle.type_model.specs.Tables.{declared_at, declared_as, declaration_of, declarations_in, under_from, found, AreTerms, IsIndex, AreWidths, IsTable, IsSame, PutsKey, Extends, Grown, IsAdded, count}
 use Rattle.type_model.proofs.SpellingLaws.{spelled_once}
-use Rattle.type_model.proofs.TypeLaws.{type_number-read, extends-push, extends-itself, type_number-push, push_cases, terms-push}
+use Rattle.type_model.proofs.TypeLaws.{AgreeBelow, methods_more, length-types_of, types_of-push, extends-more, type_number-read, extends-push, extends-itself, type_number-push, push_cases, terms-push}
+use Rattle.type_model.proofs.EndLaws.{all_end_as}
+use Rattle.type_model.proofs.DeclarationLaws.{declared_from, declared_as-push, declared_as-there, declarations_same}
 use Rattle.type_model.proofs.WidthLaws.{width_is}
 
 get_old : {A : Type 0} (xs : List A) (x : A) (i : ℕ) (y : A) → slice_get xs i ≡ Some y → slice_get (xs ++ x ∷ []) i ≡ Some y
@@ -147,6 +146,9 @@ too_wide t term w table over is wide =
 abbrev lookup_in : List ℕ → List (Vec ℕ × ℕ) → Option ℕ
 lookup_in key entries = lookup (λ k. bytes_eq key k.items) entries
 
+pub entries_same : {S : Type 0} (a b : HashMap (Vec ℕ) ℕ S) → a ≡ b → a.entries ≡ b.entries
+entries_same a b e = ap (λ m. m.entries) e
+
 -- a table with other room and the same contents
 pub grown_same : (old new : TypeTable) → IsTable old → IsSame old new → new.numbers.entries ≡ old.numbers.entries → Grown old new
 grown_same old new table same e = record {
@@ -161,10 +163,21 @@ grown_same old new table same e = record {
     only = λ i d e. subst (λ (l : List Term). is_defined (type_number (types_of l) i) ≡ true) (sym same.terms)
         (table.only i d (ap (λ l. slice_index_or l i None) (sym same.declared) ∙ e));
     ordered = λ i t read. table.ordered i t (ap (λ l. slice_get l i) (sym same.terms) ∙ read);
+    inside = λ i d e. subst (λ (n : ℕ). (d.under.0 < n) × MethodsBelow n d.methods) (ap length (sym same.terms))
+        (table.inside i d (ap (λ l. slice_index_or l i None) (sym same.declared) ∙ e));
+    plain = λ i d e. subst (λ (l : List Term). is_defined (type_number (types_of l) d.under.0) ≡ false) (sym same.terms)
+        (table.plain i d (ap (λ l. slice_index_or l i None) (sym same.declared) ∙ e));
+    ends = all_end_as (declarations_in old) (declarations_in new) declarations_still table.ends;
   };
   extends = subst (λ (l : List Term). Extends old.terms.items l) (sym same.terms) (extends-itself old.terms.items);
   declared = λ i. ap (λ l. slice_index_or l i None) same.declared;
+  declarations = declarations_still;
 } where
+  declarations_still : (name : TypeName) → declarations_in new name ≡ declarations_in old name
+  declarations_still name =
+      ap (λ (l : List Term). option_map (λ d. declaration_of (types_of l) d) (declared_as name (types_of l) new.declared.items)) same.terms
+      ∙ ap (λ (l : List (Option Declared)). option_map (λ d. declaration_of (types_of old.terms.items) d) (declared_as name (types_of old.terms.items) l)) same.declared
+
   found_same : (key : List ℕ) → found new.numbers key ≡ found old.numbers key
   found_same key = ap (λ entries. lookup_in key entries) e
 
@@ -177,6 +190,29 @@ module _ (old new : TypeTable) (term : Term) (key : List ℕ) (w id : ℕ) (tabl
 
   put_last : PutsKey old.numbers new.numbers (spelled term) (length old.terms.items)
   put_last = subst (λ (n : ℕ). PutsKey old.numbers new.numbers (spelled term) n) at (subst (λ (k : List ℕ). PutsKey old.numbers new.numbers k id) is puts)
+
+  declared_before : (i : ℕ) (d : Declared) → slice_index_or new.declared.items i None ≡ Some d → slice_index_or old.declared.items i None ≡ Some d
+  declared_before i d e = sym (ap (λ l. slice_index_or l i None) declared ∙ declared-push old.declared.items i) ∙ e
+
+  inside_push : (i : ℕ) (d : Declared) → slice_index_or old.declared.items i None ≡ Some d → (d.under.0 < length new.terms.items) × MethodsBelow (length new.terms.items) d.methods
+  inside_push i d before =
+      let size : length new.terms.items ≡ length old.terms.items + 1 = ap length terms ∙ length-append old.terms.items (term ∷ []) in
+      let low : d.under.0 < length old.terms.items = (table.inside i d before).0 in
+      (omega arith, methods_more (length old.terms.items) (length new.terms.items) (omega arith) d.methods ((table.inside i d before).1))
+
+  declarations_push : (name : TypeName) → declarations_in new name ≡ declarations_in old name
+  declarations_push name =
+      let was = types_of old.terms.items in
+      let is_now : types_of new.terms.items ≡ was ++ type_of was term ∷ [] = ap types_of terms ∙ types_of-push old.terms.items term in
+      let sizes : length old.declared.items ≡ length was = table.size ∙ sym (length-types_of old.terms.items) in
+      let found_as : declared_as name (types_of new.terms.items) new.declared.items ≡ declared_as name was old.declared.items =
+      ap (λ (l : List (Option Declared)). declared_as name (types_of new.terms.items) l) declared
+      ∙ (ap (λ (l : List GoType). declared_as name l (old.declared.items ++ None ∷ [])) is_now ∙ declared_as-push name was old.declared.items (type_of was term) sizes) in
+      let agree : AgreeBelow (length old.terms.items) (types_of new.terms.items) was =
+      λ i low. ap (λ (l : List Term). type_number (types_of l) i) terms ∙ (extends-push old.terms.items term i low).1 in
+      ap (λ (o : Option Declared). option_map (λ d. declaration_of (types_of new.terms.items) d) o) found_as
+      ∙ declarations_same (types_of new.terms.items) was (length old.terms.items) agree (declared_as name was old.declared.items)
+      (λ d e. let beside = declared_from name was old.declared.items d e in table.inside beside.0 d beside.1)
 
   pub grown_push : Grown old new
   grown_push = record {
@@ -198,9 +234,16 @@ module _ (old new : TypeTable) (term : Term) (key : List ℕ) (w id : ℕ) (tabl
         | inl before ↦ table.ordered i t before
         | inr (place, one) ↦ subst (λ (x : Term). IsOrdered x) (sym one) ordered
       ];
+      inside = λ i d e. inside_push i d (declared_before i d e);
+      plain = λ i d e.
+          let before : slice_index_or old.declared.items i None ≡ Some d = declared_before i d e in
+          subst (λ (l : List Term). is_defined (type_number (types_of l) d.under.0) ≡ false) (sym terms)
+          (ap is_defined ((extends-push old.terms.items term d.under.0 ((table.inside i d before).0)).1) ∙ table.plain i d before);
+      ends = all_end_as (declarations_in old) (declarations_in new) declarations_push table.ends;
     };
     extends = subst (λ (l : List Term). Extends old.terms.items l) (sym terms) (extends-push old.terms.items term);
     declared = λ i. ap (λ l. slice_index_or l i None) declared ∙ declared-push old.declared.items i;
+    declarations = declarations_push;
   }
 
   pub added_push : IsAdded old new term (Id (record { 0 = id }))
@@ -247,52 +290,12 @@ under_other (FuncOf of) d id e = refl
 under_other (StructOf fields) d id e = refl
 under_other (InterfaceOf methods) d id e = refl
 
--- a declaration is set where the defined type stands
-module _ (old mid : TypeTable) (name : TypeName) (under : TypeId) (methods : List Method) (id : TypeId) (grown : Grown old mid) (added : IsAdded old mid (Defined name) (Id id))
-    (x : Vec (Option Declared)) (is : x.items ≡ set mid.declared.items id.0 (Some (record { under = under; methods = methods }))) where
-  held : id.0 < length mid.declared.items
-  held = let size : length mid.declared.items ≡ length mid.terms.items = grown.table.size in let within : id.0 < length mid.terms.items = added.0 in omega arith
+-- what a table's type at a number is declared with
+pub declaration-there : (t : TypeTable) (name : TypeName) (i : ℕ) → IsTable t → i < count t → type_number (types_of t.terms.items) i ≡ DefinedType name
+    → declarations_in t name ≡ option_map (λ d. declaration_of (types_of t.terms.items) d) (declared_at t i)
+declaration-there t name i table within is =
+    ap (λ (o : Option Declared). option_map (λ d. declaration_of (types_of t.terms.items) d) o) (declared_as-there t.terms.items t.declared.items name i table.terms table.size within is)
 
-  set_here : slice_index_or x.items id.0 None ≡ Some (record { under = under; methods = methods })
-  set_here = ap (λ l. slice_index_or l id.0 None) is ∙ get_or-set_same mid.declared.items id.0 (Some (record { under = under; methods = methods })) None held
-
-  set_there : (i : ℕ) → i ≢ id.0 → slice_index_or x.items i None ≡ slice_index_or mid.declared.items i None
-  set_there i other = ap (λ l. slice_index_or l i None) is ∙ get_or-set_other mid.declared.items id.0 i (Some (record { under = under; methods = methods })) None other
-
-  still : (i : ℕ) (d : Declared) → slice_index_or x.items i None ≡ Some d → (b : Bool) → nat_eq i id.0 ≡ b → is_defined (type_number (types_of mid.terms.items) i) ≡ true
-  still i d e true same =
-      let at : i ≡ id.0 = (Decides-eqb i id.0).0 same in
-      ap (λ k. is_defined (type_number (types_of mid.terms.items) k)) at ∙ ap is_defined added.1
-  still i d e false differs =
-      let other : i ≢ id.0 = λ at. let same : nat_eq i id.0 ≡ true = (Decides-eqb i id.0).1 at in absurd cc in
-      grown.table.only i d (sym (set_there i other) ∙ e)
-
-  pub declares : Declares old (record { alloc = mid.alloc; terms = mid.terms; widths = mid.widths; declared = x; numbers = mid.numbers }) name under methods
-  declares = record {
-    table = record {
-      terms = grown.table.terms;
-      index = grown.table.index;
-      widths = grown.table.widths;
-      size = ap length is ∙ (length-set mid.declared.items id.0 (Some (record { under = under; methods = methods })) ∙ grown.table.size);
-      only = λ i d e. still i d e (nat_eq i id.0) refl;
-      ordered = grown.table.ordered;
-    };
-    extends = grown.extends;
-    at = id;
-    within = added.0;
-    is = added.1;
-    holds = set_here;
-    others = λ i other. set_there i other ∙ grown.declared i;
-  }
-
--- a basic type meets no name
-pub not_met : (t : TypeTable) (name : TypeName) (id : TypeId) (k : Kind) → IsTable t → ((i : ℕ) → declared_at t i ≡ None)
-    → type_number (types_of t.terms.items) id.0 ≡ BasicType k → Meets t name id → ⊥
-not_met t name _ k table none is (MeetsName id e) = absurd cc
-not_met t name _ k table none is (MeetsField id fields f e in_fields met) =
-    let spells = type_number-read t.terms.items id.0 (Struct fields) table.terms e in
-    let both : BasicType k ≡ StructOf (fields_of (types_of t.terms.items) fields) = sym is ∙ spells in absurd cc
-not_met t name _ k table none is (MeetsElement id of size e met) =
-    let spells = type_number-read t.terms.items id.0 (Array size of) table.terms e in
-    let both : BasicType k ≡ ArrayOf size (type_number (types_of t.terms.items) of.0) = sym is ∙ spells in absurd cc
-not_met t name _ k table none is (MeetsUnder id d e met) = let nothing : declared_at t id.0 ≡ None = none id.0 in absurd cc
+-- a table that has grown has no fewer types
+pub grown_more : (old new : TypeTable) → Grown old new → count old ≤ count new
+grown_more old new grown = extends-more old.terms.items new.terms.items grown.extends

@@ -48,7 +48,7 @@ module _ (a b : List GoType) (n : ℕ) (same : AgreeBelow n a b) where
       let first : type_at a id ≡ type_at b id = same id.0 (All-head (λ x. x.0 < n) id ids over) in
       let rest : types_at a ids ≡ types_at b ids = types_same ids (All-tail (λ x. x.0 < n) id ids over) in cc
 
-  signature_same : (s : Signature) → SignatureBelow n s → signature_of a s ≡ signature_of b s
+  pub signature_same : (s : Signature) → SignatureBelow n s → signature_of a s ≡ signature_of b s
   signature_same s over =
       let params : types_at a s.params ≡ types_at b s.params = types_same s.params over.0 in
       let results : types_at a s.results ≡ types_at b s.results = types_same s.results over.1 in cc
@@ -110,7 +110,7 @@ type_number-read terms i term table read =
     ap (λ x. type_number (types_of terms) x) (sym (zero-add i))
     ∙ reads_after [] terms i term read (λ j t there. subst (λ (x : ℕ). IsOver x t) (sym (zero-add j)) (table.over j t there))
 
-types_of-push : (terms : List Term) (term : Term) → types_of (terms ++ term ∷ []) ≡ types_of terms ++ type_of (types_of terms) term ∷ []
+pub types_of-push : (terms : List Term) (term : Term) → types_of (terms ++ term ∷ []) ≡ types_of terms ++ type_of (types_of terms) term ∷ []
 types_of-push terms term = types_after-append [] terms term
 
 pub extends-push : (terms : List Term) (term : Term) → Extends terms (terms ++ term ∷ [])
@@ -120,6 +120,13 @@ extends-push terms term i h = (
       ∙ (let k : i < length (types_of terms) = omega (arith, length-types_of terms) in
       get_or_append_left (types_of terms) (type_of (types_of terms) term ∷ []) (BasicType kind.Bool) i k),
 )
+
+-- types that keep their numbers are no more than there are
+pub extends-more : (old new : List Term) → Extends old new → length old ≤ length new
+extends-more old new extends = lesser (length old) refl where
+  lesser : (n : ℕ) → n ≡ length old → length old ≤ length new
+  lesser zero e = omega arith
+  lesser (suc n) e = let last : n < length new = (extends n (omega arith)).0 in omega arith
 
 pub extends-itself : (terms : List Term) → Extends terms terms
 extends-itself terms i h = (h, refl)
@@ -246,11 +253,14 @@ tagged T (Interface methods) = refl
 type_of-once : (T : List GoType) (n : ℕ) → AreApart T n → (a b : Term) → IsOver n a → IsOver n b → type_of T a ≡ type_of T b → a ≡ b
 type_of-once T n apart a b p q e = apart_alike T n apart (alike a b (sym (tagged T a) ∙ (ap type_tag e ∙ tagged T b))) p q e
 
-signature_more : (m n : ℕ) → m ≤ n → (s : Signature) → SignatureBelow m s → SignatureBelow n s
+pub signature_more : (m n : ℕ) → m ≤ n → (s : Signature) → SignatureBelow m s → SignatureBelow n s
 signature_more m n h s over = (
   All-weaker (λ (x : TypeId). x.0 < m) (λ (x : TypeId). x.0 < n) (λ x p. omega arith) s.params over.0,
   All-weaker (λ (x : TypeId). x.0 < m) (λ (x : TypeId). x.0 < n) (λ x p. omega arith) s.results over.1,
 )
+
+pub methods_more : (m n : ℕ) → m ≤ n → (methods : List Method) → MethodsBelow m methods → MethodsBelow n methods
+methods_more m n h methods over = All-weaker (λ (x : Method). SignatureBelow m x.of) (λ (x : Method). SignatureBelow n x.of) (λ x p. signature_more m n h x.of p) methods over
 
 pub over_more : (m n : ℕ) (t : Term) → m ≤ n → IsOver m t → IsOver n t
 over_more m n (Basic k) h over = tt
@@ -262,7 +272,7 @@ over_more m n (Map key of) h over = let k : key.0 < m = over.0 in let o : of.0 <
 over_more m n (Chan direction of) h over = omega arith
 over_more m n (Func of) h over = signature_more m n h of over
 over_more m n (Struct fields) h over = All-weaker (λ (f : Field). f.of.0 < m) (λ (f : Field). f.of.0 < n) (λ f p. omega arith) fields over
-over_more m n (Interface methods) h over = All-weaker (λ (x : Method). SignatureBelow m x.of) (λ (x : Method). SignatureBelow n x.of) (λ x p. signature_more m n h x.of p) methods over
+over_more m n (Interface methods) h over = methods_more m n h methods over
 
 -- the type of a term that isn't in the table isn't there either
 new_type : (terms : List Term) (term : Term) → AreTerms terms → IsOver (length terms) term → All (λ t. t ≢ term) terms

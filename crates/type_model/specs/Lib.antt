@@ -1,4 +1,8 @@
 pub mod GoTypes
+pub mod Parts
+pub mod Declarations
+pub mod Identity
+pub mod Examples
 pub mod Spelling
 pub mod Widths
 pub mod Tables

@@ -1,21 +1,20 @@
 -- A table of terms, in which no type stands twice.
-use Rattle.std.specs.Prelude.{◌≡◌, ◌≢◌, ℕ, ◌<◌, ◌≤◌, true, List, [], option_map, Option, Some, None, length, slice_get, slice_index_or, if◌then◌else◌, vec_len, vec_capacity, All}
+use Rattle.std.specs.Prelude.{◌≡◌, ◌≢◌, ℕ, ◌<◌, ◌≤◌, ◌&&◌, Bool, true, false, List, [], ◌∷◌, map, option_map, Option, Some, None, length, nat_eq, slice_get, slice_index_or, if◌then◌else◌, vec_len, vec_capacity, All}
 use Rattle.std.specs.HashMap.{HashMap, get_by}
-use Rattle.std.specs.List.{Contains}
 use Rattle.std.specs.Option.{option_map_or}
 use Rattle.std.specs.Str.{bytes_eq}
 use Rattle.std.specs.Global.{Vec}
 use Rattle.type_model.specs.declared.term.TypeId.{TypeId}
 use Rattle.type_model.specs.declared.term.Term.{Term}
-use Rattle.type_model.specs.declared.term.Term.TheVariants.{Array, Struct}
 use Rattle.type_model.specs.declared.term.TypeName.{TypeName}
-use Rattle.type_model.specs.declared.term.Field.{Field}
 use Rattle.type_model.specs.declared.term.Method.{Method}
 use Rattle.type_model.specs.declared.term.Declared.{Declared}
 use Rattle.type_model.specs.declared.table.TypeTable.{TypeTable}
 use Rattle.type_model.specs.declared.table.Added.{Added}
 use Rattle.type_model.specs.declared.table.Added.TheVariants.{Id, TooWide}
-use Rattle.type_model.specs.GoTypes.{GoType, BasicType, DefinedType, PointerTo, SliceOf, ArrayOf, MapOf, ChanOf, FuncOf, StructOf, InterfaceOf, is_defined, nodes, type_number, type_at, type_of, types_of, IsOver}
+use Rattle.type_model.specs.GoTypes.{GoType, BasicType, DefinedType, PointerTo, SliceOf, ArrayOf, MapOf, ChanOf, FuncOf, StructOf, InterfaceOf, is_defined, nodes, type_number, type_at, type_of, types_of, IsOver, MethodsBelow}
+use Rattle.type_model.specs.Parts.{method_of}
+use Rattle.type_model.specs.Declarations.{Declaration, Declarations, AllEnd}
 use Rattle.type_model.specs.Orders.{IsOrdered}
 use Rattle.type_model.specs.Spelling.{spelled}
 
@@ -43,7 +42,39 @@ pub record AreWidths (terms : List Term) (widths : List ℕ) : Type 0 where
 abbrev pub declared_at : TypeTable → ℕ → Option Declared
 declared_at t i = slice_index_or t.declared.items i None
 
--- what every table is; interfaces have their methods in order, and only defined types are declared
+-- whether the names are one
+abbrev pub is_same_name : TypeName → TypeName → Bool
+is_same_name a b = bytes_eq a.package b.package && (bytes_eq a.name b.name && nat_eq a.local b.local)
+
+-- whether the type is the defined type of this name
+abbrev pub is_named : TypeName → GoType → Bool
+is_named name (BasicType kind) = false
+is_named name (DefinedType other) = is_same_name name other
+is_named name (PointerTo of) = false
+is_named name (SliceOf of) = false
+is_named name (ArrayOf size of) = false
+is_named name (MapOf key of) = false
+is_named name (ChanOf direction of) = false
+is_named name (FuncOf of) = false
+is_named name (StructOf fields) = false
+is_named name (InterfaceOf methods) = false
+
+-- what stands beside the type of this name
+abbrev pub declared_as : TypeName → List GoType → List (Option Declared) → Option Declared
+declared_as name [] declared = None
+declared_as name (of ∷ types) [] = None
+declared_as name (of ∷ types) (d ∷ declared) = if is_named name of then d else declared_as name types declared
+
+-- the declaration that a declaration over numbered types stands for
+abbrev pub declaration_of : List GoType → Declared → Declaration
+declaration_of types d = record { under = type_at types d.under; methods = map (λ m. method_of types m) d.methods }
+
+-- what the defined types of a table are declared with
+abbrev pub declarations_in : TypeTable → Declarations
+declarations_in t name = option_map (λ d. declaration_of (types_of t.terms.items) d) (declared_as name (types_of t.terms.items) t.declared.items)
+
+-- what every table is; interfaces have their methods in order, only defined types are declared, with underlying types
+-- that aren't defined, and no declared type holds itself
 pub record IsTable (t : TypeTable) : Type 0 where
   pub terms : AreTerms t.terms.items
   pub index : IsIndex t.terms.items t.numbers
@@ -51,6 +82,9 @@ pub record IsTable (t : TypeTable) : Type 0 where
   pub size : length t.declared.items ≡ length t.terms.items
   pub only : (i : ℕ) (d : Declared) → declared_at t i ≡ Some d → is_defined (type_number (types_of t.terms.items) i) ≡ true
   pub ordered : (i : ℕ) (term : Term) → slice_get t.terms.items i ≡ Some term → IsOrdered term
+  pub inside : (i : ℕ) (d : Declared) → declared_at t i ≡ Some d → (d.under.0 < length t.terms.items) × MethodsBelow (length t.terms.items) d.methods
+  pub plain : (i : ℕ) (d : Declared) → declared_at t i ≡ Some d → is_defined (type_at (types_of t.terms.items) d.under) ≡ false
+  pub ends : AllEnd (declarations_in t)
 
 -- the terms of a table and the types that they spell, by number
 abbrev pub terms_in : TypeTable → List Term
@@ -88,6 +122,7 @@ pub record Grown (old new : TypeTable) : Type 0 where
   pub table : IsTable new
   pub extends : Extends (terms_in old) (terms_in new)
   pub declared : (i : ℕ) → declared_at new i ≡ declared_at old i
+  pub declarations : (name : TypeName) → declarations_in new name ≡ declarations_in old name
 
 -- the answer to a term that is added: the number of its type, or that it has more than 10,000 nodes
 abbrev pub IsAdded : TypeTable → TypeTable → Term → Added → Type 0
@@ -114,23 +149,9 @@ underlying_in t id = under_from (type_at (types_in t) id) (declared_at t id.0) i
 abbrev pub methods_in : TypeTable → TypeId → List Method
 methods_in t id = option_map_or (λ d. d.methods) (declared_at t id.0) []
 
--- the name is met from a type by struct fields, array elements and the underlying types of declared names
-pub data Meets (t : TypeTable) (name : TypeName) : TypeId → Type 0 where
-  MeetsName : (id : TypeId) → type_at (types_in t) id ≡ DefinedType name → Meets t name id
-  MeetsField : (id : TypeId) (fields : List Field) (f : Field) → slice_get t.terms.items id.0 ≡ Some (Struct fields) → Contains fields f → Meets t name f.of → Meets t name id
-  MeetsElement : (id of : TypeId) (size : ℕ) → slice_get t.terms.items id.0 ≡ Some (Array size of) → Meets t name of → Meets t name id
-  MeetsUnder : (id : TypeId) (d : Declared) → declared_at t id.0 ≡ Some d → Meets t name d.under → Meets t name id
-
--- no number of this defined type is declared
-abbrev pub IsUndeclared : TypeTable → TypeName → Type 0
-IsUndeclared t name = (i : ℕ) → type_number (types_in t) i ≡ DefinedType name → declared_at t i ≡ None
-
--- the defined type has this underlying type and these methods now; what stood, stands
+-- this name is declared with this underlying type and these methods now; what stood, stands
 pub record Declares (old new : TypeTable) (name : TypeName) (under : TypeId) (methods : List Method) : Type 0 where
   pub table : IsTable new
   pub extends : Extends (terms_in old) (terms_in new)
-  pub at : TypeId
-  pub within : at.0 < count new
-  pub is : type_at (types_in new) at ≡ DefinedType name
-  pub holds : declared_at new at.0 ≡ Some (record { under = under; methods = methods })
-  pub others : (i : ℕ) → i ≢ at.0 → declared_at new i ≡ declared_at old i
+  pub here : declarations_in new name ≡ Some (declaration_of (types_in old) (record { under = under; methods = methods }))
+  pub others : (other : TypeName) → other ≢ name → declarations_in new other ≡ declarations_in old other

@@ -1,8 +1,12 @@
 //! The types that have been met, by number.
-ghost use Rattle.std.specs.Prelude.{ℕ, ◌≡◌, ◌↔◌, ◌+◌, ◌<◌, ◌≤◌, ◌++◌, ◌∷◌, [], None, false, option_map, IfOk, OnOk, OnErr, IsTrue, length, vec_len, vec_capacity};
+ghost use Rattle.std.specs.Prelude.{ℕ, ◌≡◌, ◌↔◌, ◌+◌, ◌<◌, ◌≤◌, ◌++◌, ◌∷◌, [], None, false, map, option_map, IfOk, IfSome, OnOk, OnErr, IsTrue, length, vec_len, vec_capacity};
+ghost use Rattle.type_model.specs.declared.term.TypeName.{TypeName};
 ghost use Rattle.type_model.specs.GoTypes.{IsOver, MethodsBelow, is_defined as is_defined_type, type_at, type_of};
+ghost use Rattle.type_model.specs.Parts.{method_of};
+ghost use Rattle.type_model.specs.Declarations.{under_of, declared_methods, Meets};
+ghost use Rattle.type_model.specs.Identity.{Identical};
 ghost use Rattle.type_model.specs.Orders.{IsOrdered};
-ghost use Rattle.type_model.specs.Tables.{found, IsTable, Grown, IsAdded, IsSame, HasRoom, PutsKey, declared_at, underlying_in, methods_in, IsUndeclared, Meets, Declares, terms_in, types_in, count};
+ghost use Rattle.type_model.specs.Tables.{found, IsTable, Grown, IsAdded, IsSame, HasRoom, PutsKey, declared_at, declarations_in, underlying_in, methods_in, Declares, terms_in, types_in, count};
 
 use crate::spelling::spell;
 use crate::term::{Declared, Method, Term, TypeId, TypeName};
@@ -60,7 +64,7 @@ impl TypeTable {
     pub fn new(alloc: Global) -> Result<TypeTable, NoMemory>
         ensures table { IfOk result (λ t. IsTable t) }
         ensures empty { IfOk result (λ t. terms_in t ≡ []) }
-        ensures undeclared { IfOk result (λ t. (i : ℕ) → declared_at t i ≡ None) }
+        ensures undeclared { IfOk result (λ t. (name : TypeName) → declarations_in t name ≡ None) }
     {
         Ok(TypeTable {
             alloc,
@@ -76,7 +80,8 @@ impl TypeTable {
         requires table { IsTable self.now }
         requires first { a.0 < count self.now }
         requires second { b.0 < count self.now }
-        ensures { IsTrue result ↔ (type_at (types_in self.now) a ≡ type_at (types_in self.now) b) }
+        ensures identical { IsTrue result ↔ Identical (type_at (types_in self.now) a) (type_at (types_in self.now) b) }
+        ensures one { IsTrue result ↔ (type_at (types_in self.now) a ≡ type_at (types_in self.now) b) }
     {
         a.0 == b.0
     }
@@ -161,9 +166,7 @@ impl TypeTable {
         }
     }
 
-    /// The underlying type (Go 1.17, "Types"); None exactly where the type is a defined type that
-    /// isn't declared.
-    pub fn underlying(&self, a: TypeId) -> Option<TypeId>
+    fn number_under(&self, a: TypeId) -> Option<TypeId>
         requires table { IsTable self.now }
         requires within { a.0 < count self.now }
         ensures { result ≡ underlying_in self.now a }
@@ -175,8 +178,19 @@ impl TypeTable {
         }
     }
 
-    /// The methods that a defined type is declared with; none for every other type.
-    pub fn methods(&self, a: TypeId) -> &[Method]
+    /// The underlying type (Go 1.17, "Types"); None exactly where the type is a defined type that
+    /// isn't declared. It isn't a defined type.
+    pub fn underlying(&self, a: TypeId) -> Option<TypeId>
+        requires table { IsTable self.now }
+        requires within { a.0 < count self.now }
+        ensures is { option_map (λ id. type_at (types_in self.now) id) result ≡ under_of (declarations_in self.now) (type_at (types_in self.now) a) }
+        ensures within { IfSome result (λ id. id.0 < count self.now) }
+        ensures plain { IfSome result (λ id. is_defined_type (type_at (types_in self.now) id) ≡ false) }
+    {
+        self.number_under(a)
+    }
+
+    fn own_methods(&self, a: TypeId) -> &[Method]
         requires table { IsTable self.now }
         requires within { a.0 < count self.now }
         ensures { result.now ≡ methods_in self.now a }
@@ -185,6 +199,16 @@ impl TypeTable {
             Some(declared) => declared.methods.as_slice(),
             None => &[],
         }
+    }
+
+    /// The methods that a defined type is declared with; none for every other type.
+    pub fn methods(&self, a: TypeId) -> &[Method]
+        requires table { IsTable self.now }
+        requires within { a.0 < count self.now }
+        ensures are { map (λ m. method_of (types_in self.now) m) result.now ≡ declared_methods (declarations_in self.now) (type_at (types_in self.now) a) }
+        ensures below { MethodsBelow (count self.now) result.now }
+    {
+        self.own_methods(a)
     }
 
     /// Declares a defined type with its underlying type and its methods (Go 1.17, "Type
@@ -198,9 +222,9 @@ impl TypeTable {
         requires table { IsTable self.old }
         requires under { under.0 < count self.old }
         requires methods { MethodsBelow (count self.old) methods.items }
-        requires fresh { IsUndeclared self.old name }
+        requires fresh { declarations_in self.old name ≡ None }
         requires plain { is_defined_type (type_at (types_in self.old) under) ≡ false }
-        requires apart { ¬ Meets self.old name under }
+        requires apart { ¬ Meets (declarations_in self.old) name (type_at (types_in self.old) under) }
         ensures declared { OnOk result (Declares self.old self.new name under methods.items) }
         ensures unchanged { OnErr result (IsSame self.old self.new) }
         ensures table { IsTable self.new }

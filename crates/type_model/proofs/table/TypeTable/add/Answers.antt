@@ -1,7 +1,7 @@
 use Rattle.std.proofs.Common.{◌≡◌, ◌++◌, ◌∷◌, [], None, length, sym, ap, ◌∙◌, arith}
 use Rattle.type_model.specs.Widths.{capped, width}
 use Rattle.type_model.specs.Tables.{found}
-use Rattle.type_model.proofs.StateLaws.{known, too_wide, grown_push, added_push, puts_from}
+use Rattle.type_model.proofs.StateLaws.{known, too_wide, grown_same, entries_same, grown_push, added_push, puts_from}
 use Rattle.type_model.proofs.table.TypeTable.add.Goals as goal
 
 pub returns-in-Some-clause-added : goal.returns-in-Some-clause-added
@@ -38,3 +38,13 @@ returns-clause-added c =
     (c.push_sure.ensures ∙ ap (λ l. l ++ c.args.term ∷ []) c.reserve.ensures.same.terms)
     (c.push_sure-2.ensures ∙ ap (λ l. l ++ c.width_of-width.result ∷ []) c.reserve.ensures.same.widths)
     (c.push_sure-3.ensures ∙ ap (λ l. l ++ None ∷ []) c.reserve.ensures.same.declared)
+
+pub returns-in_err-reserve-clause-grown : goal.returns-in_err-reserve-clause-grown
+returns-in_err-reserve-clause-grown c =
+    grown_same c.args.self.now c.reserve.new.self c.requires.table c.reserve.ensures.same (entries_same c.reserve.new.self.numbers c.args.self.now.numbers c.reserve.ensures.numbers)
+
+pub returns-in_err-keep-clause-grown : goal.returns-in_err-keep-clause-grown
+returns-in_err-keep-clause-grown c =
+    grown_same c.args.self.now (record { alloc = c.reserve.new.self.alloc; terms = c.reserve.new.self.terms; widths = c.reserve.new.self.widths; declared = c.reserve.new.self.declared; numbers = c.keep.new.numbers })
+    c.requires.table (record { terms = c.reserve.ensures.same.terms; widths = c.reserve.ensures.same.widths; declared = c.reserve.ensures.same.declared })
+    (c.in_err-keep.ensures.unchanged ∙ entries_same c.reserve.new.self.numbers c.args.self.now.numbers c.reserve.ensures.numbers)
