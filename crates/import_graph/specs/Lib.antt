@@ -1,0 +1,5 @@
+pub mod Sources
+pub mod Modules
+pub mod Orders
+pub mod Packages
+pub mod Tables
