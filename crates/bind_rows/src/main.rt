@@ -1,0 +1,20 @@
+//! Prints what each use of a name in each Go file on its standard input denotes. A file ends before a line `%%`.
+#![tactic(auto)]
+
+mod file;
+mod ready;
+mod row;
+
+use anyhow::Result;
+use std::io::Read;
+
+fn main(rt: HostRuntime) -> Result<()> {
+    let mut input = Vec::new(rt.alloc());
+    rt.stdin().read_to_end(&mut input)?;
+    let mut rest = input.as_slice();
+    while let Some((text, more)) = row::cut(rest) {
+        row::print_uses(&rt, rt.alloc(), text)?;
+        rest = more;
+    }
+    Ok(())
+}

@@ -1,0 +1,4 @@
+pub mod VisibleLemmas
+pub mod FirstLemmas
+pub mod RegionLemmas
+pub mod WalkLemmas
