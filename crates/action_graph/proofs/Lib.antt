@@ -1,2 +1,4 @@
 pub mod Lines
-mod NodeLemmas
+pub mod JudgingLaws
+pub mod NodeLemmas
+mod ReadyLemmas

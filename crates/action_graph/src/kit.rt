@@ -1,5 +1,6 @@
 //! What types packages.
-ghost use Rattle.std.specs.Prelude.{◌≡◌, ◌+◌, ◌<◌, ◌^◌, ℕ, OnOk, OnErr};
+ghost use Rattle.std.specs.Prelude.{◌≡◌, ◌+◌, ◌<◌, ◌^◌, ℕ, IfOk, OnOk, OnErr};
+ghost use Rattle.action_graph.specs.Judging.{IsLawful, IsOutcome, load_text};
 
 use gv_base::{Bytes, NoMemory, Row, Text};
 
@@ -45,6 +46,7 @@ pub trait Kit {
     /// Loads a package.
     fn load(&mut self, input: &LoadInput) -> Result<Load<Self::Loaded>, NoMemory>
         requires { loads self.old < 2 ^ 63 }
+        ensures right { IsLawful input.now → IfOk result (λ answer. IsOutcome input.now (load_text answer)) }
         ensures counted { OnOk result (loads self.new ≡ loads self.old + 1) }
         ensures refused { OnErr result (loads self.new ≡ loads self.old) }
         ensures runs { runs self.new ≡ runs self.old };

@@ -1,3 +1,5 @@
+ghost use Rattle.std.specs.Prelude.{◌≡◌, IfOk, length};
+
 use super::*;
 use gv_base::{Bytes, NoMemory, Place, Row, Text};
 use std::alloc::Global;
@@ -71,6 +73,71 @@ fn texts_of_a_load(rt: HostRuntime) -> Result<(), Fail> {
     assert_eq!(rt; texts.as_slice().len(), expected.len());
     for (text, bytes) in texts.iter().zip(expected.iter()) {
         assert_eq!(rt; text.as_slice(), *bytes);
+    }
+    Ok(())
+}
+
+fn numbers(alloc: Global, numbers: &[u32]) -> Result<Row<u32>, NoMemory> {
+    Ok(Row::new(numbers.to_vec(alloc)?))
+}
+
+fn line(imports: Row<u32>, stub: bool) -> PackageLine {
+    let sound = true;
+    PackageLine {
+        imports,
+        sound,
+        stub,
+    }
+}
+
+/// m/p imports m/q, which imports the stub os.
+fn three_packages(alloc: Global) -> Result<Vec<PackageLine>, NoMemory>
+    ensures { IfOk result (λ v. length v.items ≡ 3) }
+{
+    let mut lines = Vec::new(alloc);
+    lines.push(line(numbers(alloc, &[1])?, false))?;
+    lines.push(line(numbers(alloc, &[2])?, false))?;
+    lines.push(line(numbers(alloc, &[])?, true))?;
+    Ok(lines)
+}
+
+fn three_environments(alloc: Global) -> Result<Vec<Row<u32>>, NoMemory>
+    ensures { IfOk result (λ v. length v.items ≡ 3) }
+{
+    let mut rows = Vec::new(alloc);
+    rows.push(numbers(alloc, &[1])?)?;
+    rows.push(numbers(alloc, &[2])?)?;
+    rows.push(numbers(alloc, &[])?)?;
+    Ok(rows)
+}
+
+fn ready_of_three(
+    alloc: Global,
+    done: &[ActionNode],
+    accepted: &[bool; 3],
+    only: u16,
+) -> Result<Vec<ActionNode>, NoMemory> {
+    let lines = three_packages(alloc)?;
+    let rows = three_environments(alloc)?;
+    let nodes = ready(alloc, done, accepted, &lines, &rows, only)?;
+    Ok(nodes)
+}
+
+#[rattlefmt::skip]
+#[test]
+fn nodes_become_ready_in_turn(rt: HostRuntime) -> Result<(), Fail> {
+    let alloc = rt.alloc();
+    let rows: [(&[ActionNode], [bool; 3], u16, &[ActionNode]); 5] = [
+        (&[], [false, false, false], 2046, &[ActionNode::Load(2)]),
+        (&[ActionNode::Load(2)], [false, false, false], 2046, &[]),
+        (&[ActionNode::Load(2)], [false, false, true], 2046, &[ActionNode::Load(1), ActionNode::Run(4, 2), ActionNode::Run(6, 2)]),
+        (&[ActionNode::Load(2), ActionNode::Load(1)], [false, true, true], 0, &[ActionNode::Load(0)]),
+        (&[ActionNode::Run(4, 2), ActionNode::Load(1), ActionNode::Load(2)], [false, true, true], 18,
+            &[ActionNode::Load(0), ActionNode::Run(1, 1), ActionNode::Run(4, 1)]),
+    ];
+    for (done, accepted, only, expected) in rows {
+        let nodes = ready_of_three(alloc, done, &accepted, only)?;
+        assert_eq!(rt; nodes.as_slice(), expected);
     }
     Ok(())
 }

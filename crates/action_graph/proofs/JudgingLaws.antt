@@ -1,0 +1,98 @@
+-- What a run may know of the rules: there is one finding, and an interface has the path of its package.
+use Rattle.std.proofs.Common.{◌≡◌, ℕ, ◌<◌, ◌++◌, ◌⊎◌, inl, inr, Bool, true, false, Some, List, [], ◌∷◌, get_or, refl, sym, ap, ◌∙◌, subst, arith}
+use Rattle.std.specs.Prelude.{codes}
+use Rattle.std.specs.Str.{is_utf8}
+use Rattle.std.proofs.lemmas.Option.{same_Some}
+use Rattle.export_data.specs.declared.constants.ConstInterface.{ConstInterface}
+use Rattle.export_data.specs.Spelling.{IsSpelled}
+use Rattle.export_data.proofs.Interfaces.{spelled_is_read}
+use Rattle.gv_bytes.proofs.Options.{some_is}
+use Rattle.action_graph.specs.declared.kit.LoadInput.{LoadInput}
+use Rattle.action_graph.specs.declared.marks.MarkLine.{MarkLine}
+use Rattle.action_graph.specs.Nodes.{Named, load_texts}
+use Rattle.action_graph.specs.Marks.{AreSpelled, marks_of}
+use Rattle.action_graph.specs.Judging.{Judged, Env, Judges, judged_files, judged_text, judged_named, has_name, AreInterfaces, IsLawful, IsOutcome, IsOutcomeOf, Tells, accepted_text, refused_text}
+use Rattle.action_graph.specs.Judging.Judged.{Accepts, Refuses}
+use Rattle.action_graph.proofs.NodeLemmas.{one_load}
+use Rattle.action_graph.proofs.Lines.{spelled_is_read as marks_are_read}
+
+-- there is one finding
+pub judges_once : (path : List ℕ) (files : List Named) (env : Env) (a b : Judged) → Judges path files env a → Judges path files env b → a ≡ b
+unfolding Judges
+judges_once path files env a b h g = h ∙ sym g
+
+face_or : ConstInterface → Judged → ConstInterface
+face_or d (Accepts i) = i
+face_or d (Refuses list) = d
+
+pub same_accepts : (i k : ConstInterface) → Accepts i ≡ Accepts k → i ≡ k
+unfolding face_or
+same_accepts i k h = ap (face_or i) h
+
+named_path : (path name : List ℕ) (b : Bool) (i : ConstInterface) → Accepts i ≡ judged_named path name b → i.path ≡ path
+named_path path name true i h = cc
+named_path path name false i h = ap (λ (x : ConstInterface). x.path) (same_accepts i (record { path = path; name = name; list = [] }) h)
+
+text_path : (path name : List ℕ) (env : Env) (b : Bool) (i : ConstInterface) → Accepts i ≡ judged_text path name env b → i.path ≡ path
+text_path path name env true i h = named_path path name (has_name name env) i h
+text_path path name env false i h = cc
+
+files_path : (path : List ℕ) (files : List Named) (env : Env) (i : ConstInterface) → Accepts i ≡ judged_files path files env → i.path ≡ path
+files_path path [] env i h = cc
+files_path path (file ∷ files) env i h = text_path path file.1 env (is_utf8 file.1) i h
+
+-- an interface has the path of its package
+pub accepts_path : (path : List ℕ) (files : List Named) (env : Env) (i : ConstInterface) → Judges path files env (Accepts i) → i.path ≡ path
+unfolding Judges
+accepts_path path files env i h = files_path path files env i h
+
+-- a text spells one interface
+pub one_face : (i k : ConstInterface) (text : List ℕ) → IsSpelled i text → IsSpelled k text → i ≡ k
+one_face i k text a b = same_Some i k (sym (spelled_is_read text i a) ∙ spelled_is_read text k b)
+
+pub faces_once : (xs : List Named) (a b : Env) → AreInterfaces xs a → AreInterfaces xs b → a ≡ b
+faces_once [] [] [] h g = refl
+faces_once [] [] (k ∷ b) h g = absurd g
+faces_once [] (i ∷ a) b h g = absurd h
+faces_once (x ∷ xs) [] b h g = absurd h
+faces_once (x ∷ xs) (i ∷ a) [] h g = absurd g
+faces_once (x ∷ xs) (i ∷ a) (k ∷ b) h g =
+    ap (λ (y : ConstInterface). y ∷ a) (one_face i k x.1 h.0 g.0) ∙ ap (λ (l : Env). k ∷ l) (faces_once xs a b h.2 g.2)
+
+-- a finding has one text
+pub tells_once : (judged : Judged) (a b : List ℕ) → Tells judged a → Tells judged b → a ≡ b
+tells_once (Accepts i) a b (e, s, h) (f, t, g) = h ∙ (ap accepted_text (s.whole ∙ sym t.whole) ∙ sym g)
+tells_once (Refuses list) a b (e, s, h) (f, t, g) = h ∙ (ap refused_text (s.whole ∙ sym t.whole) ∙ sym g)
+
+other_digit : (a b : ℕ) → a ≡ b → (a < b) ⊎ (b < a) → ⊥
+other_digit a b e (inl l) = omega (arith, e, l)
+other_digit a b e (inr l) = omega (arith, e, l)
+
+-- what an outcome text tells
+pub tells_accepted : (judged : Judged) (export : List ℕ) → Tells judged (accepted_text export) → (i : ConstInterface) × (judged ≡ Accepts i) × IsSpelled i export
+tells_accepted (Accepts i) export (e, s, h) =
+    let same : e ≡ export = cc in
+    (i, refl, subst (λ (l : List ℕ). IsSpelled i l) same s)
+tells_accepted (Refuses list) export (e, s, h) = absurd (other_digit 49 48 (ap (λ (l : List ℕ). get_or l 0 0) h) (inr (omega arith)))
+
+pub tells_refused : (judged : Judged) (marks : List ℕ) → Tells judged (refused_text marks) → (list : List MarkLine) × (judged ≡ Refuses list) × AreSpelled list marks
+tells_refused (Accepts i) marks (e, s, h) = absurd (other_digit 48 49 (ap (λ (l : List ℕ). get_or l 0 0) h) (inl (omega arith)))
+tells_refused (Refuses list) marks (e, s, h) =
+    let same : e ≡ marks = cc in
+    (list, refl, subst (λ (l : List ℕ). AreSpelled list l) same s)
+
+-- a text spells one list of marks
+pub one_list : (a b : List MarkLine) (text : List ℕ) → AreSpelled a text → AreSpelled b text → a ≡ b
+one_list a b text h g = some_is a b (sym (marks_are_read text a h) ∙ marks_are_read text b g)
+
+pub outcome_once : (load : LoadInput) (a b : List ℕ) → IsOutcome load a → IsOutcome load b → a ≡ b
+outcome_once load a b h g =
+    let env : h.env ≡ g.env = faces_once load.env h.env g.env h.faces g.faces in
+    let judged : h.judged ≡ g.judged = judges_once load.path load.files g.env h.judged g.judged
+    (subst (λ (e : Env). Judges load.path load.files e h.judged) env h.judges) g.judges in
+    tells_once g.judged a b (subst (λ (j : Judged). Tells j a) judged h.tells) g.tells
+
+pub outcome_of_once : (texts : List (List ℕ)) (a b : List ℕ) → IsOutcomeOf texts a → IsOutcomeOf texts b → a ≡ b
+outcome_of_once texts a b h g =
+    let load : h.load ≡ g.load = one_load h.load g.load h.lawful.source.named g.lawful.source.named (sym h.is ∙ g.is) in
+    outcome_once g.load a b (subst (λ (l : LoadInput). IsOutcome l a) load h.outcome) g.outcome

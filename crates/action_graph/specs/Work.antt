@@ -1,0 +1,31 @@
+-- The nodes of a run's work, and their order.
+use Rattle.std.specs.Prelude.{◌≡◌, ℕ, ◌+◌, ◌*◌, ◌/◌, ◌%◌, ◌^◌, ◌<◌, ◌==◌, Bool, true, if◌then◌else◌}
+use Rattle.action_graph.specs.declared.work.ActionNode.{ActionNode}
+use Rattle.action_graph.specs.declared.work.ActionNode.TheVariants.{Load, Run}
+
+-- a node's place in the order of nodes: by package, its load first, then by analyzer
+abbrev pub place_of : ActionNode → ℕ
+place_of (Load p) = p * 16
+place_of (Run a p) = p * 16 + a
+
+-- the number of the node's package
+abbrev pub package_of : ActionNode → ℕ
+package_of (Load p) = p
+package_of (Run a p) = p
+
+-- an analyzer's number
+abbrev pub IsAnalyzer : ℕ → Type 0
+IsAnalyzer a = (0 < a) × (a < 16)
+
+-- a load, or a run of an analyzer
+abbrev pub IsNumbered : ActionNode → Type 0
+IsNumbered (Load p) = Unit {0}
+IsNumbered (Run a p) = IsAnalyzer a
+
+-- ctrlflow and printf, which give facts and read those of the packages of the environment
+abbrev pub has_facts : ℕ → Bool
+has_facts a = if a == 4 then true else a == 6
+
+-- the bit of the analyzer is set
+abbrev pub IsChosen : ℕ → ℕ → Type 0
+IsChosen only a = only / 2 ^ a % 2 ≡ 1

@@ -1,0 +1,11 @@
+mod Places
+mod WholeLaws
+mod CacheLaws
+mod TableLaws
+mod WaveLaws
+mod StepLaws
+mod KeepLaws
+mod ReportLaws
+mod RunLaws
+mod OnceLaws
+mod PerformLaws

@@ -1,0 +1,195 @@
+-- A package has one finding, and a load one input.
+use Rattle.std.proofs.Common.{◌≡◌, ℕ, ◌<◌, ◌+◌, ◌⊎◌, inl, inr, true, false, Option, Some, List, [], ◌∷◌, ◌++◌, length, slice_get, get_or, map, refl, sym, ap, ◌∙◌, subst, arith, zero, suc}
+use Rattle.std.specs.List.{Contains}
+use Rattle.std.proofs.lemmas.Option.{same_Some, slice_get_within}
+use Rattle.gv_base.specs.Files.{is_before}
+use Rattle.gv_base.proofs.FileLemmas.{before-flip}
+use Rattle.export_data.specs.declared.constants.ConstInterface.{ConstInterface}
+use Rattle.export_data.specs.Spelling.{IsSpelled, interface}
+use Rattle.action_graph.specs.declared.kit.LoadInput.{LoadInput}
+use Rattle.action_graph.specs.Nodes.{Named, pairs, load_texts}
+use Rattle.action_graph.specs.Judging.{Judged, Env, Judges, AreInterfaces, IsOutcome, IsLawful, IsSource, Tells}
+use Rattle.action_graph.specs.Judging.Judged.{Accepts, Refuses}
+use Rattle.action_graph.proofs.JudgingLaws.{judges_once, same_accepts, accepts_path, one_face}
+use Rattle.fact_cache.specs.declared.texts.Input.{Input}
+use Rattle.gv_driver.specs.declared.tree.PackageTexts.{PackageTexts}
+use Rattle.gv_driver.specs.Trees.{Imports, IsTree}
+use Rattle.gv_driver.specs.Whole.{Checked}
+use Rattle.gv_driver.specs.Whole.Checked.{checked}
+use Rattle.gv_driver.specs.Loads.{IsExport, AreExports, IsLoadOf, IsInput, IsPlan, load_input}
+use Rattle.gv_driver.proofs.Places.{element, same-list, same-options}
+
+pub same_pack : (tree : List PackageTexts) (p : ℕ) (a b : PackageTexts) → slice_get tree p ≡ Some a → slice_get tree p ≡ Some b → a ≡ b
+same_pack tree p a b e f = same_Some a b (sym e ∙ f)
+
+faces-alike : (tree : List PackageTexts) (a b : PackageTexts) (env other : Env) → a ≡ b → length env ≡ length a.imports → length other ≡ length b.imports
+    → ((k q : ℕ) (i : ConstInterface) → slice_get a.imports k ≡ Some q → slice_get env k ≡ Some i → (l : Judged) → Checked tree q l → Accepts i ≡ l)
+    → ((k q : ℕ) (i : ConstInterface) → slice_get b.imports k ≡ Some q → slice_get other k ≡ Some i → Checked tree q (Accepts i))
+    → (k : ℕ) → k < length env → slice_get env k ≡ slice_get other k
+faces-alike tree a b env other is size size2 same each k l =
+    let m : length a.imports ≡ length b.imports = ap (λ (z : PackageTexts). length z.imports) is in
+    let in_a : k < length a.imports = omega (arith, l, size) in
+    let in_b : k < length other = omega (arith, l, size, m, size2) in
+    let x = element env k l in
+    let y = element other k in_b in
+    let q = element a.imports k in_a in
+    let g : slice_get b.imports k ≡ Some q.0 = subst (λ (z : PackageTexts). slice_get z.imports k ≡ Some q.0) is q.1 in
+    let e : x.0 ≡ y.0 = same_accepts x.0 y.0 (same k q.0 x.0 q.1 x.1 (Accepts y.0) (each k q.0 y.0 g y.1)) in
+    x.1 ∙ (ap (λ i. Some i) e ∙ sym y.1)
+
+unique-with : (tree : List PackageTexts) (p : ℕ) (pack : PackageTexts) (env : Env) (judged : Judged) → slice_get tree p ≡ Some pack → length env ≡ length pack.imports
+    → ((k q : ℕ) (i : ConstInterface) → slice_get pack.imports k ≡ Some q → slice_get env k ≡ Some i → (l : Judged) → Checked tree q l → Accepts i ≡ l)
+    → Judges pack.path pack.files env judged → (w : Judged) → Checked tree p w → judged ≡ w
+unique-with tree _ pack env judged at size same judges _ (checked p pack2 env2 w at2 sound2 size2 each2 judges2) =
+    let is : pack ≡ pack2 = same_pack tree p pack pack2 at at2 in
+    let long : length env ≡ length env2 = size ∙ (ap (λ (x : PackageTexts). length x.imports) is ∙ sym size2) in
+    let alike : env ≡ env2 = same-list env env2 long (faces-alike tree pack pack2 env env2 is size size2 same each2) in
+    judges_once pack2.path pack2.files env2 judged w
+    (subst (λ (x : PackageTexts). Judges x.path x.files env2 judged) is (subst (λ (e : Env). Judges pack.path pack.files e judged) alike judges)) judges2
+
+-- a package has one finding
+pub unique : (tree : List PackageTexts) (p : ℕ) (v w : Judged) → Checked tree p v → Checked tree p w → v ≡ w
+unique tree _ _ w (checked p pack env v at sound size each judges) other =
+    unique-with tree p pack env v at size (λ k q i a b l c. unique tree q (Accepts i) l (each k q i a b) c) judges w other
+
+pub unique-face : (tree : List PackageTexts) (p : ℕ) (i k : ConstInterface) → Checked tree p (Accepts i) → Checked tree p (Accepts k) → i ≡ k
+unique-face tree p i k a b = same_accepts i k (unique tree p (Accepts i) (Accepts k) a b)
+
+path-with : (tree : List PackageTexts) (q : ℕ) (v : Judged) (i : ConstInterface) → Checked tree q v → v ≡ Accepts i → (other : PackageTexts) → slice_get tree q ≡ Some other → i.path ≡ other.path
+path-with tree _ _ i (checked p pack env v at sound size each judges) e other at2 =
+    accepts_path pack.path pack.files env i (subst (λ (j : Judged). Judges pack.path pack.files env j) e judges)
+    ∙ ap (λ (x : PackageTexts). x.path) (same_pack tree p pack other at at2)
+
+-- an interface has the path of its package
+pub face-path : (tree : List PackageTexts) (q : ℕ) (i : ConstInterface) (other : PackageTexts) → Checked tree q (Accepts i) → slice_get tree q ≡ Some other → i.path ≡ other.path
+face-path tree q i other good at = path-with tree q (Accepts i) i good refl other at
+
+pub faces-length : (xs : List Named) (env : Env) → AreInterfaces xs env → length env ≡ length xs
+faces-length [] [] h = refl
+faces-length [] (i ∷ env) h = absurd h
+faces-length (x ∷ xs) [] h = absurd h
+faces-length (x ∷ xs) (i ∷ env) h = ap (λ n. suc n) (faces-length xs env h.2)
+
+pub face-at : (xs : List Named) (env : Env) (k : ℕ) (x : Named) (i : ConstInterface) → AreInterfaces xs env → slice_get xs k ≡ Some x → slice_get env k ≡ Some i → IsSpelled i x.1
+face-at [] env k x i h a b = cc
+face-at (y ∷ ys) [] k x i h a b = absurd h
+face-at (y ∷ ys) (j ∷ env) zero x i h a b =
+    subst (λ (z : ConstInterface). IsSpelled z x.1) (same_Some j i b) (subst (λ (z : Named). IsSpelled j z.1) (same_Some y x a) h.0)
+face-at (y ∷ ys) (j ∷ env) (suc k) x i h a b = face-at ys env k x i h.2 a b
+
+-- what comes of a package's load is what comes of the package
+pub judged-of : (tree : List PackageTexts) (p : ℕ) (load : LoadInput) (text : List ℕ) → IsLoadOf tree p load → IsOutcome load text → (v : Judged) × Checked tree p v × Tells v text
+judged-of tree p load text is out =
+    let long : length out.env ≡ length load.env = faces-length load.env out.env out.faces in
+    let judges : Judges is.pack.path is.pack.files out.env out.judged =
+    subst (λ (l : List Named). Judges is.pack.path l out.env out.judged) is.files
+    (subst (λ (l : List ℕ). Judges l load.files out.env out.judged) is.path out.judges) in
+    let each : (k q : ℕ) (i : ConstInterface) → slice_get is.pack.imports k ≡ Some q → slice_get out.env k ≡ Some i → Checked tree q (Accepts i) = λ k q i a b.
+    face-checked k q i a b in
+    (out.judged, checked p is.pack out.env out.judged is.at is.sound (long ∙ is.env.size) each judges, out.tells)
+  where
+    face-checked : (k q : ℕ) (i : ConstInterface) → slice_get is.pack.imports k ≡ Some q → slice_get out.env k ≡ Some i → Checked tree q (Accepts i)
+    face-checked k q i a b =
+        let within : k < length out.env = slice_get_within out.env k i b in
+        let long : length out.env ≡ length load.env = faces-length load.env out.env out.faces in
+        let x = element load.env k (omega (arith, within, long)) in
+        let ex = is.env.each k q x.0 a x.1 in
+        subst (λ (j : ConstInterface). Checked tree q (Accepts j)) (one_face ex.face i x.0.1 ex.spelled (face-at load.env out.env k x.0 i out.faces x.1 b)) ex.good
+
+same-named : (x y : Named) → x.0 ≡ y.0 → x.1 ≡ y.1 → x ≡ y
+same-named x y a b = ap (λ (p : List ℕ). (p, x.1)) a ∙ ap (λ (t : List ℕ). (y.0, t)) b
+
+exports-alike : (tree : List PackageTexts) (imports : List ℕ) (a b : List Named) → AreExports tree imports a → AreExports tree imports b → (k : ℕ) → k < length a → slice_get a k ≡ slice_get b k
+exports-alike tree imports a b one two k l =
+    let size_a : length a ≡ length imports = one.size in
+    let size_b : length b ≡ length imports = two.size in
+    let x = element a k l in
+    let y = element b k (omega (arith, l, size_a, size_b)) in
+    let q = element imports k (omega (arith, l, size_a)) in
+    let ex = one.each k q.0 x.0 q.1 x.1 in
+    let ey = two.each k q.0 y.0 q.1 y.1 in
+    let path : x.0.0 ≡ y.0.0 = ex.path ∙ (ap (λ (z : PackageTexts). z.path) (same_pack tree q.0 ex.other ey.other ex.at ey.at) ∙ sym ey.path) in
+    let face : ex.face ≡ ey.face = unique-face tree q.0 ex.face ey.face ex.good ey.good in
+    let text : x.0.1 ≡ y.0.1 = ex.spelled.whole ∙ (ap interface face ∙ sym ey.spelled.whole) in
+    x.1 ∙ (ap (λ z. Some z) (same-named x.0 y.0 path text) ∙ sym y.1)
+
+same-texts : (a b : LoadInput) → a.path ≡ b.path → a.files ≡ b.files → a.env ≡ b.env → load_texts a ≡ load_texts b
+same-texts a b p f e =
+    ap (λ (x : List ℕ). x ∷ (pairs a.files ++ [] ∷ pairs a.env)) p
+    ∙ (ap (λ (x : List Named). b.path ∷ (pairs x ++ [] ∷ pairs a.env)) f
+    ∙ ap (λ (x : List Named). b.path ∷ (pairs b.files ++ [] ∷ pairs x)) e)
+
+-- a load has one input
+pub unique-input : (tree : List PackageTexts) (p : ℕ) (s t : Input) → IsInput tree p s → IsInput tree p t → s ≡ t
+unique-input tree p s t a b =
+    let is : a.of.pack ≡ b.of.pack = same_pack tree p a.of.pack b.of.pack a.of.at b.of.at in
+    let path : a.load.path ≡ b.load.path = a.of.path ∙ (ap (λ (x : PackageTexts). x.path) is ∙ sym b.of.path) in
+    let files : a.load.files ≡ b.load.files = a.of.files ∙ (ap (λ (x : PackageTexts). x.files) is ∙ sym b.of.files) in
+    let other : AreExports tree b.of.pack.imports a.load.env = subst (λ (x : PackageTexts). AreExports tree x.imports a.load.env) is a.of.env in
+    let env : a.load.env ≡ b.load.env = same-list a.load.env b.load.env (other.size ∙ sym b.of.env.size) (exports-alike tree b.of.pack.imports a.load.env b.load.env other b.of.env) in
+    a.is ∙ (ap (λ (x : List (List ℕ)). record { node = 0; texts = x }) (same-texts a.load b.load path files env) ∙ sym b.is)
+
+-- a tree has one plan
+pub unique-plan : (tree : List PackageTexts) (a b : List (Option Input)) → IsPlan tree a → IsPlan tree b → a ≡ b
+unique-plan tree a b is too = same-options a b (is.size ∙ sym too.size) (λ p t h. too.every p t (is.right p t h)) (λ p t h. is.every p t (too.right p t h))
+
+collect : (xs : List Named) → ((k : ℕ) (x : Named) → slice_get xs k ≡ Some x → (i : ConstInterface) × IsSpelled i x.1 × (i.path ≡ x.0)) → (env : Env) × AreInterfaces xs env
+collect [] h = ([], tt)
+collect (x ∷ xs) h =
+    let one = h 0 x refl in
+    let more = collect xs (λ k y e. h (suc k) y e) in
+    (one.0 ∷ more.0, (one.1, one.2, more.1))
+
+-- the input of a load is lawful
+pub load-lawful : (tree : List PackageTexts) (p : ℕ) (load : LoadInput) → IsTree tree → IsLoadOf tree p load → IsLawful load
+load-lawful tree p load formed is =
+    let faces = collect load.env spelled-at in
+    record {
+      source = subst (λ (l : List Named). IsSource load.path l) (sym is.files) (subst (λ (l : List ℕ). IsSource l is.pack.files) (sym is.path) (formed.source p is.pack is.at is.sound));
+      env = faces.0;
+      faces = faces.1;
+      ordered = λ j k x y l a b. in-order j k x y l a b;
+    }
+  where
+    import-at : (k : ℕ) (x : Named) → slice_get load.env k ≡ Some x → (q : ℕ) × (slice_get is.pack.imports k ≡ Some q)
+    import-at k x e =
+        let l : k < length load.env = slice_get_within load.env k x e in
+        let size : length load.env ≡ length is.pack.imports = is.env.size in
+        element is.pack.imports k (omega (arith, l, size))
+
+    spelled-at : (k : ℕ) (x : Named) → slice_get load.env k ≡ Some x → (i : ConstInterface) × IsSpelled i x.1 × (i.path ≡ x.0)
+    spelled-at k x e =
+        let q = import-at k x e in
+        let ex = is.env.each k q.0 x q.1 e in
+        (ex.face, ex.spelled, face-path tree q.0 ex.face ex.other ex.good ex.at ∙ sym ex.path)
+
+    in-order : (j k : ℕ) (x y : Named) → j < k → slice_get load.env j ≡ Some x → slice_get load.env k ≡ Some y → is_before x.0 y.0 ≡ true
+    in-order j k x y l a b =
+        let q = import-at j x a in
+        let r = import-at k y b in
+        let ex = is.env.each j q.0 x q.1 a in
+        let ey = is.env.each k r.0 y r.1 b in
+        let less : q.0 < r.0 = formed.rising p j k q.0 r.0 is.pack is.at l q.1 r.1 in
+        subst (λ (z : List ℕ). is_before z y.0 ≡ true) (sym ex.path)
+        (subst (λ (z : List ℕ). is_before ex.other.path z ≡ true) (sym ey.path) (formed.ordered q.0 r.0 ex.other ey.other less ex.at ey.at))
+
+not-before-itself : (p q : List ℕ) → p ≡ q → is_before p q ≡ true → ⊥
+not-before-itself p q e h =
+    let here : is_before q q ≡ true = subst (λ (x : List ℕ). is_before x q ≡ true) e h in
+    let flipped : is_before q q ≡ false = before-flip q q here in cc
+
+less-or : (p q : ℕ) → (p < q) ⊎ (q < p + 1)
+less-or p q = grind arith
+
+below-or : (q p : ℕ) → q < p + 1 → (q < p) ⊎ (q ≡ p)
+below-or q p h = grind arith
+
+-- packages of one path are one
+pub same-number : (tree : List PackageTexts) (p q : ℕ) (a b : PackageTexts) → IsTree tree → slice_get tree p ≡ Some a → slice_get tree q ≡ Some b → a.path ≡ b.path → p ≡ q
+same-number tree p q a b formed at_a at_b e = elim (less-or p q) [
+  | inl l ↦ absurd (not-before-itself a.path b.path e (formed.ordered p q a b l at_a at_b))
+  | inr h ↦ elim (below-or q p h) [
+    | inl l ↦ absurd (not-before-itself b.path a.path (sym e) (formed.ordered q p b a l at_b at_a))
+    | inr s ↦ sym s
+  ]
+]

@@ -1,0 +1,70 @@
+-- How a run goes on, and what it has done at its end.
+use Rattle.std.specs.Prelude.{◌≡◌, ℕ, ◌+◌, ◌≤◌, ◌<◌, ◌^◌, Bool, Option, Some, None, List, [], ◌∷◌, ◌++◌, map, drop, length, slice_get, slice_set, sum_by, if◌then◌else◌}
+use Rattle.std.specs.List.{Contains}
+use Rattle.fact_cache.specs.declared.texts.Input.{Input}
+use Rattle.fact_cache.specs.declared.list.Entry.{Entry}
+use Rattle.gv_driver.specs.declared.tree.PackageTexts.{PackageTexts}
+use Rattle.gv_driver.specs.declared.node.Node.{Node}
+use Rattle.gv_driver.specs.declared.reply.Reply.{Reply}
+use Rattle.gv_driver.specs.Loads.{IsPlan}
+use Rattle.gv_driver.specs.Caches.{IsHonest, IsRight, IsCacheAfter, IsPartKept, missing_of, is_cached, input_of}
+use Rattle.gv_driver.specs.Tables.{IsTable, IsKeyOf, IsRightNode, answer_text, cost, waiting, executed, keys_in}
+use Rattle.gv_driver.specs.Reports.{IsReport}
+
+-- p's node is put into the table
+pub record Performs (tree : List PackageTexts) (before : List Entry) (p : ℕ) (table next : List (Option Node)) (count now : ℕ) : Type 0 where
+  pub node : Node
+  pub is : next ≡ slice_set table p (Some node)
+  pub key : IsKeyOf tree p node.key
+  pub found : node.found ≡ is_cached before node.key
+  pub counts : now ≡ count + cost node.found
+  pub right : IsHonest before → IsRightNode tree p node
+
+-- From one table to a later one: the count of loads rose by what the later one took.
+pub record Goes (tree : List PackageTexts) (before : List Entry) (table next : List (Option Node)) (count now : ℕ) : Type 0 where
+  pub right : IsTable tree before next
+  pub counts : now + executed before table ≡ count + executed before next
+  pub room : now + waiting next ≤ count + waiting table
+
+-- the entry of a node
+abbrev pub entry_of : Node → Entry
+entry_of n = record { input = n.key; outcome = answer_text n.answer }
+
+-- the entries after a node is kept, if it wasn't found
+abbrev pub kept : List Entry → Node → List Entry
+kept entries n = if n.found then entries else (entries ++ entry_of n ∷ [])
+
+-- The nodes of a table can be kept: no two have one input, and over an honest cache their entries are right.
+pub record CanKeep (before : List Entry) (table : List (Option Node)) : Type 0 where
+  pub found : (p : ℕ) (n : Node) → slice_get table p ≡ Some (Some n) → n.found ≡ is_cached before n.key
+  pub distinct : (p q : ℕ) (n m : Node) → slice_get table p ≡ Some (Some n) → slice_get table q ≡ Some (Some m) → n.key ≡ m.key → p ≡ q
+  pub right : IsHonest before → (p : ℕ) (n : Node) → slice_get table p ≡ Some (Some n) → IsRight (entry_of n)
+
+-- These entries were added, and the rest would complete the missing ones.
+pub record Keeping (before : List Entry) (table : List (Option Node)) (done : ℕ) (now : List Entry) : Type 0 where
+  pub added : List Entry
+  pub is : now ≡ before ++ added
+  pub rest : map input_of added ++ missing_of before (keys_in (drop done table)) ≡ missing_of before (keys_in table)
+  pub each : (e : Entry) → Contains added e → (q : ℕ) × (n : Node) × (q < done) × (slice_get table q ≡ Some (Some n)) × (n.key ≡ e.input)
+  pub right : IsHonest before → IsHonest added
+
+abbrev pub some_in : Option Input → ℕ
+some_in None = 0
+some_in (Some input) = 1
+
+-- A run that came to its end: the inputs of all loads of the tree, the verdicts, the cache, and the counts.
+pub record Ran (tree : List PackageTexts) (before after : List Entry) (count now : ℕ) (reply : Reply) : Type 0 where
+  pub inputs : List (Option Input)
+  pub plan : IsPlan tree inputs
+  pub report : IsReport tree reply.verdicts
+  pub cache : IsCacheAfter before after inputs
+  pub nodes : reply.counts.nodes ≡ sum_by some_in inputs
+  pub missing : reply.counts.missing ≡ length (missing_of before inputs)
+  pub loads : reply.counts.loads ≡ length (missing_of before inputs)
+  pub runs : reply.counts.runs ≡ 0
+  pub risen : now ≡ count + reply.counts.loads
+
+-- A run that memory cut off: no more loads than the tree has missing ones, and only entries of such loads.
+pub record IsCutOff (tree : List PackageTexts) (before after : List Entry) (count now : ℕ) : Type 0 where
+  pub loads : (inputs : List (Option Input)) → IsPlan tree inputs → now ≤ count + length (missing_of before inputs)
+  pub cache : (inputs : List (Option Input)) → IsPlan tree inputs → IsPartKept before after inputs

@@ -1,0 +1,154 @@
+-- The table of what is done, and what can be done next.
+use Rattle.std.specs.Prelude.{◌≡◌, ℕ, ◌+◌, ◌<◌, ◌==◌, Bool, true, false, Option, Some, None, List, [], ◌∷◌, map, drop, length, slice_get, sum_by, if◌then◌else◌}
+use Rattle.std.specs.List.{Contains}
+use Rattle.std.specs.Option.{option_map}
+use Rattle.action_graph.specs.declared.kit.LoadInput.{LoadInput}
+use Rattle.action_graph.specs.declared.work.ActionNode.{ActionNode}
+use Rattle.action_graph.specs.declared.work.ActionNode.TheVariants.{Load}
+use Rattle.action_graph.specs.declared.work.PackageLine.{PackageLine}
+use Rattle.action_graph.specs.Nodes.{Named}
+use Rattle.action_graph.specs.Judging.{IsLawful, IsOutcome, accepted_text, refused_text}
+use Rattle.fact_cache.specs.declared.texts.Input.{Input}
+use Rattle.fact_cache.specs.declared.list.Entry.{Entry}
+use Rattle.gv_driver.specs.declared.tree.PackageTexts.{PackageTexts}
+use Rattle.gv_driver.specs.declared.node.Answer.{Answer}
+use Rattle.gv_driver.specs.declared.node.Answer.TheVariants.{Accepted, Refused}
+use Rattle.gv_driver.specs.declared.node.Node.{Node}
+use Rattle.gv_driver.specs.Trees.{Imports}
+use Rattle.gv_driver.specs.Loads.{IsLoadOf, load_input}
+use Rattle.gv_driver.specs.Caches.{IsHonest, is_cached, missing_of}
+
+-- an answer's outcome text
+abbrev pub answer_text : Answer → List ℕ
+answer_text (Accepted export) = accepted_text export
+answer_text (Refused marks) = refused_text marks
+
+-- it begins with the digit 1
+abbrev pub begins_with_one : List ℕ → Bool
+begins_with_one [] = false
+begins_with_one (c ∷ rest) = c == 49
+
+-- the answer that an outcome text tells
+abbrev pub answer_in : List ℕ → Answer
+answer_in text = if begins_with_one text then Accepted (drop 1 (drop 1 text)) else Refused (drop 1 (drop 1 text))
+
+abbrev pub is_good : Answer → Bool
+is_good (Accepted export) = true
+is_good (Refused marks) = false
+
+abbrev pub export_part : Answer → List ℕ
+export_part (Accepted export) = export
+export_part (Refused marks) = []
+
+abbrev pub accepted_one : Option Node → Bool
+accepted_one None = false
+accepted_one (Some n) = is_good n.answer
+
+abbrev pub accepted_in : Option (Option Node) → Bool
+accepted_in None = false
+accepted_in (Some node) = accepted_one node
+
+-- q's load is done and accepted
+abbrev pub IsGood : List (Option Node) → ℕ → Type 0
+IsGood table q = accepted_in (slice_get table q) ≡ true
+
+abbrev pub path_in : Option PackageTexts → List ℕ
+path_in None = []
+path_in (Some pack) = pack.path
+
+abbrev pub export_in : Option (Option Node) → List ℕ
+export_in None = []
+export_in (Some None) = []
+export_in (Some (Some n)) = export_part n.answer
+
+-- the path and the export text of a package, as far as they are known
+abbrev pub pair_at : List PackageTexts → List (Option Node) → ℕ → Named
+pair_at tree table q = (path_in (slice_get tree q), export_in (slice_get table q))
+
+-- what a load reads, as far as it is known
+abbrev pub load_from : List PackageTexts → List (Option Node) → PackageTexts → LoadInput
+load_from tree table pack = record { path = pack.path; files = pack.files; env = map (pair_at tree table) pack.imports }
+
+-- p's node, with what comes of its load
+pub record IsRightNode (tree : List PackageTexts) (p : ℕ) (n : Node) : Type 0 where
+  pub load : LoadInput
+  pub of : IsLoadOf tree p load
+  pub key : n.key ≡ load_input load
+  pub lawful : IsLawful load
+  pub outcome : IsOutcome load (answer_text n.answer)
+
+-- each node in the table is right, and what its package imports is accepted
+pub record AreRight (tree : List PackageTexts) (table : List (Option Node)) : Type 0 where
+  pub size : length table ≡ length tree
+  pub node : (p : ℕ) (n : Node) → slice_get table p ≡ Some (Some n) → IsRightNode tree p n
+  pub closed : (p q : ℕ) (n : Node) → slice_get table p ≡ Some (Some n) → Imports tree p q → IsGood table q
+
+-- the input is a load's, and begins with the path of the package
+pub record IsKeyOf (tree : List PackageTexts) (p : ℕ) (input : Input) : Type 0 where
+  pub pack : PackageTexts
+  pub rest : List (List ℕ)
+  pub at : slice_get tree p ≡ Some pack
+  pub node : input.node ≡ 0
+  pub texts : input.texts ≡ pack.path ∷ rest
+
+-- The table over any cache; over an honest one its nodes are right.
+pub record IsTable (tree : List PackageTexts) (before : List Entry) (table : List (Option Node)) : Type 0 where
+  pub size : length table ≡ length tree
+  pub key : (p : ℕ) (n : Node) → slice_get table p ≡ Some (Some n) → IsKeyOf tree p n.key
+  pub found : (p : ℕ) (n : Node) → slice_get table p ≡ Some (Some n) → n.found ≡ is_cached before n.key
+  pub right : IsHonest before → AreRight tree table
+
+-- p isn't done, and all that its load needs is
+pub record IsReady (tree : List PackageTexts) (table : List (Option Node)) (p : ℕ) : Type 0 where
+  pub pack : PackageTexts
+  pub at : slice_get tree p ≡ Some pack
+  pub waits : slice_get table p ≡ Some None
+  pub sound : pack.sound ≡ true
+  pub accepted : (q : ℕ) → Contains pack.imports q → IsGood table q
+
+-- exactly the ready packages, in order
+pub record IsWave (tree : List PackageTexts) (table : List (Option Node)) (wave : List ℕ) : Type 0 where
+  pub each : (k p : ℕ) → slice_get wave k ≡ Some p → IsReady tree table p
+  pub every : (p : ℕ) → IsReady tree table p → Contains wave p
+  pub ordered : (j k p q : ℕ) → j < k → slice_get wave j ≡ Some p → slice_get wave k ≡ Some q → p < q
+
+-- how the order of the work sees the tree and the table
+abbrev pub line_of : PackageTexts → PackageLine
+line_of pack = record { imports = pack.imports; sound = pack.sound; stub = pack.stub }
+
+abbrev pub imports_in : PackageTexts → List ℕ
+imports_in pack = pack.imports
+
+pub record AreDoneIn (table : List (Option Node)) (end : ℕ) (nodes : List ActionNode) : Type 0 where
+  pub right : (p : ℕ) → Contains nodes (Load p) → (n : Node) × (slice_get table p ≡ Some (Some n))
+  pub every : (p : ℕ) (n : Node) → p < end → slice_get table p ≡ Some (Some n) → Contains nodes (Load p)
+
+abbrev pub key_in : Node → Input
+key_in n = n.key
+
+abbrev pub keys_in : List (Option Node) → List (Option Input)
+keys_in table = map (option_map key_in) table
+
+-- how many loads the nodes of the table took
+abbrev pub executed : List Entry → List (Option Node) → ℕ
+executed before table = length (missing_of before (keys_in table))
+
+abbrev pub cost : Bool → ℕ
+cost true = 0
+cost false = 1
+
+abbrev pub weight : Option Node → ℕ
+weight None = 1
+weight (Some n) = 0
+
+-- how many packages aren't done
+abbrev pub waiting : List (Option Node) → ℕ
+waiting table = sum_by weight table
+
+abbrev pub done_in : Option Node → ℕ
+done_in None = 0
+done_in (Some n) = 1
+
+abbrev pub fresh_in : Option Node → ℕ
+fresh_in None = 0
+fresh_in (Some n) = cost n.found

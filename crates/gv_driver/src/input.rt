@@ -1,0 +1,97 @@
+//! What a load reads.
+ghost use Rattle.std.specs.Prelude.{◌≡◌, IfOk, map, slice_get};
+ghost use Rattle.gv_driver.specs.Tables.{export_in, load_from, pair_at, path_in};
+
+use crate::answer::export_of;
+use crate::node::Node;
+use crate::tree::PackageTexts;
+use action_graph::LoadInput;
+use gv_base::{Bytes, NoMemory, Row, Text};
+use std::alloc::Global;
+
+fn copy_pair(alloc: Global, path: &str, bytes: &[u8]) -> Result<(Text, Bytes), NoMemory>
+    ensures { IfOk result (λ x. x ≡ (path.now, bytes.now)) }
+{
+    let path = Text::new(String::from_str(alloc, path)?);
+    let bytes = Bytes::new(bytes.to_vec(alloc)?);
+    Ok((path, bytes))
+}
+
+fn copy_file(alloc: Global, file: &(Text, Bytes)) -> Result<(Text, Bytes), NoMemory>
+    ensures { IfOk result (λ x. x ≡ file.now) }
+{
+    let copy = copy_pair(alloc, file.0.as_str(), file.1.as_slice())?;
+    Ok(copy)
+}
+
+fn copy_files(alloc: Global, files: &[(Text, Bytes)]) -> Result<Vec<(Text, Bytes)>, NoMemory>
+    ensures { IfOk result (λ v. v.items ≡ files.now) }
+{
+    let mut copies = Vec::new(alloc);
+    for file in files {
+        copies.push(copy_file(alloc, file)?)?;
+    }
+    Ok(copies)
+}
+
+fn path_at(tree: &[PackageTexts], at: usize) -> &str
+    ensures { result.now ≡ path_in (slice_get tree.now at) }
+{
+    match tree.get(at) {
+        None => "",
+        Some(pack) => pack.path.as_str(),
+    }
+}
+
+fn export_at(table: &[Option<Node>], at: usize) -> &[u8]
+    ensures { result.now ≡ export_in (slice_get table.now at) }
+{
+    match table.get(at) {
+        None => b"",
+        Some(None) => b"",
+        Some(Some(node)) => export_of(&node.answer),
+    }
+}
+
+fn export_pair(
+    alloc: Global,
+    tree: &[PackageTexts],
+    table: &[Option<Node>],
+    number: u32,
+) -> Result<(Text, Bytes), NoMemory>
+    ensures { IfOk result (λ x. x ≡ pair_at tree.now table.now number) }
+{
+    let at = number as usize;
+    let pair = copy_pair(alloc, path_at(tree, at), export_at(table, at))?;
+    Ok(pair)
+}
+
+fn export_pairs(
+    alloc: Global,
+    tree: &[PackageTexts],
+    table: &[Option<Node>],
+    numbers: &[u32],
+) -> Result<Vec<(Text, Bytes)>, NoMemory>
+    ensures { IfOk result (λ v. v.items ≡ map (pair_at tree.now table.now) numbers.now) }
+{
+    let mut pairs = Vec::new(alloc);
+    for number in numbers {
+        pairs.push(export_pair(alloc, tree, table, *number)?)?;
+    }
+    Ok(pairs)
+}
+
+/// What the load of a package reads: its path, its files, and the export texts of what it imports.
+pub(crate) fn load_of(
+    alloc: Global,
+    tree: &[PackageTexts],
+    table: &[Option<Node>],
+    pack: &PackageTexts,
+) -> Result<LoadInput, NoMemory>
+    ensures { IfOk result (λ load. load ≡ load_from tree.now table.now pack.now) }
+{
+    let path = Text::new(String::from_str(alloc, pack.path.as_str())?);
+    let files = Row::new(copy_files(alloc, pack.files.as_slice())?);
+    let env = Row::new(export_pairs(alloc, tree, table, pack.imports.as_slice())?);
+    Ok(LoadInput { path, files, env })
+}

@@ -1,0 +1,25 @@
+//! Laws of trees and caches. Their bodies are empty: the contracts are the laws.
+ghost use Rattle.std.specs.Prelude.{◌≡◌, ℕ, List, Option};
+ghost use Rattle.fact_cache.specs.declared.list.Entry.{Entry};
+ghost use Rattle.fact_cache.specs.declared.texts.Input.{Input};
+ghost use Rattle.gv_driver.specs.declared.reply.Verdict.{Verdict};
+ghost use Rattle.gv_driver.specs.declared.tree.PackageTexts.{PackageTexts};
+ghost use Rattle.gv_driver.specs.Caches.{IsCacheAfter, IsHonest};
+ghost use Rattle.gv_driver.specs.Loads.{IsPlan};
+ghost use Rattle.gv_driver.specs.Reports.{IsReport};
+
+/// A tree has one plan.
+pub fn one_plan()
+    ensures { (tree : List PackageTexts) (a b : List (Option Input)) → IsPlan tree a → IsPlan tree b → a ≡ b }
+{}
+
+/// A tree has one report.
+pub fn one_report()
+    ensures { (tree : List PackageTexts) (a b : List Verdict) → IsReport tree a → IsReport tree b → a ≡ b }
+{}
+
+/// A run leaves one cache, and from an honest one an honest one.
+pub fn one_cache()
+    ensures one { (before a b : List Entry) (inputs : List (Option Input)) → IsCacheAfter before a inputs → IsCacheAfter before b inputs → a ≡ b }
+    ensures honest { (before after : List Entry) (inputs : List (Option Input)) → IsHonest before → IsCacheAfter before after inputs → IsHonest after }
+{}

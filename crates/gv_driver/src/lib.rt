@@ -1,0 +1,20 @@
+//! Runs over a tree: each load is looked up by its whole input, and executed only where it is missing.
+#![tactic(auto)]
+
+mod answer;
+mod counts;
+mod driver;
+mod input;
+mod keep;
+mod laws;
+mod node;
+mod reply;
+mod report;
+mod step;
+mod tree;
+mod wave;
+
+pub use driver::run;
+pub use laws::{one_cache, one_plan, one_report};
+pub use reply::{Counts, Reply, Verdict};
+pub use tree::PackageTexts;

@@ -1,0 +1,23 @@
+//! What is known of a load in a run.
+use fact_cache::Input;
+use gv_base::Bytes;
+
+/// What came of a load.
+#[derive(Drop)]
+pub enum Answer {
+    /// Its export text.
+    Accepted(Bytes),
+    /// The text of its marks.
+    Refused(Bytes),
+}
+
+/// A load that is done.
+#[derive(Drop)]
+pub struct Node {
+    /// All that it reads.
+    pub key: Input,
+    /// What came of it.
+    pub answer: Answer,
+    /// Whether it was found in the cache.
+    pub found: bool,
+}
