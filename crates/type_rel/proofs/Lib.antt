@@ -1,0 +1,10 @@
+pub mod Lists
+pub mod Ends
+pub mod TermLaws
+pub mod MethodLaws
+pub mod TagLaws
+pub mod ComparisonLaws
+pub mod StepLaws
+pub mod HeldLaws
+pub mod MissingLaws
+pub mod SpecificationFacts

@@ -1,0 +1,10 @@
+pub mod Plain
+pub mod Terms
+pub mod Steps
+pub mod Kinds
+pub mod Methods
+pub mod Tags
+pub mod Comparability
+pub mod Assigning
+pub mod Converting
+pub mod Answers
