@@ -1,0 +1,30 @@
+//! There is one answer.
+ghost use Rattle.std.specs.Prelude.{◌≡◌, ℕ, List, [], codes};
+ghost use Rattle.type_model.specs.GoTypes.{GoType};
+ghost use Rattle.type_model.specs.Declarations.{Declarations};
+ghost use Rattle.method_sets.specs.Members.{Name, Member};
+ghost use Rattle.method_sets.specs.Paths.{Begins, Selects, IsAmbiguous, NoPath};
+ghost use Rattle.method_sets.specs.Selections.{IsInSet};
+ghost use Rattle.method_sets.specs.Examples.{defined, with_fields, with_methods, letter_f, text_field, method_m};
+
+/// Whatever is declared: paths from a type begin at one type at most; at most one path is the only one
+/// of least length, and leads to one member; where there is one, there aren't two of least length,
+/// and not none; and what is ambiguous is so at one depth.
+pub fn one_selection()
+    ensures begins { (ds : Declarations) (of a b : GoType) → Begins ds of a → Begins ds of b → a ≡ b }
+    ensures path { (ds : Declarations) (name : Name) (a : GoType) (p q : List ℕ) (m n : Member) → Selects ds name a p m → Selects ds name a q n → (p ≡ q) × (m ≡ n) }
+    ensures apart { (ds : Declarations) (name : Name) (a : GoType) (p : List ℕ) (m : Member) (d : ℕ) → Selects ds name a p m → IsAmbiguous ds name a d → ⊥ }
+    ensures depth { (ds : Declarations) (name : Name) (a : GoType) (d e : ℕ) → IsAmbiguous ds name a d → IsAmbiguous ds name a e → d ≡ e }
+    ensures none { (ds : Declarations) (name : Name) (a : GoType) (p : List ℕ) (m : Member) → NoPath ds name a → Selects ds name a p m → ⊥ }
+{}
+
+/// The Go specification's words on selection and method sets, by examples: of two embedded structs
+/// that have a field `F`, neither `F` is selected, but a field `F` at a lesser depth is; a method with a
+/// pointer receiver isn't in the set of its type, and is in that of a struct which embeds a pointer
+/// to it.
+pub fn examples_hold()
+    ensures ambiguous { IsAmbiguous with_fields letter_f (defined (codes "R")) 1 }
+    ensures its_own { Selects with_fields letter_f (defined (codes "S")) [] text_field }
+    ensures value { IsInSet with_methods (defined (codes "T")) method_m → ⊥ }
+    ensures promoted { IsInSet with_methods (defined (codes "U")) method_m }
+{}
