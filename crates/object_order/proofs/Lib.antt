@@ -1,0 +1,15 @@
+mod SpotLemmas
+mod SearchLemmas
+mod GraphLemmas
+mod HopLemmas
+mod PickLemmas
+mod FlagLemmas
+mod OrderLemmas
+mod MoveLemmas
+mod NameLemmas
+mod NumberLemmas
+mod GoLemmas
+mod FindLemmas
+mod ArriveLemmas
+mod StepLemmas
+mod CaseLaws
