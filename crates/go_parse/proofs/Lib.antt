@@ -12,9 +12,5 @@ pub mod Steps
 pub mod Advance
 pub mod Parse
 pub mod Unique
-pub mod ThinLaws
-pub mod ThinTokens
-pub mod ThinTrees
-pub mod ThinShapes
 pub mod PieceLaws
 pub mod ChunkLaws

@@ -10,7 +10,7 @@ ghost use Rattle.go_tree.specs.declared.tree.FileTree.{FileTree};
 
 use crate::parser::Parser;
 use crate::pieces::{Reading, read};
-use crate::thin::classes;
+use crate::token_classes::classes;
 use go_tree::{FileTree, Token};
 use gv_base::{NoMemory, Row};
 use std::alloc::Global;

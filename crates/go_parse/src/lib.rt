@@ -3,14 +3,11 @@
 
 mod arena;
 mod chunk;
-mod names;
 mod parser;
 mod pieces;
-mod thin;
+mod token_classes;
 
 pub use chunk::{Chunk, Verdict, one_finding, one_tree, parse_chunk, parse_pieces};
-pub use names::are_thin_names;
-pub use thin::{one_thin_tree, parse_thin, thin_tree};
 
 #[cfg(test)]
 mod tests;

@@ -8,7 +8,7 @@ ghost use Rattle.go_tree.specs.declared.grammar.Stage.TheVariants.{Imports, Decl
 
 use crate::arena::highest;
 use crate::parser::Parser;
-use crate::thin::DEPTH_LIMIT;
+use crate::token_classes::DEPTH_LIMIT;
 use go_tree::{Category, Stage};
 use std::alloc::{AllocError, Global};
 

@@ -1,5 +1,5 @@
-use crate::{are_thin_names, parse_thin};
-use go_tree::{FileTree, NodeKind, Token, TokenKind};
+use crate::{Chunk, parse_chunk};
+use go_tree::{NodeKind, Token, TokenKind};
 use gv_base::NoMemory;
 use std::alloc::{AllocError, Global};
 use std::test::Fail;
@@ -37,12 +37,12 @@ fn tokens_of(alloc: Global, text: &[u8]) -> Result<Vec<Token>, AllocError> {
     Ok(tokens)
 }
 
-fn thin(alloc: Global, text: &[u8]) -> Result<Option<FileTree>, NoMemory> {
+fn chunk(alloc: Global, text: &[u8]) -> Result<Chunk, NoMemory> {
     let tokens = tokens_of(alloc, text)?;
     if tokens.len() < 1000 {
-        parse_thin(alloc, &tokens, text)
+        parse_chunk(alloc, &tokens, text)
     } else {
-        Ok(None)
+        Err(NoMemory)
     }
 }
 
@@ -58,55 +58,56 @@ fn chain(alloc: Global, additions: usize) -> Result<Vec<u8>, AllocError> {
 }
 
 #[test]
-fn accepts_thin_files(rt: HostRuntime) -> Result<(), Fail> {
-    let files: [&[u8]; 5] = [
+fn spells_files_of_constants(rt: HostRuntime) -> Result<(), Fail> {
+    let files: [&[u8]; 11] = [
         b"pn;",
         b"pn;cn=1;",
         b"pn;cn=n;",
         b"pn;cn=n+1+n;cm=n;",
         b"pn;c_=1;",
+        b"pn;cn;",
+        b"pn;cnm=1;",
+        b"pn;cn=-1;",
+        b"pn;cn=1-1*1;",
+        b"pn;cn=(1);",
+        b"pn;cn,m=1,1;",
     ];
     for file in files {
-        assert!(&rt; thin(rt.alloc(), file)?.is_some());
+        assert!(&rt; matches!(chunk(rt.alloc(), file)?, Chunk::Spelled(_)));
     }
     Ok(())
 }
 
 #[test]
 fn refuses_other_tokens(rt: HostRuntime) -> Result<(), Fail> {
-    let files: [&[u8]; 19] = [
+    let files: [&[u8]; 14] = [
         b"",
         b"p",
         b"pn",
         b"n;",
         b"p_;",
         b"pn;;",
-        b"pn;cn;",
         b"pn;cn1;",
         b"pn;cn=;",
         b"pn;cn=1",
-        b"pn;cn=+1;",
         b"pn;cn=1+;",
-        b"pn;cn=1-1;",
-        b"pn;cn=1*1;",
-        b"pn;cn=(1);",
-        b"pn;cn,m=1,1;",
-        b"pn;cnm=1;",
+        b"pn;cn=(1;",
+        b"pn;cn,=1;",
         b"pn;n=1;",
         b"cn=1;",
     ];
     for file in files {
-        assert!(&rt; thin(rt.alloc(), file)?.is_none());
+        assert!(&rt; matches!(chunk(rt.alloc(), file)?, Chunk::NoTree));
     }
     Ok(())
 }
 
 #[test]
 fn adds_from_the_left(rt: HostRuntime) -> Result<(), Fail> {
-    let found = thin(rt.alloc(), b"pn;cn=1+m+1;")?;
+    let found = chunk(rt.alloc(), b"pn;cn=1+m+1;")?;
     let mut kinds = Vec::new(rt.alloc());
     let mut parts = Vec::new(rt.alloc());
-    if let Some(tree) = &found {
+    if let Chunk::Spelled(tree) = &found {
         for node in tree.nodes.as_slice() {
             kinds.push(node.kind)?;
             for part in node.parts.as_slice() {
@@ -137,22 +138,9 @@ fn adds_from_the_left(rt: HostRuntime) -> Result<(), Fail> {
 
 #[test]
 fn nests_at_most_250_deep(rt: HostRuntime) -> Result<(), Fail> {
-    assert!(&rt; thin(rt.alloc(), &chain(rt.alloc(), 247)?)?.is_some());
-    assert!(&rt; thin(rt.alloc(), &chain(rt.alloc(), 248)?)?.is_none());
-    Ok(())
-}
-
-#[test]
-fn leaves_names_to_the_language(rt: HostRuntime) -> Result<(), Fail> {
-    let name = |end| Token {
-        kind: TokenKind::Name,
-        start: 0,
-        end,
-    };
-    assert!(&rt; are_thin_names(&[name(5)], b"inits"));
-    assert!(&rt; !are_thin_names(&[name(4)], b"inits"));
-    assert!(&rt; !are_thin_names(&[name(5), name(1)], b"_late"));
-    assert!(&rt; !are_thin_names(&[name(7)], b"uintptr"));
-    assert!(&rt; are_thin_names(&[], b"nil"));
+    let most = chain(rt.alloc(), 247)?;
+    assert!(&rt; matches!(chunk(rt.alloc(), &most)?, Chunk::Spelled(_)));
+    let more = chain(rt.alloc(), 248)?;
+    assert!(&rt; matches!(chunk(rt.alloc(), &more)?, Chunk::TooDeep));
     Ok(())
 }

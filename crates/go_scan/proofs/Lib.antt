@@ -1,3 +1,2 @@
 pub mod Cuts
-pub mod ThinLaws
 pub mod TokenLaws

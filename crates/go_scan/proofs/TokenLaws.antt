@@ -18,7 +18,6 @@ use Rattle.go_tree.specs.declared.token.TokenKind.TheVariants.{Int, Semi}
 use Rattle.go_tree.specs.declared.token.Why.TheVariants.{BadLexeme}
 use Rattle.go_tree.specs.Lexeme.{item_of}
 use Rattle.go_tree.specs.Lexed.{IsSound, Cuts, closes, semicolon, item_tokens, due_after, tokens_of, byte_order_mark, front_mark, LexedBy}
-use Rattle.go_tree.specs.Thin.{is_decimal, is_thin, is_thin_kind, thin_item, thin_item_of, LexedThin}
 
 -- a semicolon is due within the text, if at all
 abbrev DueIn : List ℕ → Option ℕ → Type 0
@@ -86,73 +85,3 @@ LiesIn text t = (t.start ≤ t.end) × (t.end ≤ length text)
 pub tokens_lie : (items : List ℕ → Option Item) (text : List ℕ) (tokens : List Token) → LexedBy items text tokens → (k : ℕ) (t : Token) → slice_get tokens k ≡ Some t → (t.start ≤ t.end) × (t.end ≤ length text)
 tokens_lie items text tokens lexed k t at =
     at_place (LiesIn text) tokens k t (each_lexed items text (LiesIn text) (λ a le. (omega arith, le)) (λ kind a size le is. (omega arith, le)) tokens lexed) at
-
--- The numbers of a thin file are decimal digits.
-abbrev Digit : ℕ → Type 0
-Digit b = (48 ≤ b) × (b ≤ 57)
-
-abbrev Digits : List ℕ → Type 0
-Digits bytes = All Digit bytes
-
-digit : (b : ℕ) → is_ascii_digit b ≡ true → Digit b
-digit b h = grind arith
-
-digits : (bytes : List ℕ) → list_all is_ascii_digit bytes ≡ true → Digits bytes
-digits [] h = All-nil Digit
-digits (b ∷ bytes) h = let p = and_parts (is_ascii_digit b) (list_all is_ascii_digit bytes) h in All-cons Digit b bytes (digit b p.0) (digits bytes p.1)
-
-decimal_digits : (bytes : List ℕ) → is_decimal bytes ≡ true → Digits bytes
-decimal_digits [] h = All-nil Digit
-decimal_digits (b ∷ bytes) h = go (b == byte "0") refl h
-  where
-    zero_is : (b : ℕ) → (b == byte "0") ≡ true → Digit b
-    zero_is b e = grind arith
-
-    one : (b : ℕ) (bytes : List ℕ) → Digit b → (suc (length bytes) == 1) ≡ true → Digits (b ∷ bytes)
-    one b [] d e = All-cons Digit b [] d (All-nil Digit)
-    one b (c ∷ bytes) d e = absurd (grind arith)
-
-    go : (t : Bool) → (b == byte "0") ≡ t → cond t (suc (length bytes) == 1) (list_all is_ascii_digit (b ∷ bytes)) ≡ true → Digits (b ∷ bytes)
-    go true e h = one b bytes (zero_is b e) h
-    go false e h = digits (b ∷ bytes) h
-
--- a thin lexeme is of a thin kind
-thin_lexeme : (bytes : List ℕ) (kind : TokenKind) → thin_item_of bytes ≡ Some (Lexeme kind) → is_thin_kind kind bytes ≡ true
-unfolding thin_item_of
-thin_lexeme bytes kind h = go (item_of bytes) h
-  where
-    kind_in : Item → TokenKind
-    kind_in (Lexeme k) = k
-    kind_in _ = Semi
-
-    lexeme_in : Item → Bool
-    lexeme_in (Lexeme k) = true
-    lexeme_in _ = false
-
-    kept : (item : Item) (b : Bool) → is_thin item bytes ≡ b → cond b item (Wrong BadLexeme) ≡ Lexeme kind → is_thin_kind kind bytes ≡ true
-    kept item true e is = subst (λ i. is_thin i bytes ≡ true) is e
-    kept item false e is = absurd (let z : false ≡ true = ap lexeme_in is in cc)
-
-    go : (o : Option Item) → option_map (λ item. thin_item item bytes) o ≡ Some (Lexeme kind) → is_thin_kind kind bytes ≡ true
-    go None e = absurd (none-some _ e)
-    go (Some item) e = kept item (is_thin item bytes) refl (same_Some _ _ e)
-
-abbrev IsNumber : List ℕ → Token → Type 0
-IsNumber text t = t.kind ≡ Int → Digits (take (t.end - t.start) (drop t.start text))
-
-number : (text : List ℕ) (kind : TokenKind) (at size : ℕ) → thin_item_of (take size (drop at text)) ≡ Some (Lexeme kind) → kind ≡ Int → Digits (take (at + size - at) (drop at text))
-number text kind at size is int =
-    let bytes = take size (drop at text) in
-    let thin = subst (λ k. is_thin_kind k bytes ≡ true) int (thin_lexeme bytes kind is) in
-    subst (λ n. Digits (take n (drop at text))) (let e : size ≡ at + size - at = omega arith in e) (decimal_digits bytes thin)
-
-not_number : (text bytes : List ℕ) → Semi ≡ Int → Digits bytes
-not_number text bytes e = absurd (let z : false ≡ true = ap is_int e in cc)
-  where
-    is_int : TokenKind → Bool
-    is_int Int = true
-    is_int _ = false
-
-pub numbers_are_digits : (text : List ℕ) (tokens : List Token) → LexedThin text tokens → (k : ℕ) (t : Token) → slice_get tokens k ≡ Some t → t.kind ≡ Int → All (λ b. (48 ≤ b) × (b ≤ 57)) (take (t.end - t.start) (drop t.start text))
-numbers_are_digits text tokens thin k t at =
-    at_place (IsNumber text) tokens k t (each_lexed thin_item_of text (IsNumber text) (λ a le. not_number text _) (λ kind a size le is. number text kind a size is) tokens thin.lexed) at

@@ -1,7 +1,6 @@
 -- What scanning a text gives.
 use Rattle.std.specs.Prelude.{◌≡◌, List, [], ◌∷◌, ℕ, Option, Some, None}
 use Rattle.std.specs.Global.{Vec}
-use Rattle.go_tree.specs.Thin.{LexedThin}
 use Rattle.go_tree.specs.declared.token.Token.{Token}
 use Rattle.go_tree.specs.declared.token.Why.{Why}
 use Rattle.go_tree.specs.Lexed.{Lexed, LexRefused}
@@ -20,16 +19,6 @@ IsTokens tokens (Refused offset why) = ⊥
 abbrev pub IsRefusal : ℕ → Why → Scan → Type 0
 IsRefusal offset why (Tokens found) = ⊥
 IsRefusal offset why (Refused at because) = (at ≡ offset) × (because ≡ why)
-
--- the tokens are those of the thin file; without an answer there are none
-abbrev pub IsThinScan : List ℕ → Option (Vec Token) → Type 0
-IsThinScan text (Some tokens) = LexedThin text tokens.items
-IsThinScan text None = (tokens : List Token) → LexedThin text tokens → ⊥
-
--- the answer is these tokens
-abbrev pub IsSomeTokens : List Token → Option (Vec Token) → Type 0
-IsSomeTokens tokens (Some found) = found.items ≡ tokens
-IsSomeTokens tokens None = ⊥
 
 -- the value, if there is one
 abbrev pub option_list : {A : Type 0} → Option A → List A

@@ -5,7 +5,6 @@ ghost use Rattle.go_tree.specs.declared.token.Token.{Token};
 ghost use Rattle.go_tree.specs.declared.token.TokenKind.TheVariants.{Int};
 ghost use Rattle.go_tree.specs.declared.token.Why.{Why};
 ghost use Rattle.go_tree.specs.Lexed.{Lexed, LexedBy, LexRefused};
-ghost use Rattle.go_tree.specs.Thin.{LexedThin};
 
 /// A text has at most one list of tokens.
 pub fn one_lexing()
@@ -22,17 +21,7 @@ pub fn not_both()
     ensures { (text : List ℕ) (tokens : List Token) (offset : ℕ) (why : Why) → Lexed text tokens → LexRefused text offset why → ⊥ }
 {}
 
-/// A thin file has at most one list of tokens.
-pub fn one_thin_lexing()
-    ensures { (text : List ℕ) (a : List Token) (b : List Token) → LexedThin text a → LexedThin text b → a ≡ b }
-{}
-
 /// Each token lies in its text, whatever the items.
 pub fn tokens_lie_in_their_text()
     ensures { (items : List ℕ → Option Item) (text : List ℕ) (tokens : List Token) → LexedBy items text tokens → (k : ℕ) (t : Token) → slice_get tokens k ≡ Some t → (t.start ≤ t.end) × (t.end ≤ length text) }
-{}
-
-/// The numbers of a thin file are decimal digits.
-pub fn thin_numbers_are_digits()
-    ensures { (text : List ℕ) (tokens : List Token) → LexedThin text tokens → (k : ℕ) (t : Token) → slice_get tokens k ≡ Some t → t.kind ≡ Int → All (λ b. (48 ≤ b) × (b ≤ 57)) (take (t.end - t.start) (drop t.start text)) }
 {}
