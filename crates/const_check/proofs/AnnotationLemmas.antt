@@ -75,31 +75,31 @@ node_adds a b f n m row h low is objects fresh = record { new = new; stays = sta
   ]
   only (Of o) x e = inr (sym (ap (λ r. slice_index_or r o None) objects) ∙ e)
 
-pub same_lengths : (rows : List (List (Option Mark))) (f n : ℕ) (row : List (Option Mark)) (x : Option Mark) → slice_get rows f ≡ Some row
+pub same_lengths : {X : Type 0} (rows : List (List X)) (f n : ℕ) (row : List X) (x : X) → slice_get rows f ≡ Some row
     → map length (set rows f (set row n x)) ≡ map length rows
 same_lengths [] f n row x h = absurd cc
 same_lengths (r ∷ rows) zero n row x h =
     let e : r ≡ row = cc in ap (λ k. k ∷ map length rows) (length-set row n x ∙ ap length (sym e))
 same_lengths (r ∷ rows) (suc f) n row x h = ap (λ ks. length r ∷ ks) (same_lengths rows f n row x h)
 
-pub row_within : (rows : List (Vec (Option Mark))) (f : ℕ) (items : List (Option Mark)) → slice_get (cells rows) f ≡ Some items → f < length rows
-row_within rows f items h =
+pub row_within : {X : Type 0} (rows : List (Vec X)) (f : ℕ) (items : List X) → slice_get (cells rows) f ≡ Some items → f < length rows
+row_within {X} rows f items h =
     let low = slice_get_within (cells rows) f items h in
-    omega (arith, length-map rows (λ (r : Vec (Option Mark)). r.items))
+    omega (arith, length-map rows (λ (r : Vec X). r.items))
 
-same_items : (rows : List (Vec (Option Mark))) (f : ℕ) (row : Vec (Option Mark)) (items : List (Option Mark))
+same_items : {X : Type 0} (rows : List (Vec X)) (f : ℕ) (row : Vec X) (items : List X)
     → slice_get (cells rows) f ≡ Some items → row ≡ get_or rows f row → row.items ≡ items
-same_items rows f row items h read =
+same_items {X} rows f row items h read =
     same_some (slice_get (cells rows) f) row.items items
-    (slice_get-map (λ (r : Vec (Option Mark)). r.items) rows f
-    ∙ ap (option_map (λ (r : Vec (Option Mark)). r.items)) (slice_get-get_or rows f row (row_within rows f items h) ∙ ap Some (sym read))) h
+    (slice_get-map (λ (r : Vec X). r.items) rows f
+    ∙ ap (option_map (λ (r : Vec X). r.items)) (slice_get-get_or rows f row (row_within rows f items h) ∙ ap Some (sym read))) h
 
 -- a row of the annotation, with one cell changed
-pub changed_rows : (rows : List (Vec (Option Mark))) (f n : ℕ) (row changed : Vec (Option Mark)) (items : List (Option Mark)) (x : Option Mark)
+pub changed_rows : {X : Type 0} (rows : List (Vec X)) (f n : ℕ) (row changed : Vec X) (items : List X) (x : X)
     → slice_get (cells rows) f ≡ Some items → row ≡ get_or rows f row → changed.items ≡ set row.items n x
     → cells (set rows f changed) ≡ set (cells rows) f (set items n x)
-changed_rows rows f n row changed items x h read is =
-    map-set (λ (r : Vec (Option Mark)). r.items) rows f changed
+changed_rows {X} rows f n row changed items x h read is =
+    map-set (λ (r : Vec X). r.items) rows f changed
     ∙ ap (λ r. set (cells rows) f r) (is ∙ ap (λ r. set r n x) (same_items rows f row items h read))
 
 some_of : {X : Type 0} (o : Option X) → is_some o ≡ true → (x : X) × (o ≡ Some x)

@@ -9,12 +9,12 @@ use Rattle.go_tree.specs.Needs.{IsInValue, IsUse, Needs}
 use Rattle.need_order.specs.declared.needed.Needed.{Needed}
 use Rattle.need_order.specs.Graphs.{Path, Leads, Cyclic, IsOrder}
 use Rattle.need_order.specs.Graphs as graphs
-use Rattle.const_check.specs.Thin.{IsThin, HasNode}
+use Rattle.const_check.specs.Form.{AreConstantFiles, HasNode}
 use Rattle.const_check.specs.Graphs.{IsRowOf, ShowsNeeds}
 use Rattle.const_check.proofs.Standing.{same_some, placed, there}
 use Rattle.const_check.proofs.OrderLemmas.{needed_within}
 
-pub inner_there : (p : Package) (o n : ℕ) (d : Declaration) → IsThin p → slice_get (declared p) o ≡ Some d → n ≤ d.value → HasNode p d.name.file n
+pub inner_there : (p : Package) (o n : ℕ) (d : Declaration) → AreConstantFiles p → slice_get (declared p) o ≡ Some d → n ≤ d.value → HasNode p d.name.file n
 inner_there p o n d thin read high =
     let at = placed p o d thin read in let low = at.within in (at.tree, at.tree_at, omega arith)
 

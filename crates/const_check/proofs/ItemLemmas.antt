@@ -11,8 +11,10 @@ use Rattle.need_order.specs.Graphs.{Path, Cyclic}
 use Rattle.const_check.specs.declared.mark.Mark.{Mark}
 use Rattle.const_check.specs.declared.mark.Mark.TheVariants.{Silent}
 use Rattle.const_check.specs.declared.annotation.Annotation.{Annotation}
-use Rattle.const_check.specs.Rules.{node_mark, object_mark, use_mark, literal_mark, sum_mark, is_literal, is_sum}
-use Rattle.const_check.specs.Thin.{IsThin, IsThinFile, IsOperand, IsDigit, HasNode}
+use Rattle.const_check.specs.Imports.{Import, is_selector, is_before_dot, selected_at, import_named}
+use Rattle.const_check.specs.Rules.{Env, known_of, node_mark, object_mark, use_mark, literal_mark, sum_mark, selector_mark, is_literal, is_sum}
+use Rattle.const_check.specs.Form.{AreConstantFiles, IsConstantFile, is_operand, IsDigit, HasNode}
+use Rattle.const_check.proofs.FormFacts.{begins, literal_digits, sum_between, selector_between, else_selector}
 use Rattle.const_check.specs.Items.{Item, At, Of, IsItem, Reads, Rule}
 use Rattle.const_check.specs.Annotations.{cells, IsSized, HasCell}
 use Rattle.const_check.proofs.Standing.{same_some, and_then_is, placed, spelled_is, there}
@@ -38,13 +40,13 @@ pub record Stands (p : Package) (f n : ℕ) : Type 0 where
   pub low : ℕ
   pub tree_at : slice_get p.trees f ≡ Some tree
   pub text_at : slice_get p.texts f ≡ Some text
-  pub thin : IsThinFile text tree
+  pub file : IsConstantFile text tree
   pub node_there : slice_get tree.nodes n ≡ Some node
-  pub operand : IsOperand text tree low n node
+  pub operand : is_operand low n node ≡ true
 
-pub stands : (p : Package) (f n : ℕ) → IsThin p → IsItem p (At f n) → Stands p f n
-stands p f n thin (o, d, read, file, within) =
-    let at = placed p o d thin read in
+pub stands : (p : Package) (f n : ℕ) → AreConstantFiles p → IsItem p (At f n) → Stands p f n
+stands p f n files (o, d, read, file, within) =
+    let at = placed p o d files read in
     let here = at.within in
     let low = within.0 in
     let high = within.1 in
@@ -56,7 +58,7 @@ stands p f n thin (o, d, read, file, within) =
       low = d.name.node;
       tree_at = ap (λ g. slice_get p.trees g) file ∙ at.tree_at;
       text_at = ap (λ g. slice_get p.texts g) file ∙ at.text_at;
-      thin = at.thin;
+      file = at.file;
       node_there = node.1;
       operand = at.operands n node.0 low high node.1;
     }
@@ -80,44 +82,47 @@ cell_there p a f n sized (tree, at, low) =
       from (Some row) is e = (row, is, let k : length row ≡ length tree.nodes = cc in omega arith)
 
 -- a node's mark by its kind
-agree : (name literal sum : Bool) (l r m n rest : Mark) (o u : Option Mark) (w : Mark)
-    → (sum ≡ true → (l ≡ m) × (r ≡ n)) → (name ≡ true → o ≡ u)
-    → (if name then use_mark o else (if literal then w else (if sum then sum_mark l r else rest)))
-    ≡ (if name then use_mark u else (if literal then w else (if sum then sum_mark m n else rest)))
-agree true literal sum l r m n rest o u w parts object = ap use_mark (object refl)
-agree false true sum l r m n rest o u w parts object = refl
-agree false false true l r m n rest o u w parts object = ap (λ x. sum_mark x r) (parts refl).0 ∙ ap (λ x. sum_mark m x) (parts refl).1
-agree false false false l r m n rest o u w parts object = refl
+agree : (env : Env) (name literal sum selector before_dot : Bool) (l r m n : Mark) (o u : Option Mark) (w : Mark) (import : Option Import) (selected : List ℕ)
+    → (sum ≡ true → (l ≡ m) × (r ≡ n)) → (selector ≡ true → l ≡ m) → (name ≡ true → o ≡ u)
+    → (if name then use_mark env before_dot o import else (if literal then w else (if sum then sum_mark l r else (if selector then selector_mark env l selected else Silent))))
+    ≡ (if name then use_mark env before_dot u import else (if literal then w else (if sum then sum_mark m n else (if selector then selector_mark env m selected else Silent))))
+agree env true literal sum selector before_dot l r m n o u w import selected parts part object = ap (λ (x : Option Mark). use_mark env before_dot x import) (object refl)
+agree env false true sum selector before_dot l r m n o u w import selected parts part object = refl
+agree env false false true selector before_dot l r m n o u w import selected parts part object = ap (λ x. sum_mark x r) (parts refl).0 ∙ ap (λ x. sum_mark m x) (parts refl).1
+agree env false false false true before_dot l r m n o u w import selected parts part object = ap (λ (x : Mark). selector_mark env x selected) (part refl)
+agree env false false false false before_dot l r m n o u w import selected parts part object = refl
 
 option_agree : (f g : ℕ → Mark) (o : Option ℕ) → ((x : ℕ) → o ≡ Some x → f x ≡ g x) → option_map f o ≡ option_map g o
 option_agree f g None same = refl
 option_agree f g (Some x) same = ap Some (same x refl)
 
 -- a rule reads no mark but those that it is said to read
-pub local_rule : (p : Package) (i : Item) (a b : Item → Mark) → ((j : Item) → Reads p i j → a j ≡ b j) → (m : Mark) → Rule p i a m → Rule p i b m
-local_rule p (At f n) a b same m rule = λ node object read denoted.
+pub local_rule : (env : Env) (p : Package) (i : Item) (a b : Item → Mark) → ((j : Item) → Reads p i j → a j ≡ b j) → (m : Mark) → Rule env p i a m → Rule env p i b m
+local_rule env p (At f n) a b same m rule = λ node object read denoted.
     rule node object read denoted
-    ∙ agree (is_name node.kind) (is_literal node.kind) (is_sum node.kind)
+    ∙ agree env (is_name node.kind) (is_literal node.kind) (is_sum node.kind) (is_selector node.kind) (is_before_dot p f n)
     (a (At f (part_of node 0))) (a (At f (part_of node 1))) (b (At f (part_of node 0))) (b (At f (part_of node 1)))
-    Silent (option_map (λ u. a (Of u)) object) (option_map (λ u. b (Of u)) object) (literal_mark (spelled_at p f n))
-    (λ sum. (same (At f (part_of node 0)) (node, read, sum, refl, inl refl), same (At f (part_of node 1)) (node, read, sum, refl, inr refl)))
+    (option_map (λ u. a (Of u)) object) (option_map (λ u. b (Of u)) object) (literal_mark (spelled_at p f n))
+    (import_named (known_of env) p f (spelled_at p f n)) (selected_at p f n)
+    (λ sum. (same (At f (part_of node 0)) (node, read, refl, inl (sum, inl refl)), same (At f (part_of node 1)) (node, read, refl, inl (sum, inr refl))))
+    (λ selector. same (At f (part_of node 0)) (node, read, refl, inr (selector, refl)))
     (λ name. option_agree (λ u. a (Of u)) (λ u. b (Of u)) object
     (λ u is. same (Of u) (node, read, name, subst (Denoted p (spelled_at p f n)) is denoted)))
-local_rule p (Of o) a b same m rule = λ d read.
+local_rule env p (Of o) a b same m rule = λ d read.
     let r = rule d read in
     (r.0, r.1, λ acyclic first. r.2 acyclic first ∙ ap object_mark (same (At d.name.file d.value) (d, read, refl, refl, acyclic)))
 
 -- a node's rule gives one mark
-pub same_node_mark : (p : Package) (f n : ℕ) (node : Node) (object : Option ℕ) → node_at p f n ≡ Some node → Denoted p (spelled_at p f n) object
-    → (m : Mark) (marks : Item → Mark) (other : Mark) → Rule p (At f n) marks m → Rule p (At f n) marks other → other ≡ m
-same_node_mark p f n node object read denoted m marks other r s = s node object read denoted ∙ sym (r node object read denoted)
+pub same_node_mark : (env : Env) (p : Package) (f n : ℕ) (node : Node) (object : Option ℕ) → node_at p f n ≡ Some node → Denoted p (spelled_at p f n) object
+    → (m : Mark) (marks : Item → Mark) (other : Mark) → Rule env p (At f n) marks m → Rule env p (At f n) marks other → other ≡ m
+same_node_mark env p f n node object read denoted m marks other r s = s node object read denoted ∙ sym (r node object read denoted)
 
-pub same_object_mark : (p : Package) (o : ℕ) (d : Declaration) → slice_get (declared p) o ≡ Some d
+pub same_object_mark : (env : Env) (p : Package) (o : ℕ) (d : Declaration) → slice_get (declared p) o ≡ Some d
     → Cyclic (Needs p) o ⊎ ¬ Cyclic (Needs p) o → IsRedeclared p o d ⊎ ¬ IsRedeclared p o d
-    → (m : Mark) (marks : Item → Mark) (other : Mark) → Rule p (Of o) marks m → Rule p (Of o) marks other → other ≡ m
-same_object_mark p o d read (inl cyclic) again m marks other r s = (s d read).0 cyclic ∙ sym ((r d read).0 cyclic)
-same_object_mark p o d read (inr acyclic) (inl again) m marks other r s = (s d read).1 again ∙ sym ((r d read).1 again)
-same_object_mark p o d read (inr acyclic) (inr first) m marks other r s = (s d read).2 acyclic first ∙ sym ((r d read).2 acyclic first)
+    → (m : Mark) (marks : Item → Mark) (other : Mark) → Rule env p (Of o) marks m → Rule env p (Of o) marks other → other ≡ m
+same_object_mark env p o d read (inl cyclic) again m marks other r s = (s d read).0 cyclic ∙ sym ((r d read).0 cyclic)
+same_object_mark env p o d read (inr acyclic) (inl again) m marks other r s = (s d read).1 again ∙ sym ((r d read).1 again)
+same_object_mark env p o d read (inr acyclic) (inr first) m marks other r s = (s d read).2 acyclic first ∙ sym ((r d read).2 acyclic first)
 
 -- what is needed is denoted, so it isn't redeclared
 needed_first : (p : Package) (a b : ℕ) (d : Declaration) → slice_get (declared p) b ≡ Some d → Needs p a b → ¬ IsRedeclared p b d
@@ -144,72 +149,95 @@ by_true b x y held = ap (λ c. if c then x else y) held
 by_false : (b : Bool) (x y : Mark) → b ≡ false → (if b then x else y) ≡ y
 by_false b x y not_name = ap (λ c. if c then x else y) not_name
 
+-- the mark that a node's rule gives over these marks
+abbrev pub ruled : Env → Package → ℕ → ℕ → Node → (Item → Mark) → Option ℕ → Mark
+ruled env p f n it marks object =
+    node_mark env it.kind (is_before_dot p f n) (spelled_at p f n) (selected_at p f n) (marks (At f (part_of it 0))) (marks (At f (part_of it 1)))
+    (option_map (λ u. marks (Of u)) object) (import_named (known_of env) p f (spelled_at p f n))
+
 -- the rule of a node, from the node that stands there
-rule_by : (p : Package) (f n : ℕ) (it : Node) (marks : Item → Mark) (m : Mark) → node_at p f n ≡ Some it
-    → ((object : Option ℕ) → Denoted p (spelled_at p f n) object
-    → m ≡ node_mark it.kind (spelled_at p f n) (marks (At f (part_of it 0))) (marks (At f (part_of it 1))) (option_map (λ u. marks (Of u)) object))
-    → Rule p (At f n) marks m
-rule_by p f n it marks m read is node object other denoted =
-    subst (λ (x : Node). m ≡ node_mark x.kind (spelled_at p f n) (marks (At f (part_of x 0))) (marks (At f (part_of x 1))) (option_map (λ u. marks (Of u)) object))
-    (same_some (node_at p f n) it node read other) (is object denoted)
+rule_by : (env : Env) (p : Package) (f n : ℕ) (it : Node) (marks : Item → Mark) (m : Mark) → node_at p f n ≡ Some it
+    → ((object : Option ℕ) → Denoted p (spelled_at p f n) object → m ≡ ruled env p f n it marks object) → Rule env p (At f n) marks m
+rule_by env p f n it marks m read is node object other denoted =
+    subst (λ (x : Node). m ≡ ruled env p f n x marks object) (same_some (node_at p f n) it node read other) (is object denoted)
 
-pub rule_by_name : (p : Package) (f n : ℕ) (it : Node) (marks : Item → Mark) (m : Mark) → node_at p f n ≡ Some it → is_name it.kind ≡ true
-    → ((object : Option ℕ) → Denoted p (spelled_at p f n) object → m ≡ use_mark (option_map (λ u. marks (Of u)) object))
-    → Rule p (At f n) marks m
-rule_by_name p f n it marks m read held is =
-    rule_by p f n it marks m read (λ object denoted. is object denoted ∙ sym (by_true (is_name it.kind) _ _ held))
+pub rule_by_name : (env : Env) (p : Package) (f n : ℕ) (it : Node) (marks : Item → Mark) (m : Mark) → node_at p f n ≡ Some it → is_name it.kind ≡ true
+    → ((object : Option ℕ) → Denoted p (spelled_at p f n) object → m ≡ use_mark env (is_before_dot p f n) (option_map (λ u. marks (Of u)) object) (import_named (known_of env) p f (spelled_at p f n)))
+    → Rule env p (At f n) marks m
+rule_by_name env p f n it marks m read held is =
+    rule_by env p f n it marks m read (λ object denoted. is object denoted ∙ sym (by_true (is_name it.kind) _ _ held))
 
-pub rule_by_literal : (p : Package) (f n : ℕ) (it : Node) (marks : Item → Mark) (m : Mark) → node_at p f n ≡ Some it
-    → is_name it.kind ≡ false → is_literal it.kind ≡ true → m ≡ literal_mark (spelled_at p f n) → Rule p (At f n) marks m
-rule_by_literal p f n it marks m read not_name held is =
-    rule_by p f n it marks m read (λ object denoted. is ∙ sym (by_false (is_name it.kind) _ _ not_name ∙ by_true (is_literal it.kind) _ _ held))
+pub rule_by_literal : (env : Env) (p : Package) (f n : ℕ) (it : Node) (marks : Item → Mark) (m : Mark) → node_at p f n ≡ Some it
+    → is_name it.kind ≡ false → is_literal it.kind ≡ true → m ≡ literal_mark (spelled_at p f n) → Rule env p (At f n) marks m
+rule_by_literal env p f n it marks m read not_name held is =
+    rule_by env p f n it marks m read (λ object denoted. is ∙ sym (by_false (is_name it.kind) _ _ not_name ∙ by_true (is_literal it.kind) _ _ held))
 
-pub rule_by_sum : (p : Package) (f n : ℕ) (it : Node) (marks : Item → Mark) (m : Mark) → node_at p f n ≡ Some it
+pub rule_by_sum : (env : Env) (p : Package) (f n : ℕ) (it : Node) (marks : Item → Mark) (m : Mark) → node_at p f n ≡ Some it
     → is_name it.kind ≡ false → is_literal it.kind ≡ false → is_sum it.kind ≡ true
-    → m ≡ sum_mark (marks (At f (part_of it 0))) (marks (At f (part_of it 1))) → Rule p (At f n) marks m
-rule_by_sum p f n it marks m read not_name neither held is =
-    rule_by p f n it marks m read (λ object denoted.
+    → m ≡ sum_mark (marks (At f (part_of it 0))) (marks (At f (part_of it 1))) → Rule env p (At f n) marks m
+rule_by_sum env p f n it marks m read not_name neither held is =
+    rule_by env p f n it marks m read (λ object denoted.
     is ∙ sym (by_false (is_name it.kind) _ _ not_name ∙ (by_false (is_literal it.kind) _ _ neither ∙ by_true (is_sum it.kind) _ _ held)))
 
--- what is neither a name nor a literal is a sum
-pub is_a_sum : (text : List ℕ) (tree : FileTree) (low n : ℕ) (node : Node) → IsOperand text tree low n node
-    → is_name node.kind ≡ false → is_literal node.kind ≡ false → is_sum node.kind ≡ true
-is_a_sum text tree low n node operand not_name neither = elim operand.kind [
-  | inl name ↦ absurd cc
-  | inr other ↦ elim other [ inl literal ↦ absurd cc | inr sum ↦ sum ]
-]
+pub rule_by_selector : (env : Env) (p : Package) (f n : ℕ) (it : Node) (marks : Item → Mark) (m : Mark) → node_at p f n ≡ Some it
+    → is_name it.kind ≡ false → is_literal it.kind ≡ false → is_sum it.kind ≡ false → is_selector it.kind ≡ true
+    → m ≡ selector_mark env (marks (At f (part_of it 0))) (selected_at p f n) → Rule env p (At f n) marks m
+rule_by_selector env p f n it marks m read not_name not_literal neither held is =
+    rule_by env p f n it marks m read (λ object denoted.
+    is ∙ sym (by_false (is_name it.kind) _ _ not_name ∙ (by_false (is_literal it.kind) _ _ not_literal
+    ∙ (by_false (is_sum it.kind) _ _ neither ∙ by_true (is_selector it.kind) _ _ held))))
 
 -- a literal's bytes are digits
 pub digits_spelled : (p : Package) (f n : ℕ) (it : Node) → Stands p f n → node_at p f n ≡ Some it → is_literal it.kind ≡ true → All IsDigit (spelled_at p f n)
 digits_spelled p f n it s read held =
     let same : s.node ≡ it = same_some (node_at p f n) s.node it (stands_node p f n s) read in
-    let t = there s.tree.tokens s.node.first (s.thin.begins n s.node s.node_there) in
+    let t = there s.tree.tokens s.node.first (begins s.text s.tree s.file n s.node s.node_there) in
     subst (λ (xs : List ℕ). All IsDigit xs)
     (sym (spelled_is p f n s.tree s.text t.0 s.tree_at s.text_at
     (and_then_is (λ node. slice_get s.tree.tokens node.first) (slice_get s.tree.nodes n) s.node (Some t.0) s.node_there t.1)))
-    (s.operand.digits (ap (λ (x : Node). is_literal x.kind) same ∙ held) t.0 t.1)
+    (literal_digits s.text s.tree n s.node t.0 s.file s.node_there (ap (λ (x : Node). is_literal x.kind) same ∙ held) t.1)
+
+-- the node that stands there is of the value
+operand_there : (p : Package) (f n : ℕ) (it : Node) (s : Stands p f n) → node_at p f n ≡ Some it → is_operand s.low n it ≡ true
+operand_there p f n it s read =
+    subst (λ (x : Node). is_operand s.low n x ≡ true) (same_some (node_at p f n) s.node it (stands_node p f n s) read) s.operand
 
 -- a sum, and its two parts
 pub record SumOf (p : Package) (f n : ℕ) (it : Node) : Type 0 where
-  pub sum : is_sum it.kind ≡ true
   pub parts : length it.parts ≡ 2
   pub left : HasNode p f (part_of it 0)
   pub right : HasNode p f (part_of it 1)
 
-pub sum_of : (p : Package) (f n : ℕ) (it : Node) → Stands p f n → node_at p f n ≡ Some it → is_name it.kind ≡ false → is_literal it.kind ≡ false → SumOf p f n it
-sum_of p f n it s read not_name neither =
-    let same : s.node ≡ it = same_some (node_at p f n) s.node it (stands_node p f n s) read in
-    let operand : IsOperand s.text s.tree s.low n it = subst (λ (x : Node). IsOperand s.text s.tree s.low n x) same s.operand in
-    let sum = is_a_sum s.text s.tree s.low n it operand not_name neither in
-    let parts = operand.parts sum in
+pub sum_of : (p : Package) (f n : ℕ) (it : Node) → Stands p f n → node_at p f n ≡ Some it → is_sum it.kind ≡ true → SumOf p f n it
+sum_of p f n it s read sum =
+    let at = sum_between s.low n it (operand_there p f n it s read) sum in
     let low = slice_get_within s.tree.nodes n s.node s.node_there in
-    let left = parts.2 in
-    let right = parts.4 in
+    let left = at.below_left in
+    let right = at.below_right in
     record {
-      sum = sum;
-      parts = parts.0;
+      parts = at.parts;
       left = (s.tree, s.tree_at, omega arith);
       right = (s.tree, s.tree_at, omega arith);
+    }
+
+-- a selector, and its part
+pub record SelectorOf (p : Package) (f n : ℕ) (it : Node) : Type 0 where
+  pub selector : is_selector it.kind ≡ true
+  pub parts : length it.parts ≡ 1
+  pub left : HasNode p f (part_of it 0)
+
+pub selector_of : (p : Package) (f n : ℕ) (it : Node) → Stands p f n → node_at p f n ≡ Some it → is_name it.kind ≡ false → is_literal it.kind ≡ false → is_sum it.kind ≡ false
+    → SelectorOf p f n it
+selector_of p f n it s read not_name not_literal neither =
+    let operand = operand_there p f n it s read in
+    let selector = else_selector s.low n it operand not_name not_literal neither in
+    let at = selector_between s.low n it operand selector in
+    let low = slice_get_within s.tree.nodes n s.node s.node_there in
+    let below = at.below in
+    record {
+      selector = selector;
+      parts = at.parts;
+      left = (s.tree, s.tree_at, omega arith);
     }
 
 -- the name denotes an earlier constant

@@ -1,3 +1,9 @@
+pub mod FormFacts
+pub mod IndexLemmas
+pub mod EnvironmentLemmas
+pub mod ImportLemmas
+pub mod UseLemmas
+pub mod ImportRefusalLemmas
 pub mod Standing
 pub mod NameLemmas
 pub mod AnnotationLemmas
@@ -8,3 +14,7 @@ pub mod OrderLemmas
 pub mod GraphLemmas
 pub mod RefusalLemmas
 pub mod ListLemmas
+pub mod InterfaceLemmas
+pub mod NameOrder
+pub mod TextLemmas
+pub mod CheckLemmas

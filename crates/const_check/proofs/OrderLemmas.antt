@@ -1,5 +1,5 @@
 -- What is marked when, in the order of need.
-use Rattle.std.proofs.Common.{◌≡◌, ℕ, ◌+◌, ◌<◌, ◌≤◌, List, [], ◌∷◌, map, replicate, length, slice_get, slice_index_or, unwrap_or, Option, Some, None, option_map, option_and_then, true, false, get_or, below_more, refl, sym, ap, ◌∙◌, subst, inl, inr, arith}
+use Rattle.std.proofs.Common.{◌≡◌, ℕ, ◌+◌, ◌<◌, ◌≤◌, List, [], ◌∷◌, map, replicate, length, slice_get, slice_index_or, unwrap_or, Option, Some, None, option_map, option_and_then, true, false, get_or, below_more, refl, sym, ap, ◌∙◌, subst, inl, inr}
 use Rattle.std.proofs.lemmas.Option.{slice_get_within, get_or_from_slice_get, slice_get-get_or, slice_get-map}
 use Rattle.std.proofs.lemmas.Bool.{cases_lt}
 use Rattle.std.proofs.lemmas.List.{length-replicate, get_or-replicate, get_or_past}
@@ -12,9 +12,11 @@ use Rattle.need_order.specs.Graphs.{Cyclic, IsOrder}
 use Rattle.const_check.specs.declared.mark.Mark.{Mark}
 use Rattle.const_check.specs.declared.mark.Mark.TheVariants.{Silent}
 use Rattle.const_check.specs.declared.annotation.Annotation.{Annotation}
-use Rattle.const_check.specs.Thin.{IsThin}
+use Rattle.const_check.specs.Form.{AreConstantFiles}
+use Rattle.const_check.specs.Rules.{Env}
 use Rattle.const_check.specs.Items.{Item, At, Of, IsItem, Reads, Rule, Annotated}
 use Rattle.const_check.specs.Annotations.{cells, cell_of, mark_of, marks_of, IsSized, IsMarked, Keeps, AreSound, AreCyclicMarked, AreObjectsMarked}
+use Rattle.const_check.proofs.FormFacts.{read_between}
 use Rattle.const_check.proofs.Standing.{same_some, placed}
 
 pub keeps_marked : (old new : Annotation) (i : Item) → Keeps old new → IsMarked old i → IsMarked new i
@@ -27,23 +29,15 @@ pub keeps_then : (a b c : Annotation) → Keeps a b → Keeps b c → Keeps a c
 keeps_then a b c first second i m e = second i m (first i m e)
 
 -- what the rule of a node of a value reads
-pub inner_ready : (p : Package) (a : Annotation) (o : ℕ) (d : Declaration) (n : ℕ) → IsThin p → slice_get (declared p) o ≡ Some d
+pub inner_ready : (p : Package) (a : Annotation) (o : ℕ) (d : Declaration) (n : ℕ) → AreConstantFiles p → slice_get (declared p) o ≡ Some d
     → d.name.node < n → n ≤ d.value → ((k : ℕ) → d.name.node < k → k < n → IsMarked a (At d.name.file k)) → ((u : ℕ) → Needs p o u → IsMarked a (Of u))
     → (j : Item) → Reads p (At d.name.file n) j → IsMarked a j
-inner_ready p a o d n thin there low high parts needs (At g k) (node, read, sum, file, part) =
-    let at = placed p o d thin there in
+inner_ready p a o d n files there low high parts needs (At g k) (node, read, file, part) =
+    let at = placed p o d files there in
     let inner = subst (λ (t : Option FileTree). option_and_then (λ tree. slice_get tree.nodes n) t ≡ Some node) at.tree_at read in
-    let rest = (at.operands n node low high inner).parts sum in
-    let left = rest.1 in
-    let left_low = rest.2 in
-    let right = rest.3 in
-    let right_low = rest.4 in
-    subst (λ (x : ℕ). IsMarked a (At x k)) (sym file)
-    (elim part [
-      | inl is ↦ parts k (omega arith) (omega arith)
-      | inr is ↦ parts k (omega arith) (omega arith)
-    ])
-inner_ready p a o d n thin there low high parts needs (Of u) used = needs u (d, there, (n, (low, high), used))
+    let between = read_between d.name.node n node k (at.operands n node low high inner) part in
+    subst (λ (x : ℕ). IsMarked a (At x k)) (sym file) (parts k between.0 between.1)
+inner_ready p a o d n files there low high parts needs (Of u) used = needs u (d, there, (n, (low, high), used))
 
 pub object_ready : (p : Package) (a : Annotation) (o : ℕ) (d : Declaration) → slice_get (declared p) o ≡ Some d
     → IsMarked a (At d.name.file d.value) → (j : Item) → Reads p (Of o) j → IsMarked a j
@@ -89,14 +83,14 @@ filled_is : (a : Annotation) (i : Item) (m : Mark) → mark_of a i ≡ Some m �
 filled_is a i m e = ap (λ o. unwrap_or o Silent) e
 
 -- where all is marked, the marks are an annotation
-pub annotated : (p : Package) (a : Annotation) → AreSound p a → ((i : Item) → IsItem p i → IsMarked a i) → Annotated p (marks_of a)
-annotated p a sound all i h =
+pub annotated : (env : Env) (p : Package) (a : Annotation) → AreSound env p a → ((i : Item) → IsItem p i → IsMarked a i) → Annotated env p (marks_of a)
+annotated env p a sound all i h =
     let m = all i h in
-    subst (λ (x : Mark). Rule p i (marks_of a) x) (sym (filled_is a i m.0 m.1)) (sound.obeys i m.0 m.1)
+    subst (λ (x : Mark). Rule env p i (marks_of a) x) (sym (filled_is a i m.0 m.1)) (sound.obeys i m.0 m.1)
 
-pub alone : (p : Package) (a : Annotation) → AreSound p a → ((i : Item) → IsItem p i → IsMarked a i)
-    → (marks : Item → Mark) → Annotated p marks → (i : Item) → IsItem p i → marks i ≡ marks_of a i
-alone p a sound all marks is i h = let m = all i h in sound.forced marks is i m.0 m.1 ∙ sym (filled_is a i m.0 m.1)
+pub alone : (env : Env) (p : Package) (a : Annotation) → AreSound env p a → ((i : Item) → IsItem p i → IsMarked a i)
+    → (marks : Item → Mark) → Annotated env p marks → (i : Item) → IsItem p i → marks i ≡ marks_of a i
+alone env p a sound all marks is i h = let m = all i h in sound.forced marks is i m.0 m.1 ∙ sym (filled_is a i m.0 m.1)
 
 -- one more entry of the order is done
 pub objects_step : (old new : Annotation) (order : List Needed) (i : ℕ) (d : Needed) → Keeps old new
@@ -161,9 +155,9 @@ none_marked : (p : Package) (a : Annotation) → cells a.nodes.items ≡ map bla
 none_marked p a nodes objects (At f n) = no_cell p.trees (cells a.nodes.items) f n nodes
 none_marked p a nodes objects (Of o) = ap (λ (r : List (Option Mark)). slice_index_or r o None) objects ∙ no_mark (length (declared p)) o
 
-pub blank_sound : (p : Package) (a : Annotation) → cells a.nodes.items ≡ map blank_row p.trees
-    → a.objects.items ≡ replicate (length (declared p)) blank → AreSound p a
-blank_sound p a nodes objects = record {
+pub blank_sound : (env : Env) (p : Package) (a : Annotation) → cells a.nodes.items ≡ map blank_row p.trees
+    → a.objects.items ≡ replicate (length (declared p)) blank → AreSound env p a
+blank_sound env p a nodes objects = record {
   obeys = λ i m e. let none = none_marked p a nodes objects i in absurd cc;
   closed = λ i j m e r. let none = none_marked p a nodes objects i in absurd cc;
   forced = λ marks all i m e. let none = none_marked p a nodes objects i in absurd cc;

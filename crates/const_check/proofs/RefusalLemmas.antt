@@ -9,16 +9,18 @@ use Rattle.go_tree.specs.Names.{Package, declared}
 use Rattle.go_tree.specs.Needs.{IsInValue}
 use Rattle.const_check.specs.declared.mark.Mark.{Mark}
 use Rattle.const_check.specs.declared.mark.Refusal.{Refusal}
-use Rattle.const_check.specs.Thin.{IsThin, BeginsWithTokens}
+use Rattle.const_check.specs.Form.{AreConstantFiles, BeginsWithTokens}
+use Rattle.const_check.specs.Rules.{Env}
 use Rattle.const_check.specs.Items.{Item, At, Of, IsItem, Annotated}
-use Rattle.const_check.specs.Refusals.{fault_in, place_at, HasPlace, IsRefused, Refuses, AreRefused, Has, HasConstant, AreMarks}
+use Rattle.const_check.specs.Refusals.{fault_in, place_at, HasPlace, IsRefusedItem, IsRefused, Refuses, AreRefused, Has, HasConstant, AreMarks}
+use Rattle.const_check.proofs.FormFacts.{begins}
 use Rattle.const_check.proofs.Standing.{same_some, there}
 
-pub begins_at : (p : Package) (f : ℕ) (tree : FileTree) → IsThin p → slice_get p.trees f ≡ Some tree → BeginsWithTokens tree
-begins_at p f tree thin at =
+pub begins_at : (p : Package) (f : ℕ) (tree : FileTree) → AreConstantFiles p → slice_get p.trees f ≡ Some tree → BeginsWithTokens tree
+begins_at p f tree files at =
     let low = slice_get_within p.trees f tree at in
-    let text = there p.texts f (let e = thin.sized in omega arith) in
-    (thin.files f text.0 tree text.1 at).begins
+    let text = there p.texts f (let e = files.sized in omega arith) in
+    begins text.0 tree (files.files f text.0 tree text.1 at)
 
 pub step_sound : (p : Package) (marks : Item → Mark) (old new : List Refusal) (place : Place) (m : Mark) (i : Item) → Refuses old new place m
     → IsItem p i → HasPlace p i place → m ≡ marks i → AreRefused p marks old → AreRefused p marks new
@@ -61,25 +63,26 @@ constant_has p marks mid new o d place m read is mark refuses value = record {
 }
 
 pub all_refused : (p : Package) (marks : Item → Mark) (list : List Refusal) → ((o : ℕ) → o < length (declared p) → HasConstant p marks list o)
-    → (x : Refusal) → IsRefused p marks x → Contains list x
+    → (x : Refusal) → IsRefusedItem p marks x → Contains list x
 all_refused p marks list all x (At f n, (o, d, read, file, within), at, fault) =
     let low = slice_get_within (declared p) o d read in
     (all o low).value d read n within x (at ∙ ap (λ g. place_at p g n) file)
     (ap (λ g. fault_in (marks (At g n))) (sym file) ∙ fault)
 all_refused p marks list all x (Of o, low, at, fault) = (all o low).object x at fault
 
-refused_alike : (p : Package) (a b : Item → Mark) → ((i : Item) → IsItem p i → a i ≡ b i) → (x : Refusal) → IsRefused p a x → IsRefused p b x
-refused_alike p a b alike x (i, item, at, fault) = (i, item, at, ap fault_in (sym (alike i item)) ∙ fault)
+refused_alike : (env : Env) (p : Package) (a b : Item → Mark) → ((i : Item) → IsItem p i → a i ≡ b i) → (x : Refusal) → IsRefused env p a x → IsRefused env p b x
+refused_alike env p a b alike x (inl (i, item, at, fault)) = inl (i, item, at, ap fault_in (sym (alike i item)) ∙ fault)
+refused_alike env p a b alike x (inr import) = inr import
 
 -- the list of one annotation's refusals is that of any
-pub are_marks : (p : Package) (list : List Refusal) (marks : Item → Mark) → Annotated p marks
-    → ((other : Item → Mark) → Annotated p other → (i : Item) → IsItem p i → other i ≡ marks i)
-    → ((x : Refusal) → Contains list x ↔ IsRefused p marks x) → AreMarks p list
-are_marks p list marks annotated alone all = record {
+pub are_marks : (env : Env) (p : Package) (list : List Refusal) (marks : Item → Mark) → Annotated env p marks
+    → ((other : Item → Mark) → Annotated env p other → (i : Item) → IsItem p i → other i ≡ marks i)
+    → ((x : Refusal) → Contains list x ↔ IsRefused env p marks x) → AreMarks p env list
+are_marks env p list marks annotated alone all = record {
   marks = marks;
   annotated = annotated;
   each = λ other is x. (
-    λ h. refused_alike p marks other (λ i item. sym (alone other is i item)) x ((all x).0 h),
-    λ h. (all x).1 (refused_alike p other marks (alone other is) x h),
+    λ h. refused_alike env p marks other (λ i item. sym (alone other is i item)) x ((all x).0 h),
+    λ h. (all x).1 (refused_alike env p other marks (alone other is) x h),
   );
 }

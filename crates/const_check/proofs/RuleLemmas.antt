@@ -1,10 +1,12 @@
 -- Values of literals, and what a rule reads.
-use Rattle.std.proofs.Common.{◌≡◌, ℕ, ◌+◌, ◌-◌, ◌*◌, ◌<◌, ◌≤◌, ◌^◌, List, [], ◌∷◌, false, nat_lt, pos, length, drop, get_or, refl, sym, ap, ◌∙◌, arith}
+use Rattle.std.proofs.Common.{◌≡◌, Bool, Option, Some, None, ℕ, ◌+◌, ◌-◌, ◌*◌, ◌<◌, ◌≤◌, ◌^◌, List, [], ◌∷◌, false, nat_lt, pos, length, drop, get_or, refl, sym, ap, ◌∙◌, arith}
 use Rattle.std.proofs.lemmas.List.{drop_more}
 use Rattle.std.proofs.lemmas.Bool.Decides.{nat_tests}
+use Rattle.const_check.specs.declared.mark.Mark.{Mark}
 use Rattle.const_check.specs.declared.mark.Mark.TheVariants.{Outside}
 use Rattle.const_check.specs.declared.mark.Limit.TheVariants.{Wide}
-use Rattle.const_check.specs.Rules.{constant_mark, decimal_from, decimal_value, literal_mark}
+use Rattle.const_check.specs.Imports.{Import}
+use Rattle.const_check.specs.Rules.{Env, constant_mark, decimal_from, decimal_value, literal_mark, object_mark, use_mark}
 
 -- more digits make no value less
 grows : (value : ℕ) (digits : List ℕ) → value ≤ decimal_from value digits
@@ -37,3 +39,12 @@ pub wide_after : (value i : ℕ) (digits : List ℕ) → decimal_from value (dro
     → 2 ^ 127 ≤ value * 10 + (get_or digits i 0 - 48) → Outside Wide ≡ literal_mark digits
 wide_after value i digits is low h =
     wide_read (10 * value + (get_or digits i 0 - 48)) (drop (i + 1) digits) digits (one_more value i digits is low) (omega arith)
+
+-- the mark of a name that denotes a constant, and of one that denotes none
+pub use_constant : (env : Env) (before : Bool) (constant found : Option Mark) (import : Option Import) (m : Mark) → found ≡ constant → found ≡ Some m
+    → object_mark m ≡ use_mark env before constant import
+use_constant env before constant found import m same is = sym (ap (λ (x : Option Mark). use_mark env before x import) (sym same ∙ is))
+
+pub use_no_constant : (env : Env) (before : Bool) (constant found : Option Mark) (import : Option Import) → found ≡ constant → found ≡ None
+    → use_mark env before None import ≡ use_mark env before constant import
+use_no_constant env before constant found import same is = sym (ap (λ (x : Option Mark). use_mark env before x import) (sym same ∙ is))

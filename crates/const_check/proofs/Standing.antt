@@ -6,8 +6,9 @@ use Rattle.go_tree.specs.declared.token.Token.{Token}
 use Rattle.go_tree.specs.declared.tree.Node.{Node}
 use Rattle.go_tree.specs.declared.tree.FileTree.{FileTree}
 use Rattle.go_tree.specs.declared.declaration.Declaration.{Declaration}
-use Rattle.go_tree.specs.Names.{Package, node_at, token_at, first_token, token_text, spelled_at, offset_at, is_constant, part_of, declared, declared_by, declared_from}
-use Rattle.const_check.specs.Thin.{IsThin, IsThinFile, BeginsWithTokens, HasNode, Placed, IsOperand}
+use Rattle.go_tree.specs.Names.{Package, node_at, token_at, first_token, token_text, spelled_at, offset_at, is_constant, is_name, part_of, declared, declared_by, declared_from}
+use Rattle.const_check.specs.Form.{AreConstantFiles, IsConstantFile, BeginsWithTokens, HasNode, Placed, is_operand, node_is}
+use Rattle.const_check.proofs.FormFacts.{lies}
 
 pub there : {X : Type 0} (xs : List X) (i : ℕ) → i < length xs → (x : X) × (slice_get xs i ≡ Some x)
 there [] i h = absurd (omega arith)
@@ -52,8 +53,8 @@ node_within p f n tree (other, at, within) here =
 pub tree_within : (p : Package) (f n : ℕ) → HasNode p f n → f < length p.trees
 tree_within p f n (tree, at, within) = slice_get_within p.trees f tree at
 
-pub text_within : (p : Package) (f n : ℕ) → IsThin p → HasNode p f n → f < length p.texts
-text_within p f n thin has = let low = tree_within p f n has in let e = thin.sized in omega arith
+pub text_within : (p : Package) (f n : ℕ) → AreConstantFiles p → HasNode p f n → f < length p.texts
+text_within p f n files has = let low = tree_within p f n has in let e = files.sized in omega arith
 
 -- a token's bytes are what its node spells
 pub spelled_is : (p : Package) (f n : ℕ) (tree : FileTree) (text : List ℕ) (t : Token) → slice_get p.trees f ≡ Some tree → slice_get p.texts f ≡ Some text
@@ -68,20 +69,20 @@ pub offset_is : (p : Package) (f n : ℕ) (tree : FileTree) (t : Token) → slic
 offset_is p f n tree t at first =
     ap (λ o. option_map_or (λ (x : Token). x.start) o 0) (and_then_is (λ tree. first_token tree n) (slice_get p.trees f) tree (Some t) at first)
 
--- the token that begins a node of a thin file lies in its text
-pub token_lies : (text : List ℕ) (tree : FileTree) (n : ℕ) (t : Token) → IsThinFile text tree → first_token tree n ≡ Some t
+-- the token that begins a node of a file of constants lies in its text
+pub token_lies : (text : List ℕ) (tree : FileTree) (n : ℕ) (t : Token) → IsConstantFile text tree → first_token tree n ≡ Some t
     → (t.start ≤ t.end) × (t.end ≤ length text)
-token_lies text tree n t thin first =
+token_lies text tree n t file first =
     let node = and_then_parts (λ node. slice_get tree.tokens node.first) (slice_get tree.nodes n) t first in
-    thin.lies node.0.first t node.2
+    lies text tree node.0.first t file node.2
 
--- a constant of a thin file has two parts
-pub constants_here : (p : Package) (f : ℕ) (d : FileTree) (nodes : List Node) → IsThin p → f < length p.trees → nodes ≡ (get_or p.trees f d).nodes
+-- a constant has two parts
+pub constants_here : (p : Package) (f : ℕ) (d : FileTree) (nodes : List Node) → AreConstantFiles p → f < length p.trees → nodes ≡ (get_or p.trees f d).nodes
     → (k : ℕ) (node : Node) → slice_get nodes k ≡ Some node → is_constant node.kind ≡ true → length node.parts ≡ 2
-constants_here p f d nodes thin low e k node read is =
+constants_here p f d nodes files low e k node read is =
     let tree = get_or p.trees f d in
-    let text = there p.texts f (let e = thin.sized in omega arith) in
-    let file = thin.files f text.0 tree text.1 (slice_get-get_or p.trees f d low) in
+    let text = there p.texts f (let e = files.sized in omega arith) in
+    let file = files.files f text.0 tree text.1 (slice_get-get_or p.trees f d low) in
     let here = file.constants k node (ap (λ xs. slice_get xs k) (sym e) ∙ read) is in here.parts
 
 append_cases : {X : Type 0} (xs ys : List X) (o : ℕ) (d : X) → slice_get (xs ++ ys) o ≡ Some d → (slice_get xs o ≡ Some d) ⊎ ((j : ℕ) × (slice_get ys j ≡ Some d))
@@ -150,16 +151,16 @@ read_at (tree ∷ rest) f o d h = elim (append_cases (flat_map (declared_by f) t
       }
 ]
 
--- a declared constant stands in a thin file
-pub placed : (p : Package) (o : ℕ) (d : Declaration) → IsThin p → slice_get (declared p) o ≡ Some d → Placed p d
-placed p o d thin read =
+-- a declared constant stands in a file of constants
+pub placed : (p : Package) (o : ℕ) (d : Declaration) → AreConstantFiles p → slice_get (declared p) o ≡ Some d → Placed p d
+placed p o d files read =
     let r = read_at p.trees 0 o d read in
     let file : d.name.file ≡ r.g = (let e = r.file in omega arith) in
     let tree_at : slice_get p.trees d.name.file ≡ Some r.tree = ap (λ f. slice_get p.trees f) file ∙ r.tree_at in
     let low : d.name.file < length p.trees = slice_get_within p.trees d.name.file r.tree tree_at in
-    let text = there p.texts d.name.file (let e = thin.sized in omega arith) in
-    let thin_file = thin.files d.name.file text.0 r.tree text.1 tree_at in
-    let here = thin_file.constants r.k r.node r.node_there r.constant in
+    let text = there p.texts d.name.file (let e = files.sized in omega arith) in
+    let file_of = files.files d.name.file text.0 r.tree text.1 tree_at in
+    let here = file_of.constants r.k r.node r.node_there r.constant in
     let k_low : r.k < length r.tree.nodes = slice_get_within r.tree.nodes r.k r.node r.node_there in
     let name = r.name in
     let value = r.value in
@@ -170,23 +171,24 @@ placed p o d thin read =
       text = text.0;
       tree_at = tree_at;
       text_at = text.1;
-      thin = thin_file;
+      file = file_of;
+      named = ap (λ (x : ℕ). node_is is_name r.tree x) name ∙ here.named;
       ordered = omega arith;
       within = omega arith;
       operands = λ n inner low high stands.
-          subst (λ (x : ℕ). IsOperand text.0 r.tree x n inner) (sym name)
+          subst (λ (x : ℕ). is_operand x n inner ≡ true) (sym name)
           (here.operands n inner (omega arith) (omega arith) stands);
     }
 
-pub name_there : (p : Package) (o : ℕ) (d : Declaration) → IsThin p → slice_get (declared p) o ≡ Some d → HasNode p d.name.file d.name.node
-name_there p o d thin read =
-    let at = placed p o d thin read in
+pub name_there : (p : Package) (o : ℕ) (d : Declaration) → AreConstantFiles p → slice_get (declared p) o ≡ Some d → HasNode p d.name.file d.name.node
+name_there p o d files read =
+    let at = placed p o d files read in
     let rising = at.ordered in
     let within = at.within in
     (at.tree, at.tree_at, omega arith)
 
-pub value_there : (p : Package) (o : ℕ) (d : Declaration) → IsThin p → slice_get (declared p) o ≡ Some d → HasNode p d.name.file d.value
-value_there p o d thin read = let at = placed p o d thin read in (at.tree, at.tree_at, at.within)
+pub value_there : (p : Package) (o : ℕ) (d : Declaration) → AreConstantFiles p → slice_get (declared p) o ≡ Some d → HasNode p d.name.file d.value
+value_there p o d files read = let at = placed p o d files read in (at.tree, at.tree_at, at.within)
 
-pub value_within : (p : Package) (o : ℕ) (d : Declaration) → IsThin p → slice_get (declared p) o ≡ Some d → (d.name.node < d.value) × (d.value ≤ d.value)
-value_within p o d thin read = let at = placed p o d thin read in (at.ordered, omega arith)
+pub value_within : (p : Package) (o : ℕ) (d : Declaration) → AreConstantFiles p → slice_get (declared p) o ≡ Some d → (d.name.node < d.value) × (d.value ≤ d.value)
+value_within p o d files read = let at = placed p o d files read in (at.ordered, omega arith)

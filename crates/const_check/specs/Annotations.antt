@@ -8,10 +8,11 @@ use Rattle.const_check.specs.declared.mark.Mark.{Mark}
 use Rattle.const_check.specs.declared.mark.Mark.TheVariants.{Silent}
 use Rattle.const_check.specs.declared.annotation.Annotation.{Annotation}
 use Rattle.const_check.specs.Attributes.{filled, Sound}
+use Rattle.const_check.specs.Rules.{Env}
 use Rattle.const_check.specs.Items.{Item, At, Of, IsItem, Reads, Rule}
 
 -- the rows as lists
-abbrev pub cells : List (Vec (Option Mark)) → List (List (Option Mark))
+abbrev pub cells : {X : Type 0} → List (Vec X) → List (List X)
 cells rows = map (λ row. row.items) rows
 
 abbrev pub cell_of : List (List (Option Mark)) → ℕ → ℕ → Option Mark
@@ -39,8 +40,8 @@ pub record IsSized (p : Package) (a : Annotation) : Type 0 where
 abbrev pub SameSize : Annotation → Annotation → Type 0
 SameSize old new = (map length (cells new.nodes.items) ≡ map length (cells old.nodes.items)) × (length new.objects.items ≡ length old.objects.items)
 
-abbrev pub AreSound : Package → Annotation → Type 0
-AreSound p a = Sound (IsItem p) (Reads p) (Rule p) Silent (mark_of a)
+abbrev pub AreSound : Env → Package → Annotation → Type 0
+AreSound env p a = Sound (IsItem p) (Reads p) (Rule env p) Silent (mark_of a)
 
 abbrev pub IsMarked : Annotation → Item → Type 0
 IsMarked a i = (m : Mark) × (mark_of a i ≡ Some m)

@@ -1,8 +1,16 @@
+pub mod Imports
 pub mod Attributes
 pub mod Rules
-pub mod Thin
+pub mod Form
 pub mod Items
+pub mod Index
+pub mod Environments
+pub mod ImportRows
 pub mod Packages
 pub mod Annotations
 pub mod Graphs
 pub mod Refusals
+pub mod Interfaces
+pub mod Uses
+pub mod ImportRefusals
+pub mod Checks

@@ -5,17 +5,21 @@ use Rattle.gv_base.specs.declared.place.Place.{Place}
 use Rattle.go_tree.specs.declared.declaration.Declaration.{Declaration}
 use Rattle.go_tree.specs.Names.{Package, declared, offset_at}
 use Rattle.go_tree.specs.Needs.{IsInValue}
+use Rattle.const_check.specs.Imports.{Import, Known, imports, IsTaken, IsUsed}
 use Rattle.const_check.specs.declared.mark.Mark.{Mark}
-use Rattle.const_check.specs.declared.mark.Mark.TheVariants.{Good, Bad, Outside, Silent}
+use Rattle.const_check.specs.declared.mark.Mark.TheVariants.{Good, Package as Imported, Bad, Outside, Silent}
 use Rattle.const_check.specs.declared.mark.Fault.{Fault}
 use Rattle.const_check.specs.declared.mark.Fault.TheVariants.{Rule as RuleFault, Limit as LimitFault}
 use Rattle.const_check.specs.declared.mark.Limit.{Limit}
 use Rattle.const_check.specs.declared.mark.Limit.TheVariants.{Float, Complex, Wide, LongText, WideType, Unsafe, Cgo, DotImport, BuildConstraint}
 use Rattle.const_check.specs.declared.mark.Refusal.{Refusal}
+use Rattle.const_check.specs.declared.mark.TheConstants.{REDECLARED, UNUSED_IMPORT}
+use Rattle.const_check.specs.Rules.{Env, known_of}
 use Rattle.const_check.specs.Items.{Item, At, Of, IsItem, Annotated}
 
 abbrev pub fault_in : Mark → Option Fault
 fault_in (Good x) = None
+fault_in (Imported k) = None
 fault_in (Bad rule) = Some (RuleFault rule)
 fault_in (Outside limit) = Some (LimitFault limit)
 fault_in Silent = None
@@ -29,8 +33,24 @@ HasPlace p (At f n) place = place ≡ place_at p f n
 HasPlace p (Of o) place = (d : Declaration) × (slice_get (declared p) o ≡ Some d) × (place ≡ place_at p d.name.file d.name.node)
 
 -- the mark of some item refuses the package, at this place and for this fault
-abbrev pub IsRefused : Package → (Item → Mark) → Refusal → Type 0
-IsRefused p marks x = (i : Item) × IsItem p i × HasPlace p i x.place × (fault_in (marks i) ≡ Some x.fault)
+abbrev pub IsRefusedItem : Package → (Item → Mark) → Refusal → Type 0
+IsRefusedItem p marks x = (i : Item) × IsItem p i × HasPlace p i x.place × (fault_in (marks i) ≡ Some x.fault)
+
+-- E1 of an import whose name is taken; E7 of one that no name in its file denotes
+abbrev pub HasImportFault : Known → Package → ℕ → ℕ → Import → Fault → Type 0
+HasImportFault known p f j i fault =
+    ((fault ≡ RuleFault REDECLARED) × IsTaken known p f j i)
+    ⊎ ((fault ≡ RuleFault UNUSED_IMPORT) × ¬ IsUsed known p f j)
+
+-- an import refuses the package, at its first token
+abbrev pub IsRefusedImport : Known → Package → Refusal → Type 0
+IsRefusedImport known p x =
+    (j : ℕ) × (i : Import) × (slice_get (imports known p x.place.file) j ≡ Some i) × (x.place.offset ≡ i.at)
+    × HasImportFault known p x.place.file j i x.fault
+
+-- all that refuses the package: marks of nodes and of constants, and faults of imports
+abbrev pub IsRefused : Env → Package → (Item → Mark) → Refusal → Type 0
+IsRefused env p marks x = IsRefusedItem p marks x ⊎ IsRefusedImport (known_of env) p x
 
 abbrev pub limit_number : Limit → ℕ
 limit_number Float = 0
@@ -69,11 +89,11 @@ Precedes a b =
 abbrev pub IsOrdered : List Refusal → Type 0
 IsOrdered list = (k : ℕ) (a b : Refusal) → slice_get list k ≡ Some a → slice_get list (k + 1) ≡ Some b → Precedes a b
 
--- The list is that of the marks that refuse the package, whatever annotation they are read from.
-pub record AreMarks (p : Package) (list : List Refusal) : Type 0 where
+-- The list is that of the marks that refuse the package over this environment, whatever annotation they are read from.
+pub record AreMarks (p : Package) (env : Env) (list : List Refusal) : Type 0 where
   pub marks : Item → Mark
-  pub annotated : Annotated p marks
-  pub each : (other : Item → Mark) → Annotated p other → (x : Refusal) → Contains list x ↔ IsRefused p other x
+  pub annotated : Annotated env p marks
+  pub each : (other : Item → Mark) → Annotated env p other → (x : Refusal) → Contains list x ↔ IsRefused env p other x
 
 -- a number that grows in this order
 abbrev pub rank_of : Refusal → ℕ
@@ -94,7 +114,7 @@ pub record Refuses (old new : List Refusal) (place : Place) (mark : Mark) : Type
   pub only : (x : Refusal) → Contains new x → Contains old x ⊎ ((x.place ≡ place) × (fault_in mark ≡ Some x.fault))
 
 abbrev pub AreRefused : Package → (Item → Mark) → List Refusal → Type 0
-AreRefused p marks list = (x : Refusal) → Contains list x → IsRefused p marks x
+AreRefused p marks list = (x : Refusal) → Contains list x → IsRefusedItem p marks x
 
 -- the list has what this item refuses
 abbrev pub Has : Package → (Item → Mark) → List Refusal → Item → Type 0

@@ -3,11 +3,12 @@ ghost use Rattle.std.specs.Prelude.{◌≡◌, ℕ, ◌<◌, ◌≤◌, ◌^◌,
 ghost use Rattle.go_tree.specs.Names.{declared, node_at};
 ghost use Rattle.go_tree.specs.Needs.{IsInValue, IsUse, Needs};
 ghost use Rattle.need_order.specs.Graphs.{IsOrder};
-ghost use Rattle.const_check.specs.Thin.{HasNode};
+ghost use Rattle.const_check.specs.Form.{HasNode};
 ghost use Rattle.const_check.specs.Packages.{shown, IsRead};
 ghost use Rattle.const_check.specs.Graphs.{AddsUse, IsRowOf, ShowsNeeds};
 
-use crate::constants::{Constants, is_name_node, node_of};
+use crate::constants::{Constants, node_of};
+use crate::kinds::is_name_node;
 use go_tree::Declaration;
 use gv_base::NoMemory;
 use need_order::{Graph, Needed, order};

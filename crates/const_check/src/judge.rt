@@ -2,20 +2,10 @@
 ghost use Rattle.std.specs.Prelude.{◌≡◌, ◌<◌, ◌≤◌, ◌+◌, ◌*◌, ◌-◌, ◌^◌, ◌+ℤ◌, pos, length, All, FitsSigned};
 ghost use Rattle.std.specs.Int.{w128};
 ghost use Rattle.std.specs.Option.{SomeIff};
-ghost use Rattle.const_check.specs.Rules.{constant_mark, literal_mark, decimal_value, sum_mark, use_mark, object_mark, is_literal, is_sum};
-ghost use Rattle.const_check.specs.Thin.{IsDigit};
+ghost use Rattle.const_check.specs.Rules.{constant_mark, literal_mark, decimal_value, sum_mark, object_mark};
+ghost use Rattle.const_check.specs.Form.{IsDigit};
 
-use crate::mark::{Limit, Mark, UNDEFINED};
-use go_tree::NodeKind;
-
-pub fn is_literal_node(kind: NodeKind) -> bool
-    ensures { result ≡ is_literal kind }
-{
-    match kind {
-        NodeKind::Int => true,
-        _ => false,
-    }
-}
+use crate::mark::{Limit, Mark};
 
 fn narrow_sum(x: i128, y: i128) -> Option<i128>
     ensures { SomeIff result (FitsSigned w128 (x +ℤ y)) (x +ℤ y) }
@@ -45,18 +35,8 @@ pub fn judge_sum(a: Mark, b: Mark) -> Mark
     judge_total(x, y)
 }
 
-/// The mark of a use, from that of the object that it denotes.
-pub fn judge_use(object: Option<Mark>) -> Mark
-    ensures { result ≡ use_mark object }
-{
-    match object {
-        None => Mark::Bad(UNDEFINED),
-        Some(Mark::Good(x)) => Mark::Good(x),
-        Some(_) => Mark::Silent,
-    }
-}
-
-/// The mark of an object that is neither cyclic nor redeclared, from that of its value.
+/// The mark of an object that is neither cyclic nor redeclared, from that of its value; and the mark
+/// of a use, from that of the object that it denotes.
 pub fn judge_object(value: Mark) -> Mark
     ensures { result ≡ object_mark value }
 {

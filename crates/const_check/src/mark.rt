@@ -14,6 +14,18 @@ pub const UNDEFINED: Rule = Rule(3);
 /// E4 declaration cycle
 pub const DECLARATION_CYCLE: Rule = Rule(4);
 
+/// E7 unused import
+pub const UNUSED_IMPORT: Rule = Rule(7);
+
+/// E9 not exported by package
+pub const NOT_EXPORTED: Rule = Rule(9);
+
+/// E20 no such field or method
+pub const NO_FIELD: Rule = Rule(20);
+
+/// E24 not a value
+pub const NOT_A_VALUE: Rule = Rule(24);
+
 /// What lies outside the profile, in the order of its numbers.
 #[derive(Clone, Copy, Debug, PartialEq, Eq, PartialOrd, Ord, Drop)]
 pub enum Limit {
@@ -49,6 +61,8 @@ pub enum Fault {
 pub enum Mark {
     /// It keeps all rules, and its value is this integer of 128 bits.
     Good(i128),
+    /// It keeps all rules, and is the name of an imported package: the number of its interface.
+    Package(usize),
     /// It breaks this rule.
     Bad(Rule),
     /// It lies outside the profile.

@@ -3,16 +3,21 @@ ghost use Rattle.std.specs.Prelude.{◌≡◌, ℕ, ◌<◌, ◌≤◌, ◌↔�
 ghost use Rattle.go_tree.specs.Names.{node_at, spelled_at, part_of, declared, Denoted, IsRedeclared};
 ghost use Rattle.go_tree.specs.Needs.{IsInValue, Needs};
 ghost use Rattle.need_order.specs.Graphs.{Cyclic, IsOrder};
-ghost use Rattle.const_check.specs.Rules.{use_mark, literal_mark, sum_mark};
-ghost use Rattle.const_check.specs.Thin.{HasNode, IsDigit};
+ghost use Rattle.go_tree.specs.Lexeme.{place_of};
+ghost use Rattle.const_check.specs.Imports.{import_names, import_named, is_before_dot, selected_at};
+ghost use Rattle.const_check.specs.Rules.{known_of, use_mark, literal_mark, sum_mark, selector_mark};
+ghost use Rattle.const_check.specs.Form.{HasNode, IsDigit};
 ghost use Rattle.const_check.specs.Items.{Item, At, Of, IsItem, Rule, Annotated};
-ghost use Rattle.const_check.specs.Packages.{shown, IsRead};
+ghost use Rattle.const_check.specs.Packages.{shown, env_of, IsRead};
 ghost use Rattle.const_check.specs.Annotations.{mark_of, marks_of, IsSized, HasCell, IsMarked, IsReady, Keeps, AreSound, AreCyclicMarked, AreObjectsMarked};
 
 use crate::annotation::Annotation;
-use crate::constants::{Constants, is_name_node, node_of, spelled};
-use crate::judge::{is_literal_node, judge_literal, judge_object, judge_sum, judge_use};
-use crate::mark::{DECLARATION_CYCLE, Mark, REDECLARED};
+use crate::constants::{Constants, node_of, spelled};
+use crate::environment::{judge_package, judge_selector};
+use crate::imports::line_at;
+use crate::judge::{judge_literal, judge_object, judge_sum};
+use crate::kinds::{is_literal_node, is_name_node, is_sum_node};
+use crate::mark::{DECLARATION_CYCLE, Mark, NOT_A_VALUE, REDECLARED, UNDEFINED};
 use go_tree::{Declaration, Node};
 use gv_base::NoMemory;
 use need_order::Needed;
@@ -32,6 +37,47 @@ fn denoted_mark(constants: &Constants, marks: &Annotation, file: usize, node: us
     }
 }
 
+/// The mark of a name that denotes an import of its file.
+fn judge_import(constants: &Constants, file: usize, node: usize, place: usize) -> Mark
+    requires read { IsRead constants.now }
+    requires stands { HasNode (shown constants.now) file node }
+    requires denotes { place_of (import_names (known_of (env_of constants.now)) (shown constants.now) file) (spelled_at (shown constants.now) file node) ≡ Some place }
+    ensures { result ≡ use_mark (env_of constants.now) (is_before_dot (shown constants.now) file node) None (import_named (known_of (env_of constants.now)) (shown constants.now) file (spelled_at (shown constants.now) file node)) }
+{
+    if !constants.is_before_dot(file, node) {
+        return Mark::Bad(NOT_A_VALUE);
+    }
+    let row = constants.row(file);
+    let line = line_at(row, place);
+    judge_package(&constants.env, line.path)
+}
+
+/// The mark of a name that denotes no constant.
+fn judge_no_constant(constants: &Constants, file: usize, node: usize) -> Mark
+    requires read { IsRead constants.now }
+    requires stands { HasNode (shown constants.now) file node }
+    ensures { result ≡ use_mark (env_of constants.now) (is_before_dot (shown constants.now) file node) None (import_named (known_of (env_of constants.now)) (shown constants.now) file (spelled_at (shown constants.now) file node)) }
+{
+    match constants.import_place(file, node) {
+        Some(place) => judge_import(constants, file, node, place),
+        None => Mark::Bad(UNDEFINED),
+    }
+}
+
+/// The mark of a name.
+fn judge_name(constants: &Constants, marks: &Annotation, file: usize, node: usize) -> Mark
+    requires read { IsRead constants.now }
+    requires sized { IsSized (shown constants.now) marks.now }
+    requires stands { HasNode (shown constants.now) file node }
+    ensures { (object : _) → Denoted (shown constants.now) (spelled_at (shown constants.now) file node) object
+        → result ≡ use_mark (env_of constants.now) (is_before_dot (shown constants.now) file node) (option_map (λ u. marks_of marks.now (Of u)) object) (import_named (known_of (env_of constants.now)) (shown constants.now) file (spelled_at (shown constants.now) file node)) }
+{
+    match denoted_mark(constants, marks, file, node) {
+        Some(mark) => judge_object(mark),
+        None => judge_no_constant(constants, file, node),
+    }
+}
+
 /// The mark of the sum of two nodes.
 fn mark_of_sum(marks: &Annotation, file: usize, node: &Node) -> Mark
     requires parts { length node.now.parts ≡ 2 }
@@ -45,21 +91,42 @@ fn mark_of_sum(marks: &Annotation, file: usize, node: &Node) -> Mark
     judge_sum(left, right)
 }
 
+/// The mark of a selector.
+fn mark_of_selector(
+    constants: &Constants,
+    marks: &Annotation,
+    file: usize,
+    node: usize,
+    it: &Node,
+) -> Mark
+    requires read { IsRead constants.now }
+    requires stands { HasNode (shown constants.now) file node }
+    requires parts { length it.now.parts ≡ 1 }
+    requires left { HasCell marks.now file (part_of it.now 0) }
+    ensures { result ≡ selector_mark (env_of constants.now) (marks_of marks.now (At file (part_of it.now 0))) (selected_at (shown constants.now) file node) }
+{
+    let left = marks.node(file, it.parts.as_slice()[0] as usize);
+    judge_selector(&constants.env, left, constants.selected(file, node))
+}
+
 /// The mark that the rule of a node gives, over the marks so far.
 fn judge_node(constants: &Constants, marks: &Annotation, file: usize, node: usize) -> Mark
     requires read { IsRead constants.now }
     requires sized { IsSized (shown constants.now) marks.now }
     requires item { IsItem (shown constants.now) (At file node) }
-    ensures { Rule (shown constants.now) (At file node) (marks_of marks.now) result }
+    ensures { Rule (env_of constants.now) (shown constants.now) (At file node) (marks_of marks.now) result }
 {
     let it = node_of(constants.trees, file, node);
     if is_name_node(it.kind) {
-        return judge_use(denoted_mark(constants, marks, file, node));
+        return judge_name(constants, marks, file, node);
     }
     if is_literal_node(it.kind) {
         return judge_literal(spelled(constants.sources, constants.trees, file, node));
     }
-    mark_of_sum(marks, file, it)
+    if is_sum_node(it.kind) {
+        return mark_of_sum(marks, file, it);
+    }
+    mark_of_selector(constants, marks, file, node, it)
 }
 
 /// Marks a node by its rule, unless it is marked.
@@ -67,10 +134,10 @@ fn mark_node(constants: &Constants, marks: &mut Annotation, file: usize, node: u
     requires read { IsRead constants.now }
     requires sized { IsSized (shown constants.now) marks.old }
     requires item { IsItem (shown constants.now) (At file node) }
-    requires sound { AreSound (shown constants.now) marks.old }
+    requires sound { AreSound (env_of constants.now) (shown constants.now) marks.old }
     requires ready { IsReady (shown constants.now) marks.old (At file node) }
     ensures sized { IsSized (shown constants.now) marks.new }
-    ensures sound { AreSound (shown constants.now) marks.new }
+    ensures sound { AreSound (env_of constants.now) (shown constants.now) marks.new }
     ensures keeps { Keeps marks.old marks.new }
     ensures marked { IsMarked marks.new (At file node) }
 {
@@ -86,7 +153,7 @@ fn judge_declared(constants: &Constants, marks: &Annotation, object: usize, cycl
     requires sized { IsSized (shown constants.now) marks.now }
     requires within { object < length (declared (shown constants.now)) }
     requires cyclic { IsTrue cyclic ↔ Cyclic (Needs (shown constants.now)) object }
-    ensures { Rule (shown constants.now) (Of object) (marks_of marks.now) result }
+    ensures { Rule (env_of constants.now) (shown constants.now) (Of object) (marks_of marks.now) result }
 {
     if cyclic {
         return Mark::Bad(DECLARATION_CYCLE);
@@ -104,10 +171,10 @@ fn mark_object(constants: &Constants, marks: &mut Annotation, object: usize, cyc
     requires sized { IsSized (shown constants.now) marks.old }
     requires within { object < length (declared (shown constants.now)) }
     requires cyclic { IsTrue cyclic ↔ Cyclic (Needs (shown constants.now)) object }
-    requires sound { AreSound (shown constants.now) marks.old }
+    requires sound { AreSound (env_of constants.now) (shown constants.now) marks.old }
     requires ready { IsReady (shown constants.now) marks.old (Of object) }
     ensures sized { IsSized (shown constants.now) marks.new }
-    ensures sound { AreSound (shown constants.now) marks.new }
+    ensures sound { AreSound (env_of constants.now) (shown constants.now) marks.new }
     ensures keeps { Keeps marks.old marks.new }
     ensures marked { IsMarked marks.new (Of object) }
 {
@@ -122,10 +189,10 @@ fn mark_value(constants: &Constants, marks: &mut Annotation, object: usize, cons
     requires read { IsRead constants.now }
     requires sized { IsSized (shown constants.now) marks.old }
     requires stands { slice_get (declared (shown constants.now)) object ≡ Some constant }
-    requires sound { AreSound (shown constants.now) marks.old }
+    requires sound { AreSound (env_of constants.now) (shown constants.now) marks.old }
     requires needs { (u : ℕ) → Needs (shown constants.now) object u → IsMarked marks.old (Of u) }
     ensures sized { IsSized (shown constants.now) marks.new }
-    ensures sound { AreSound (shown constants.now) marks.new }
+    ensures sound { AreSound (env_of constants.now) (shown constants.now) marks.new }
     ensures keeps { Keeps marks.old marks.new }
     ensures marked { (n : ℕ) → IsInValue constant n → IsMarked marks.new (At constant.name.file n) }
 {
@@ -143,10 +210,10 @@ fn mark_constant(constants: &Constants, marks: &mut Annotation, object: usize)
     requires sized { IsSized (shown constants.now) marks.old }
     requires within { object < length (declared (shown constants.now)) }
     requires acyclic { ¬ Cyclic (Needs (shown constants.now)) object }
-    requires sound { AreSound (shown constants.now) marks.old }
+    requires sound { AreSound (env_of constants.now) (shown constants.now) marks.old }
     requires needs { (u : ℕ) → Needs (shown constants.now) object u → IsMarked marks.old (Of u) }
     ensures sized { IsSized (shown constants.now) marks.new }
-    ensures sound { AreSound (shown constants.now) marks.new }
+    ensures sound { AreSound (env_of constants.now) (shown constants.now) marks.new }
     ensures keeps { Keeps marks.old marks.new }
     ensures marked { IsMarked marks.new (Of object) }
 {
@@ -160,9 +227,9 @@ fn mark_cyclic(constants: &Constants, marks: &mut Annotation, order: &[Needed])
     requires read { IsRead constants.now }
     requires sized { IsSized (shown constants.now) marks.old }
     requires order { IsOrder (Needs (shown constants.now)) (length (declared (shown constants.now))) order.now }
-    requires sound { AreSound (shown constants.now) marks.old }
+    requires sound { AreSound (env_of constants.now) (shown constants.now) marks.old }
     ensures sized { IsSized (shown constants.now) marks.new }
-    ensures sound { AreSound (shown constants.now) marks.new }
+    ensures sound { AreSound (env_of constants.now) (shown constants.now) marks.new }
     ensures marked { AreCyclicMarked (shown constants.now) marks.new }
 {
     for needed in order {
@@ -177,10 +244,10 @@ fn mark_objects(constants: &Constants, marks: &mut Annotation, order: &[Needed])
     requires read { IsRead constants.now }
     requires sized { IsSized (shown constants.now) marks.old }
     requires order { IsOrder (Needs (shown constants.now)) (length (declared (shown constants.now))) order.now }
-    requires sound { AreSound (shown constants.now) marks.old }
+    requires sound { AreSound (env_of constants.now) (shown constants.now) marks.old }
     requires cyclic { AreCyclicMarked (shown constants.now) marks.old }
     ensures sized { IsSized (shown constants.now) marks.new }
-    ensures sound { AreSound (shown constants.now) marks.new }
+    ensures sound { AreSound (env_of constants.now) (shown constants.now) marks.new }
     ensures marked { AreObjectsMarked (shown constants.now) marks.new }
 {
     for needed in order {
@@ -194,10 +261,10 @@ fn mark_objects(constants: &Constants, marks: &mut Annotation, order: &[Needed])
 fn mark_rest(constants: &Constants, marks: &mut Annotation)
     requires read { IsRead constants.now }
     requires sized { IsSized (shown constants.now) marks.old }
-    requires sound { AreSound (shown constants.now) marks.old }
+    requires sound { AreSound (env_of constants.now) (shown constants.now) marks.old }
     requires objects { AreObjectsMarked (shown constants.now) marks.old }
     ensures sized { IsSized (shown constants.now) marks.new }
-    ensures sound { AreSound (shown constants.now) marks.new }
+    ensures sound { AreSound (env_of constants.now) (shown constants.now) marks.new }
     ensures marked { (i : Item) → IsItem (shown constants.now) i → IsMarked marks.new i }
 {
     for object in 0..constants.declared.len() {
@@ -216,8 +283,8 @@ pub fn elaborate(
     requires order { IsOrder (Needs (shown constants.now)) (length (declared (shown constants.now))) order.now }
     ensures sized { IfOk result (λ a. IsSized (shown constants.now) a) }
     ensures marked { IfOk result (λ a. (i : Item) → IsItem (shown constants.now) i → IsMarked a i) }
-    ensures annotated { IfOk result (λ a. Annotated (shown constants.now) (marks_of a)) }
-    ensures alone { IfOk result (λ a. (marks : Item → Mark) → Annotated (shown constants.now) marks
+    ensures annotated { IfOk result (λ a. Annotated (env_of constants.now) (shown constants.now) (marks_of a)) }
+    ensures alone { IfOk result (λ a. (marks : Item → Mark) → Annotated (env_of constants.now) (shown constants.now) marks
         → (i : Item) → IsItem (shown constants.now) i → marks i ≡ marks_of a i) }
 {
     let mut marks = Annotation::new(alloc, constants.trees, constants.declared.len())?;

@@ -3,11 +3,11 @@ ghost use Rattle.std.specs.Prelude.{◌≡◌, ℕ, ◌<◌, ◌≤◌, ◌+◌,
 ghost use Rattle.std.specs.List.Sorted.{IsNonDecreasingBy};
 ghost use Rattle.go_tree.specs.Names.{declared, node_at};
 ghost use Rattle.go_tree.specs.Needs.{IsInValue};
-ghost use Rattle.const_check.specs.Thin.{HasNode};
+ghost use Rattle.const_check.specs.Form.{HasNode};
 ghost use Rattle.const_check.specs.Items.{Item, At, Of};
 ghost use Rattle.const_check.specs.Packages.{shown, IsRead};
 ghost use Rattle.const_check.specs.Annotations.{IsSized, marks_of};
-ghost use Rattle.const_check.specs.Refusals.{fault_in, place_at, IsRefused, limit_number, fault_number, Precedes, IsOrdered, rank_of, Refuses, AreRefused, Has, HasConstant};
+ghost use Rattle.const_check.specs.Refusals.{fault_in, place_at, IsRefusedItem, Refuses, AreRefused, Has, HasConstant};
 
 use crate::annotation::Annotation;
 use crate::constants::{Constants, token_of, tree_at};
@@ -21,6 +21,7 @@ fn fault_of(mark: Mark) -> Option<Fault>
 {
     match mark {
         Mark::Good(_) => None,
+        Mark::Package(_) => None,
         Mark::Bad(rule) => Some(Fault::Rule(rule)),
         Mark::Outside(limit) => Some(Fault::Limit(limit)),
         Mark::Silent => None,
@@ -101,7 +102,7 @@ fn refuse_constant(
     Ok(())
 }
 
-/// The refusals, in no order.
+/// The refusals by marks, in no order.
 pub fn all_refusals(
     alloc: Global,
     constants: &Constants,
@@ -109,7 +110,7 @@ pub fn all_refusals(
 ) -> Result<Vec<Refusal>, NoMemory>
     requires read { IsRead constants.now }
     requires sized { IsSized (shown constants.now) marks.now }
-    ensures { IfOk result (λ list. (x : Refusal) → Contains list.items x ↔ IsRefused (shown constants.now) (marks_of marks.now) x) }
+    ensures { IfOk result (λ list. (x : Refusal) → Contains list.items x ↔ IsRefusedItem (shown constants.now) (marks_of marks.now) x) }
 {
     let mut list = Vec::new(alloc);
     for object in 0..constants.declared.len() {

@@ -7,7 +7,7 @@ use Rattle.const_check.proofs.graph.row_of.Goals as goal
 
 pub add_use-requires-clause-stands : goal.add_use-requires-clause-stands
 add_use-requires-clause-stands c =
-    inner_there (shown c.args.constants.now) c.args.object c.loop-node.node c.args.constant c.requires.read.thin c.requires.stands (omega arith)
+    inner_there (shown c.args.constants.now) c.args.object c.loop-node.node c.args.constant c.requires.read.files c.requires.stands (omega arith)
 
 pub loop-node-preserved : goal.loop-node-preserved
 loop-node-preserved c =

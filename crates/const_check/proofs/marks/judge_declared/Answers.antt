@@ -12,4 +12,4 @@ returns-then-cyclic c = λ d read.
 pub node-requires : goal.node-requires
 node-requires c =
     cell_there (shown c.args.constants.now) c.args.marks.now c.declaration-constant.result.name.file c.declaration-constant.result.value c.requires.sized
-    (value_there (shown c.args.constants.now) c.args.object c.declaration-constant.result c.requires.read.thin c.declaration-constant.ensures)
+    (value_there (shown c.args.constants.now) c.args.object c.declaration-constant.result c.requires.read.files c.declaration-constant.ensures)

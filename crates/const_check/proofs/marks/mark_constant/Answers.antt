@@ -7,4 +7,4 @@ pub mark_object-requires-clause-ready : goal.mark_object-requires-clause-ready
 mark_object-requires-clause-ready c =
     object_ready (shown c.args.constants.now) c.mark_value.new.marks c.args.object c.declaration-constant.result c.declaration-constant.ensures
     (c.mark_value.ensures.marked c.declaration-constant.result.value
-    (value_within (shown c.args.constants.now) c.args.object c.declaration-constant.result c.requires.read.thin c.declaration-constant.ensures))
+    (value_within (shown c.args.constants.now) c.args.object c.declaration-constant.result c.requires.read.files c.declaration-constant.ensures))

@@ -7,7 +7,7 @@ use Rattle.const_check.proofs.marks.mark_value.Goals as goal
 
 pub mark_node-requires-clause-ready : goal.mark_node-requires-clause-ready
 mark_node-requires-clause-ready c =
-    inner_ready (shown c.args.constants.now) c.loop-node.marks c.args.object c.args.constant c.loop-node.node c.requires.read.thin c.requires.stands (omega arith) (omega arith)
+    inner_ready (shown c.args.constants.now) c.loop-node.marks c.args.object c.args.constant c.loop-node.node c.requires.read.files c.requires.stands (omega arith) (omega arith)
     (λ k low high. c.loop-node.invariant.done k high low)
     (λ u needs. keeps_marked c.args.marks.now c.loop-node.marks (Of u) c.loop-node.invariant.keeps (c.requires.needs u needs))
 

@@ -6,7 +6,7 @@ use Rattle.const_check.proofs.RefusalLemmas.{step_sound, constant_has}
 use Rattle.const_check.proofs.refusals.refuse_constant.Goals as goal
 
 pub place_of-place-requires-clause-stands : goal.place_of-place-requires-clause-stands
-place_of-place-requires-clause-stands c = name_there (shown c.args.constants.now) c.args.object c.declaration-constant.result c.requires.read.thin c.declaration-constant.ensures
+place_of-place-requires-clause-stands c = name_there (shown c.args.constants.now) c.args.object c.declaration-constant.result c.requires.read.files c.declaration-constant.ensures
 
 pub returns-clause-sound : goal.returns-clause-sound
 returns-clause-sound c =

@@ -10,12 +10,12 @@ use Rattle.const_check.proofs.refusals.refuse_value.Goals as goal
 
 pub place_of-requires-clause-stands : goal.place_of-requires-clause-stands
 place_of-requires-clause-stands c =
-    inner_there (shown c.args.constants.now) c.args.object c.loop-node.node c.args.constant c.requires.read.thin c.requires.stands (omega arith)
+    inner_there (shown c.args.constants.now) c.args.object c.loop-node.node c.args.constant c.requires.read.files c.requires.stands (omega arith)
 
 pub node-requires : goal.node-requires
 node-requires c =
     cell_there (shown c.args.constants.now) c.args.marks.now c.args.constant.name.file c.loop-node.node c.requires.sized
-    (inner_there (shown c.args.constants.now) c.args.object c.loop-node.node c.args.constant c.requires.read.thin c.requires.stands (omega arith))
+    (inner_there (shown c.args.constants.now) c.args.object c.loop-node.node c.args.constant c.requires.read.files c.requires.stands (omega arith))
 
 pub loop-node-preserved : goal.loop-node-preserved
 loop-node-preserved c =

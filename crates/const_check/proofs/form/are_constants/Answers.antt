@@ -1,0 +1,19 @@
+use Rattle.std.proofs.Common.{◌≡◌, ℕ, true, length, ap, refl, arith}
+use Rattle.std.proofs.lemmas.Option.{slice_get_within}
+use Rattle.go_tree.specs.declared.tree.Node.{Node}
+use Rattle.go_tree.specs.Names.{is_constant}
+use Rattle.const_check.specs.Form.{IsConstant}
+use Rattle.const_check.proofs.FormFacts.{each_more}
+use Rattle.const_check.proofs.form.are_constants.Goals as goal
+
+pub loop-at-preserved : goal.loop-at-preserved
+loop-at-preserved c =
+    each_more (λ (n : ℕ) (node : Node). is_constant node.kind ≡ true → IsConstant c.args.tree.now n node) c.args.tree.now.nodes c.as_slice-nodes.result.now c.loop-at.at c.index-nodes-at.result
+    c.as_slice-nodes.ensures c.loop-at-test.true c.index-nodes-at.is (c.is_constant_if_any.ensures.0 c.if-not-is_constant_if_any.false) c.loop-at.invariant
+
+pub returns : goal.returns
+returns c = (
+  λ yes n node read is. c.loop-at.invariant n
+      (let low = slice_get_within c.args.tree.now.nodes n node read in let e = ap length c.as_slice-nodes.ensures in omega arith) node read is,
+  λ all. refl,
+)
