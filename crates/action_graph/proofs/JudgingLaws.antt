@@ -1,25 +1,26 @@
 -- What a run may know of the rules: there is one finding, and an interface has the path of its package.
-use Rattle.std.proofs.Common.{◌≡◌, ℕ, ◌<◌, ◌++◌, ◌⊎◌, inl, inr, Bool, true, false, Some, List, [], ◌∷◌, get_or, refl, sym, ap, ◌∙◌, subst, arith}
-use Rattle.std.specs.Prelude.{codes}
-use Rattle.std.specs.Str.{is_utf8}
+use Rattle.std.proofs.Common.{◌≡◌, ℕ, ◌<◌, ◌⊎◌, inl, inr, List, [], ◌∷◌, get_or, refl, sym, ap, ◌∙◌, subst, arith}
 use Rattle.std.proofs.lemmas.Option.{same_Some}
+use Rattle.go_tree.specs.Names.{Package}
 use Rattle.export_data.specs.declared.constants.ConstInterface.{ConstInterface}
 use Rattle.export_data.specs.Spelling.{IsSpelled}
 use Rattle.export_data.proofs.Interfaces.{spelled_is_read}
 use Rattle.gv_bytes.proofs.Options.{some_is}
 use Rattle.action_graph.specs.declared.kit.LoadInput.{LoadInput}
 use Rattle.action_graph.specs.declared.marks.MarkLine.{MarkLine}
-use Rattle.action_graph.specs.Nodes.{Named, load_texts}
-use Rattle.action_graph.specs.Marks.{AreSpelled, marks_of}
-use Rattle.action_graph.specs.Judging.{Judged, Env, Judges, judged_files, judged_text, judged_named, has_name, AreInterfaces, IsLawful, IsOutcome, IsOutcomeOf, Tells, accepted_text, refused_text}
+use Rattle.action_graph.specs.Nodes.{Named}
+use Rattle.action_graph.specs.Marks.{AreSpelled}
+use Rattle.action_graph.specs.Judging.{Judged, Env, Judges, Finds, AreInterfaces, IsOutcome, IsOutcomeOf, Tells, accepted_text, refused_text}
 use Rattle.action_graph.specs.Judging.Judged.{Accepts, Refuses}
+use Rattle.action_graph.proofs.OneFinding.{finds-once, one-package}
 use Rattle.action_graph.proofs.NodeLemmas.{one_load}
 use Rattle.action_graph.proofs.Lines.{spelled_is_read as marks_are_read}
 
 -- there is one finding
 pub judges_once : (path : List ℕ) (files : List Named) (env : Env) (a b : Judged) → Judges path files env a → Judges path files env b → a ≡ b
 unfolding Judges
-judges_once path files env a b h g = h ∙ sym g
+judges_once path files env a b (p, (of, finds)) (q, (of2, finds2)) =
+    finds-once path q env a b (subst (λ (x : Package). Finds path x env a) (one-package files p q of of2) finds) finds2
 
 face_or : ConstInterface → Judged → ConstInterface
 face_or d (Accepts i) = i
@@ -29,22 +30,10 @@ pub same_accepts : (i k : ConstInterface) → Accepts i ≡ Accepts k → i ≡ 
 unfolding face_or
 same_accepts i k h = ap (face_or i) h
 
-named_path : (path name : List ℕ) (b : Bool) (i : ConstInterface) → Accepts i ≡ judged_named path name b → i.path ≡ path
-named_path path name true i h = cc
-named_path path name false i h = ap (λ (x : ConstInterface). x.path) (same_accepts i (record { path = path; name = name; list = [] }) h)
-
-text_path : (path name : List ℕ) (env : Env) (b : Bool) (i : ConstInterface) → Accepts i ≡ judged_text path name env b → i.path ≡ path
-text_path path name env true i h = named_path path name (has_name name env) i h
-text_path path name env false i h = cc
-
-files_path : (path : List ℕ) (files : List Named) (env : Env) (i : ConstInterface) → Accepts i ≡ judged_files path files env → i.path ≡ path
-files_path path [] env i h = cc
-files_path path (file ∷ files) env i h = text_path path file.1 env (is_utf8 file.1) i h
-
 -- an interface has the path of its package
 pub accepts_path : (path : List ℕ) (files : List Named) (env : Env) (i : ConstInterface) → Judges path files env (Accepts i) → i.path ≡ path
 unfolding Judges
-accepts_path path files env i h = files_path path files env i h
+accepts_path path files env i (p, (of, (marks, (exports, (at, name))))) = at
 
 -- a text spells one interface
 pub one_face : (i k : ConstInterface) (text : List ℕ) → IsSpelled i text → IsSpelled k text → i ≡ k

@@ -1,5 +1,5 @@
 -- The table of flags, and the ready nodes below a place.
-use Rattle.std.proofs.Common.{◌≡◌, ◌≢◌, ℕ, ◌<◌, ◌≤◌, ◌+◌, ◌*◌, ◌/◌, ◌⊎◌, inl, inr, Bool, true, false, Some, None, List, [], ◌∷◌, ◌++◌, length, slice_get, set, get_or, get_or-set_same, get_or-set_other, replicate, refl, sym, ap, ◌∙◌, subst, arith, zero, suc}
+use Rattle.std.proofs.Common.{◌≡◌, ℕ, ◌<◌, ◌≤◌, ◌+◌, ◌*◌, ◌⊎◌, inl, inr, Bool, true, false, Some, List, [], ◌∷◌, ◌++◌, length, slice_get, set, get_or, get_or-set_same, get_or-set_other, replicate, refl, sym, ap, ◌∙◌, subst, arith, zero, suc}
 use Rattle.std.specs.List.{Contains}
 use Rattle.std.proofs.Math.ListN.{length-set}
 use Rattle.std.proofs.lemmas.Option.{same_Some, slice_get_within, slice_get-get_or}
@@ -7,8 +7,8 @@ use Rattle.std.proofs.lemmas.List.Elements.{Contains-push, Contains-push_cases, 
 use Rattle.action_graph.specs.declared.work.ActionNode.{ActionNode}
 use Rattle.action_graph.specs.declared.work.ActionNode.TheVariants.{Load, Run}
 use Rattle.action_graph.specs.declared.work.PackageLine.{PackageLine}
-use Rattle.action_graph.specs.Work.{place_of, package_of, IsAnalyzer, IsNumbered, has_facts, IsChosen}
-use Rattle.action_graph.specs.Flags.{IsSet, IsTable, AreDone, IsLoadMarked, IsRunMarked, IsMarkedAt}
+use Rattle.action_graph.specs.Work.{place_of, package_of, IsAnalyzer, IsNumbered}
+use Rattle.action_graph.specs.Flags.{IsSet, IsTable, IsLoadMarked, IsRunMarked, IsMarkedAt}
 use Rattle.action_graph.specs.Ready.{IsLoadReady, IsRunReady, IsReadyAt, IsReady, AreReadyBelow, AreReady}
 
 -- a place has one node

@@ -1,10 +1,19 @@
 -- What comes of a package, by its path, its files and the interfaces of the packages that it imports; and what
 -- comes of a load, by its texts alone (Go 1.17, "Packages", "Import declarations"). Nothing here reads a cache.
-use Rattle.std.specs.Prelude.{◌≡◌, ℕ, ◌<◌, ◌++◌, Bool, true, false, List, [], ◌∷◌, Some, slice_get, AllPairs, codes, if◌then◌else◌}
-use Rattle.std.specs.Str.{bytes_eq, is_utf8}
+use Rattle.std.specs.Prelude.{◌≡◌, ℕ, ◌<◌, ◌≤◌, ◌^◌, ◌++◌, true, false, List, [], ◌∷◌, map, length, get_or, All, Some, slice_get, codes}
+use Rattle.gv_base.specs.declared.place.Place.{Place}
 use Rattle.gv_base.specs.Files.{is_before, AreInOrder}
 use Rattle.export_data.specs.declared.constants.ConstInterface.{ConstInterface}
 use Rattle.export_data.specs.Spelling.{IsSpelled}
+use Rattle.go_tree.specs.declared.tree.FileTree.{FileTree}
+use Rattle.go_tree.specs.Names.{Package, spelled_at}
+use Rattle.parse_file.specs.Verdict.{IsParsed}
+use Rattle.const_check.specs.declared.mark.Fault.{Fault}
+use Rattle.const_check.specs.declared.mark.Fault.TheVariants.{Rule as RuleFault, Limit as LimitFault}
+use Rattle.const_check.specs.declared.mark.Refusal.{Refusal}
+use Rattle.const_check.specs.Form.{AreConstantFiles}
+use Rattle.const_check.specs.Interfaces.{AreExports}
+use Rattle.const_check.specs.Refusals.{AreMarks, IsOrdered, limit_number}
 use Rattle.action_graph.specs.declared.kit.LoadInput.{LoadInput}
 use Rattle.action_graph.specs.declared.kit.Load.{Load}
 use Rattle.action_graph.specs.declared.kit.Load.TheVariants.{Accepted, Refused}
@@ -21,40 +30,58 @@ pub data Judged : Type 0 where
 abbrev pub Env : Type 0
 Env = List ConstInterface
 
--- one of the packages has this name
-abbrev pub has_name : List ℕ → Env → Bool
-has_name name [] = false
-has_name name (i ∷ env) = if bytes_eq i.name name then true else has_name name env
+-- the text of a file
+abbrev pub text_of : Named → List ℕ
+text_of file = file.1
 
-abbrev pub first_mark : MarkLine
-first_mark = record { at = record { file = 0; offset = 0 }; limit = false; number = 1 }
+-- each text with its tree
+abbrev pub AreParsed : List (List ℕ) → List FileTree → Type 0
+AreParsed [] [] = Unit {0}
+AreParsed [] (tree ∷ trees) = ⊥
+AreParsed (text ∷ texts) [] = ⊥
+AreParsed (text ∷ texts) (tree ∷ trees) = IsParsed text tree × AreParsed texts trees
 
-abbrev pub judged_named : List ℕ → List ℕ → Bool → Judged
-judged_named path name true = Judged.Refuses (first_mark ∷ [])
-judged_named path name false = Judged.Accepts (record { path = path; name = name; list = [] })
+-- The package of these files: the texts with their trees, all of constants.
+pub record IsPackageOf (files : List Named) (p : Package) : Type 0 where
+  pub texts : p.texts ≡ map text_of files
+  pub trees : AreParsed p.texts p.trees
+  pub form : AreConstantFiles p
 
-abbrev pub judged_text : List ℕ → List ℕ → Env → Bool → Judged
-judged_text path name env true = judged_named path name (has_name name env)
-judged_text path name env false = Judged.Refuses (first_mark ∷ [])
+-- the line of a refusal in the marks text
+abbrev pub fault_line : Place → Fault → MarkLine
+fault_line at (RuleFault rule) = record { at = at; limit = false; number = rule.0 }
+fault_line at (LimitFault limit) = record { at = at; limit = true; number = limit_number limit }
 
-abbrev pub judged_files : List ℕ → List Named → Env → Judged
-judged_files path [] env = Judged.Refuses (first_mark ∷ [])
-judged_files path (file ∷ files) env = judged_text path file.1 env (is_utf8 file.1)
+abbrev pub line_of : Refusal → MarkLine
+line_of r = fault_line r.place r.fault
 
--- The rules: what is found of the package of this path, with these files and over these interfaces. The typing
--- rules aren't put in yet. In their place stands this: the first file is the package's name, in UTF-8, which no
--- package that it imports may have; all else in the files is hidden from others. A run knows of this relation
--- no more than that there is one finding, and that an interface has the path of its package.
+-- What is found of a package by its path, its trees and the interfaces of the packages that it imports: nothing
+-- refuses it, and this is its interface; or these refuse it, in order and each once.
+abbrev pub Finds : List ℕ → Package → Env → Judged → Type 0
+Finds path p env (Judged.Accepts i) = AreMarks p env [] × (AreExports p env i.list × ((i.path ≡ path) × (i.name ≡ spelled_at p 0 0)))
+Finds path p env (Judged.Refuses lines) =
+    (refused : List Refusal) × (AreMarks p env refused × (IsOrdered refused × ((refused ≡ [] → ⊥) × (lines ≡ map line_of refused))))
+
+-- The rules: what is found of the package of this path, with these files and over these interfaces. A run knows of
+-- this relation no more than that there is one finding, and that an interface has the path of its package.
 unfoldable pub Judges : List ℕ → List Named → Env → Judged → Type 0
-Judges path files env judged = judged ≡ judged_files path files env
+Judges path files env judged = (p : Package) × (IsPackageOf files p × Finds path p env judged)
+
+-- the place is in one of the texts, or at its end
+abbrev pub StandsIn : List (List ℕ) → Place → Type 0
+StandsIn texts at = (at.file < length texts) × (at.offset ≤ length (get_or texts at.file []))
 
 -- What is asked of a package's own texts: a path, some file, and files in the order of their paths, of which none
--- is empty.
+-- is empty; few enough and short enough to be counted, and each of constants.
 pub record IsSource (path : List ℕ) (files : List Named) : Type 0 where
   pub has_path : path ≡ [] → ⊥
   pub has_file : files ≡ [] → ⊥
   pub named : AreNamed files
   pub ordered : AreInOrder files
+  pub few : length files < 2 ^ 32
+  pub short : All (λ text. length text ≤ 2 ^ 24) (map text_of files)
+  pub pack : Package
+  pub of : IsPackageOf files pack
 
 -- each export text with the interface that it spells, of the package beside whose path it stands
 abbrev pub AreInterfaces : List Named → Env → Type 0

@@ -1,9 +1,10 @@
 //! Laws of the texts. Their bodies are empty: the contracts are the laws.
-ghost use Rattle.std.specs.Prelude.{◌≡◌, ℕ, List};
+ghost use Rattle.std.specs.Prelude.{◌≡◌, ◌<◌, ◌≤◌, ℕ, List, [], length, map, get_or, Contains};
 ghost use Rattle.gv_bytes.specs.Spelling.{items, AreItems};
 ghost use Rattle.action_graph.specs.Marks.{mark, IsMark};
-ghost use Rattle.action_graph.specs.Nodes.{AreNamed, load_texts};
-ghost use Rattle.action_graph.specs.Judging.{IsOutcomeOf};
+ghost use Rattle.action_graph.specs.Nodes.{Named, AreNamed, load_texts};
+ghost use Rattle.action_graph.specs.Judging.{Env, Judges, IsOutcomeOf, text_of};
+ghost use Rattle.action_graph.specs.Judging.Judged.{Refuses};
 ghost use Rattle.action_graph.specs.declared.kit.LoadInput.{LoadInput};
 ghost use Rattle.action_graph.specs.declared.marks.MarkLine.{MarkLine};
 
@@ -20,4 +21,9 @@ pub fn one_load_input()
 /// Texts have one outcome.
 pub fn one_outcome()
     ensures { (texts : List (List ℕ)) (a b : List ℕ) → IsOutcomeOf texts a → IsOutcomeOf texts b → a ≡ b }
+{}
+
+/// Each mark that refuses a package stands in one of its files, at its end at most.
+pub fn marks_stand()
+    ensures { (path : List ℕ) (files : List Named) (env : Env) (lines : List MarkLine) (m : MarkLine) → Judges path files env (Refuses lines) → Contains lines m → (m.at.file < length files) × (m.at.offset ≤ length (get_or (map text_of files) m.at.file [])) }
 {}

@@ -30,14 +30,32 @@ fn push_pairs(alloc: Global, texts: &mut Vec<Bytes>, list: &[(Text, Bytes)]) -> 
     Ok(())
 }
 
+/// The texts of what a load reads: the package's path, its files, and its environment.
+pub fn texts_of_parts(
+    alloc: Global,
+    path: &str,
+    files: &[(Text, Bytes)],
+    env: &[(Text, Bytes)],
+) -> Result<Vec<Bytes>, NoMemory>
+    ensures { IfOk result (λ v. v.items ≡ load_texts (record { path = path.now; files = files.now; env = env.now })) }
+{
+    let mut texts = Vec::new(alloc);
+    push_text(alloc, &mut texts, path.as_bytes())?;
+    push_pairs(alloc, &mut texts, files)?;
+    push_text(alloc, &mut texts, b"")?;
+    push_pairs(alloc, &mut texts, env)?;
+    Ok(texts)
+}
+
 /// The texts of a load's input, all that it reads.
 pub fn texts_of_load(alloc: Global, input: &LoadInput) -> Result<Vec<Bytes>, NoMemory>
     ensures { IfOk result (λ v. v.items ≡ load_texts input.now) }
 {
-    let mut texts = Vec::new(alloc);
-    push_text(alloc, &mut texts, input.path.as_str().as_bytes())?;
-    push_pairs(alloc, &mut texts, input.files.as_slice())?;
-    push_text(alloc, &mut texts, b"")?;
-    push_pairs(alloc, &mut texts, input.env.as_slice())?;
+    let texts = texts_of_parts(
+        alloc,
+        input.path.as_str(),
+        input.files.as_slice(),
+        input.env.as_slice(),
+    )?;
     Ok(texts)
 }

@@ -1,0 +1,37 @@
+-- What is read of a load's texts: the tree of each file, and the interface of each export text.
+use Rattle.std.specs.Prelude.{◌≡◌, ℕ, ◌≤◌, ◌^◌, List, [], ◌∷◌, length}
+use Rattle.export_data.specs.declared.constants.ConstInterface.{ConstInterface}
+use Rattle.export_data.specs.Spelling.{IsSpelled}
+use Rattle.go_tree.specs.declared.tree.FileTree.{FileTree}
+use Rattle.go_tree.specs.Names.{Package}
+use Rattle.parse_file.specs.Verdict.{IsParsed}
+use Rattle.const_check.specs.Form.{IsConstantFile}
+use Rattle.action_graph.specs.Nodes.{Named}
+use Rattle.action_graph.specs.Judging.{Env, Judged, Finds, Tells}
+
+-- the tree is that of the text, which is a file of constants
+pub record IsFileOf (text : List ℕ) (tree : FileTree) : Type 0 where
+  pub parsed : IsParsed text tree
+  pub form : IsConstantFile text tree
+
+-- so is each
+abbrev pub AreFilesOf : List (List ℕ) → List FileTree → Type 0
+AreFilesOf [] [] = Unit {0}
+AreFilesOf [] (tree ∷ trees) = ⊥
+AreFilesOf (text ∷ texts) [] = ⊥
+AreFilesOf (text ∷ texts) (tree ∷ trees) = IsFileOf text tree × AreFilesOf texts trees
+
+-- a text that is short enough to be counted
+abbrev pub IsShort : List ℕ → Type 0
+IsShort text = length text ≤ 2 ^ 24
+
+-- the interface of an export text, of the package beside whose path it stands
+pub record IsFaceOf (pair : Named) (i : ConstInterface) : Type 0 where
+  pub spelled : IsSpelled i pair.1
+  pub path : i.path ≡ pair.0
+
+-- the text tells what is found of a package
+pub record TellsOf (path : List ℕ) (p : Package) (env : Env) (text : List ℕ) : Type 0 where
+  pub judged : Judged
+  pub finds : Finds path p env judged
+  pub tells : Tells judged text

@@ -1,0 +1,93 @@
+//! The kit of integer constants.
+ghost use Rattle.std.specs.Prelude.{◌≡◌, ◌+◌, ◌<◌, ◌≤◌, ◌^◌, List, ℕ, map, length, IfOk, OnOk, OnErr};
+ghost use Rattle.action_graph.specs.Judging.{IsLawful, IsOutcome, load_text, text_of};
+ghost use Rattle.const_kit.specs.Reading.{AreFilesOf};
+
+use crate::env::read_env;
+use crate::read::{read_files, texts_of};
+use crate::tell::{judge, refuse};
+use action_graph::{Kit, Load, LoadInput};
+use go_tree::FileTree;
+use gv_base::NoMemory;
+use std::alloc::Global;
+
+/// Loads packages of integer constants, and counts its loads. It takes any texts. Where a file is too long,
+/// doesn't parse or isn't one of constants, where there are 2^32 files or more, or where an export text spells
+/// no interface of the path beside it, the package is refused with no mark.
+#[derive(Drop)]
+pub struct ConstKit {
+    alloc: Global,
+    loads: u64,
+}
+
+impl ConstKit {
+    /// A kit that has loaded nothing.
+    pub fn new(alloc: Global) -> Self
+        ensures loads { result.loads ≡ 0 }
+    {
+        ConstKit { alloc, loads: 0 }
+    }
+
+    /// How many loads it has done.
+    pub fn loads(&self) -> u64
+        ensures { result ≡ self.now.loads }
+    {
+        self.loads
+    }
+}
+
+/// What comes of a package with these trees.
+fn load_trees(alloc: Global, input: &LoadInput, trees: &[FileTree]) -> Result<Load<()>, NoMemory>
+    requires files { AreFilesOf (map text_of input.now.files) trees.now }
+    requires few { length input.now.files < 2 ^ 32 }
+    ensures { IsLawful input.now → IfOk result (λ load. IsOutcome input.now (load_text load)) }
+{
+    let read = read_env(alloc, input.env.as_slice())?;
+    match read {
+        Some(env) => {
+            let sources = texts_of(alloc, input.files.as_slice())?;
+            let load = judge(alloc, input.path.as_str(), &sources, trees, &env)?;
+            Ok(load)
+        }
+        None => {
+            let load = refuse(alloc, &[])?;
+            Ok(load)
+        }
+    }
+}
+
+/// What comes of a package.
+fn load_package(alloc: Global, input: &LoadInput) -> Result<Load<()>, NoMemory>
+    ensures { IsLawful input.now → IfOk result (λ load. IsOutcome input.now (load_text load)) }
+{
+    let files = input.files.as_slice();
+    if files.len() >= 1 << 32 {
+        let load = refuse(alloc, &[])?;
+        return Ok(load);
+    }
+    let read = read_files(alloc, files)?;
+    match read {
+        Some(trees) => {
+            let load = load_trees(alloc, input, &trees)?;
+            Ok(load)
+        }
+        None => {
+            let load = refuse(alloc, &[])?;
+            Ok(load)
+        }
+    }
+}
+
+impl Kit for ConstKit {
+    type Loaded = ();
+
+    ghost loads = { λ k. k.loads };
+
+    ghost runs = { λ k. 0 };
+
+    fn load(&mut self, input: &LoadInput) -> Result<Load<()>, NoMemory> {
+        let load = load_package(self.alloc, input)?;
+        self.loads += 1;
+        Ok(load)
+    }
+}

@@ -1,0 +1,12 @@
+//! Loads packages of integer constants.
+#![tactic(auto)]
+
+mod env;
+mod kit;
+mod read;
+mod tell;
+
+pub use kit::ConstKit;
+
+#[cfg(test)]
+mod tests;
