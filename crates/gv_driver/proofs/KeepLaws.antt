@@ -1,5 +1,5 @@
 -- The executed entries go into the cache in order.
-use Rattle.std.proofs.Common.{◌≡◌, ℕ, ◌<◌, ◌≤◌, ◌+◌, ◌-◌, ◌⊎◌, inl, inr, Bool, true, false, Option, Some, None, List, [], ◌∷◌, ◌++◌, length, slice_get, get_or, set, map, drop, length-drop, if◌then◌else◌, refl, sym, ap, ◌∙◌, subst, arith, zero, suc, append_assoc}
+use Rattle.std.proofs.Common.{◌≡◌, ℕ, ◌<◌, ◌+◌, ◌-◌, inl, inr, Bool, true, false, Option, Some, None, List, [], ◌∷◌, ◌++◌, length, slice_get, get_or, set, map, drop, length-drop, if◌then◌else◌, refl, sym, ap, ◌∙◌, subst, arith, zero, suc, append_assoc}
 use Rattle.std.specs.List.{Contains}
 use Rattle.std.proofs.lemmas.Option.{same_Some, slice_get-get_or}
 use Rattle.std.proofs.lemmas.List.{map-append}
@@ -10,7 +10,7 @@ use Rattle.fact_cache.specs.Caches.{lookup}
 use Rattle.gv_driver.specs.declared.tree.PackageTexts.{PackageTexts}
 use Rattle.gv_driver.specs.declared.node.Node.{Node}
 use Rattle.gv_driver.specs.Trees.{IsTree}
-use Rattle.gv_driver.specs.Caches.{IsRight, IsHonest, IsCacheAfter, IsPartKept, is_cached, missing_of, input_of}
+use Rattle.gv_driver.specs.Caches.{IsHonest, IsCacheAfter, IsPartKept, is_cached, missing_of, input_of}
 use Rattle.gv_driver.specs.Tables.{IsKeyOf, IsTable, keys_in}
 use Rattle.gv_driver.specs.Runs.{CanKeep, Keeping, entry_of, kept}
 use Rattle.gv_driver.proofs.Places.{append-none, nothing-left, nothing-contained}

@@ -1,11 +1,11 @@
-mod Places
-mod WholeLaws
+pub mod Places
+pub mod WholeLaws
 mod CacheLaws
 mod TableLaws
-mod WaveLaws
 mod StepLaws
+mod OrderLaws
 mod KeepLaws
 mod ReportLaws
 mod RunLaws
-mod OnceLaws
+pub mod OnceLaws
 mod PerformLaws

@@ -1,7 +1,6 @@
 -- A tree has one report, and a run leaves one cache.
-use Rattle.std.proofs.Common.{◌≡◌, ℕ, ◌<◌, ◌+◌, true, false, Option, Some, None, List, [], ◌∷◌, ◌++◌, length, slice_get, map, refl, sym, ap, ◌∙◌, subst, arith, zero, suc}
+use Rattle.std.proofs.Common.{◌≡◌, ℕ, ◌<◌, true, Option, Some, List, [], ◌∷◌, ◌++◌, length, slice_get, map, refl, sym, ap, ◌∙◌, subst, arith}
 use Rattle.std.specs.List.{Contains}
-use Rattle.std.proofs.lemmas.Option.{same_Some}
 use Rattle.export_data.specs.declared.constants.ConstInterface.{ConstInterface}
 use Rattle.action_graph.specs.declared.marks.MarkLine.{MarkLine}
 use Rattle.action_graph.specs.Judging.{Judged, IsOutcomeOf}
@@ -14,7 +13,7 @@ use Rattle.gv_driver.specs.declared.reply.Verdict.{Verdict}
 use Rattle.gv_driver.specs.declared.reply.Verdict.TheVariants as verdict
 use Rattle.gv_driver.specs.Whole.{Checked}
 use Rattle.gv_driver.specs.Whole.Checked.{checked}
-use Rattle.gv_driver.specs.Caches.{IsRight, IsHonest, IsCacheAfter, input_of}
+use Rattle.gv_driver.specs.Caches.{IsHonest, IsCacheAfter, input_of}
 use Rattle.gv_driver.specs.Reports.{HasVerdict, IsReport}
 use Rattle.gv_driver.proofs.Places.{element, same-list, at-contained}
 use Rattle.gv_driver.proofs.CacheLaws.{honest-append}

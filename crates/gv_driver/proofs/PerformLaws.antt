@@ -1,9 +1,9 @@
 -- A ready package's load is performed.
-use Rattle.std.proofs.Common.{◌≡◌, ℕ, ◌<◌, ◌+◌, Some, List, Option, length, slice_get, set, get_or, refl, sym, ap, ◌∙◌, subst, arith}
+use Rattle.std.proofs.Common.{◌≡◌, ℕ, ◌+◌, Some, List, Option, slice_get, set, get_or, map, sym, ap, ◌∙◌, subst}
 use Rattle.std.proofs.lemmas.Option.{slice_get_within, slice_get-get_or}
 use Rattle.action_graph.specs.declared.kit.LoadInput.{LoadInput}
-use Rattle.action_graph.specs.Judging.{IsLawful, IsOutcome, IsOutcomeOf, Tells}
-use Rattle.action_graph.specs.Nodes.{load_texts}
+use Rattle.action_graph.specs.Judging.{IsLawful, IsOutcome}
+use Rattle.action_graph.specs.Nodes.{Named, load_texts}
 use Rattle.action_graph.proofs.NodeLemmas.{one_load}
 use Rattle.fact_cache.specs.declared.texts.Input.{Input}
 use Rattle.fact_cache.specs.declared.list.Entry.{Entry}
@@ -13,7 +13,7 @@ use Rattle.gv_driver.specs.declared.node.Node.{Node}
 use Rattle.gv_driver.specs.Trees.{IsTree}
 use Rattle.gv_driver.specs.Loads.{IsLoadOf, load_input}
 use Rattle.gv_driver.specs.Caches.{IsHonest, is_cached}
-use Rattle.gv_driver.specs.Tables.{answer_text, answer_in, cost, load_from, IsKeyOf, IsTable, IsReady}
+use Rattle.gv_driver.specs.Tables.{answer_text, answer_in, cost, load_from, pair_at, IsKeyOf, IsTable, IsReady}
 use Rattle.gv_driver.specs.Runs.{Performs}
 use Rattle.gv_driver.proofs.CacheLaws.{honest-lookup}
 use Rattle.gv_driver.proofs.WholeLaws.{load-lawful}
@@ -48,3 +48,16 @@ found-right cache load text honest lawful e =
     let same : r.load ≡ load = one_load r.load load r.lawful.source.named lawful.source.named (sym r.is) in
     let out : IsOutcome load text = subst (λ (l : LoadInput). IsOutcome l text) same r.outcome in
     same-outcome load text (answer_text (answer_in text)) (sym (read-again out.judged text out.tells)) out
+
+-- the texts of a load's parts
+pub texts-from : (tree : List PackageTexts) (table : List (Option Node)) (pack : PackageTexts) (texts : List (List ℕ)) (path : List ℕ) (files env : List Named)
+    → path ≡ pack.path → files ≡ pack.files → env ≡ map (pair_at tree table) pack.imports → texts ≡ load_texts (record { path = path; files = files; env = env }) → texts ≡ load_texts (load_from tree table pack)
+texts-from tree table pack texts path files env p f e is =
+    is ∙ (ap (λ (x : List ℕ). load_texts (record { path = x; files = files; env = env })) p
+    ∙ (ap (λ (x : List Named). load_texts (record { path = pack.path; files = x; env = env })) f
+    ∙ ap (λ (x : List Named). load_texts (record { path = pack.path; files = pack.files; env = x })) e))
+
+-- what comes of an input that was made of the table
+pub outcome-from : (load from : LoadInput) (text answer : List ℕ) → load ≡ from → answer ≡ text → (IsLawful load → IsOutcome load text) → IsLawful from → IsOutcome from answer
+outcome-from load from text answer made same right lawful =
+    subst (λ (t : List ℕ). IsOutcome from t) (sym same) (subst (λ (l : LoadInput). IsOutcome l text) made (right (subst (λ (l : LoadInput). IsLawful l) (sym made) lawful)))

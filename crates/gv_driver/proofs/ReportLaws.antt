@@ -1,5 +1,5 @@
 -- The table at the end of a run gives the verdicts of the whole tree.
-use Rattle.std.proofs.Common.{◌≡◌, ℕ, ◌<◌, ◌+◌, ◌⊎◌, inl, inr, Bool, true, false, Option, Some, None, List, [], ◌∷◌, ◌++◌, length, slice_get, refl, sym, ap, ◌∙◌, subst, arith, zero, suc}
+use Rattle.std.proofs.Common.{◌≡◌, ℕ, ◌<◌, ◌+◌, ◌⊎◌, inl, inr, Bool, true, false, Option, Some, None, List, [], ◌∷◌, ◌++◌, length, slice_get, refl, sym, ap, ◌∙◌, subst, arith, suc}
 use Rattle.std.specs.List.{Contains}
 use Rattle.std.proofs.lemmas.Option.{same_Some, slice_get_within}
 use Rattle.export_data.specs.declared.constants.ConstInterface.{ConstInterface}
@@ -12,13 +12,11 @@ use Rattle.gv_driver.specs.declared.node.Answer.{Answer}
 use Rattle.gv_driver.specs.declared.node.Answer.TheVariants as answer
 use Rattle.gv_driver.specs.declared.node.Node.{Node}
 use Rattle.gv_driver.specs.declared.reply.Verdict.{Verdict}
-use Rattle.gv_driver.specs.declared.reply.Verdict.TheVariants as verdict
 use Rattle.gv_driver.specs.Whole.{Checked}
-use Rattle.gv_driver.specs.Whole.Checked.{checked}
 use Rattle.gv_driver.specs.Tables.{answer_text, accepted_in, IsGood, AreRight, IsReady}
 use Rattle.gv_driver.specs.Reports.{HasVerdict, IsReport, IsAnswerShown, IsShown, AreShown}
-use Rattle.gv_driver.proofs.Places.{element, same-list, get-push_cases, contains-head, contains-tail, cons-cases, nothing-contained, at-contained}
-use Rattle.gv_driver.proofs.WholeLaws.{same_pack, unique, judged-of}
+use Rattle.gv_driver.proofs.Places.{element, get-push_cases, contains-head, contains-tail, cons-cases, nothing-contained}
+use Rattle.gv_driver.proofs.WholeLaws.{judged-of}
 use Rattle.gv_driver.proofs.TableLaws.{accepted-good}
 
 good-or : (table : List (Option Node)) (q : ℕ) (b : Bool) → accepted_in (slice_get table q) ≡ b → IsGood table q ⊎ (accepted_in (slice_get table q) ≡ false)

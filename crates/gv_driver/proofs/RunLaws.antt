@@ -1,5 +1,5 @@
 -- The plan of a tree, and what a run leaves.
-use Rattle.std.proofs.Common.{◌≡◌, ℕ, ◌<◌, ◌≤◌, ◌+◌, Bool, true, false, if◌then◌else◌, Option, Some, None, List, [], ◌∷◌, ◌++◌, length, slice_get, map, replicate, refl, sym, ap, ◌∙◌, subst, arith, zero, suc}
+use Rattle.std.proofs.Common.{◌≡◌, ℕ, ◌≤◌, ◌+◌, Bool, true, false, if◌then◌else◌, Option, Some, None, List, [], ◌∷◌, length, slice_get, replicate, refl, sym, ap, ◌∙◌, subst, arith, suc}
 use Rattle.std.specs.Prelude.{sum_by}
 use Rattle.std.specs.Option.{option_map}
 use Rattle.std.proofs.lemmas.Option.{same_Some}
@@ -9,12 +9,11 @@ use Rattle.fact_cache.specs.declared.list.Entry.{Entry}
 use Rattle.gv_driver.specs.declared.tree.PackageTexts.{PackageTexts}
 use Rattle.gv_driver.specs.declared.node.Node.{Node}
 use Rattle.gv_driver.specs.declared.reply.Reply.{Reply}
-use Rattle.gv_driver.specs.declared.reply.Verdict.{Verdict}
 use Rattle.gv_driver.specs.Loads.{IsInput, IsPlan}
-use Rattle.gv_driver.specs.Caches.{IsHonest, IsPartKept, IsCacheAfter, missing_of, is_cached, input_of}
-use Rattle.gv_driver.specs.Tables.{AreRight, IsTable, IsReady, key_in, keys_in, executed, waiting, done_in, fresh_in}
-use Rattle.gv_driver.specs.Reports.{IsReport, AreShown}
-use Rattle.gv_driver.specs.Runs.{Goes, Keeping, Ran, IsCutOff, some_in}
+use Rattle.gv_driver.specs.Caches.{IsHonest, IsPartKept, missing_of, is_cached}
+use Rattle.gv_driver.specs.Tables.{AreRight, IsReady, key_in, keys_in, executed, waiting, done_in, fresh_in}
+use Rattle.gv_driver.specs.Reports.{AreShown}
+use Rattle.gv_driver.specs.Runs.{Goes, Keeping, Ran, IsCutOff}
 use Rattle.gv_driver.proofs.Places.{append-none, get-mapped, get-unmapped, unmapped}
 use Rattle.gv_driver.proofs.WholeLaws.{unique-input, unique-plan}
 use Rattle.gv_driver.proofs.TableLaws.{load-done}
@@ -92,9 +91,9 @@ pub cut-first : (tree : List PackageTexts) (before : List Entry) (count : ℕ) �
 cut-first tree before count = record { loads = λ inputs plan. omega arith; cache = λ inputs plan. nothing-kept before inputs }
 
 -- cut off before anything was kept
-pub cut-in_waves : (tree : List PackageTexts) (before : List Entry) (first table : List (Option Node)) (count now : ℕ) → IsHonest before → first ≡ replicate (length tree) None
+pub cut-in_loads : (tree : List PackageTexts) (before : List Entry) (first table : List (Option Node)) (count now : ℕ) → IsHonest before → first ≡ replicate (length tree) None
     → Goes tree before first table count now → IsCutOff tree before before count now
-cut-in_waves tree before first table count now honest start goes = record {
+cut-in_loads tree before first table count now honest start goes = record {
   loads = loads-le tree before first table count now honest start goes;
   cache = λ inputs plan. nothing-kept before inputs;
 }

@@ -1,8 +1,7 @@
 -- A table of nodes, when a node is put into it.
-use Rattle.std.proofs.Common.{◌≡◌, ℕ, ◌<◌, ◌≤◌, ◌+◌, ◌⊎◌, inl, inr, Bool, true, false, if◌then◌else◌, Option, Some, None, List, [], ◌∷◌, length, slice_get, set, get_or, map, replicate, refl, sym, ap, ◌∙◌, subst, arith, zero, suc}
+use Rattle.std.proofs.Common.{◌≡◌, ℕ, ◌<◌, ◌≤◌, ◌+◌, inl, inr, Bool, true, false, if◌then◌else◌, Option, Some, None, List, [], ◌∷◌, length, slice_get, set, get_or, replicate, refl, sym, ap, ◌∙◌, subst, arith, zero, suc}
 use Rattle.std.specs.List.{Contains}
 use Rattle.std.specs.Prelude.{sum_by}
-use Rattle.std.specs.Option.{option_map}
 use Rattle.std.proofs.Math.ListN.{length-set}
 use Rattle.std.proofs.lemmas.Option.{same_Some, slice_get_within, get_or_from_slice_get}
 use Rattle.std.proofs.lemmas.List.Sums.{sum_by-set, sum_by-cons}
@@ -10,7 +9,7 @@ use Rattle.fact_cache.specs.declared.texts.Input.{Input}
 use Rattle.fact_cache.specs.declared.list.Entry.{Entry}
 use Rattle.gv_driver.specs.declared.tree.PackageTexts.{PackageTexts}
 use Rattle.gv_driver.specs.declared.node.Node.{Node}
-use Rattle.gv_driver.specs.Trees.{Imports, IsTree}
+use Rattle.gv_driver.specs.Trees.{Imports}
 use Rattle.gv_driver.specs.Caches.{IsHonest, missing_of, is_cached}
 use Rattle.gv_driver.specs.Tables.{accepted_in, IsGood, IsRightNode, AreRight, IsKeyOf, IsTable, IsReady, keys_in, executed, cost, waiting, weight, done_in, fresh_in}
 use Rattle.gv_driver.specs.Runs.{Performs, Goes, some_in}
@@ -59,23 +58,23 @@ good-kept table p q n waits ok = ap accepted_in (get-set_other table p q (Some n
 imports-in : (tree : List PackageTexts) (p q : ℕ) (pack : PackageTexts) → slice_get tree p ≡ Some pack → Imports tree p q → Contains pack.imports q
 imports-in tree p q pack at (other, h, c) = subst (λ (x : PackageTexts). Contains x.imports q) (same_pack tree p other pack h at) c
 
-right-set : (tree : List PackageTexts) (table : List (Option Node)) (p : ℕ) (n : Node) → AreRight tree table → IsReady tree table p → IsRightNode tree p n → AreRight tree (set table p (Some n))
-right-set tree table p n is ready right = record {
+right-set : (tree : List PackageTexts) (table : List (Option Node)) (p : ℕ) (n : Node) → AreRight tree table → IsRightNode tree p n → AreRight tree (set table p (Some n))
+right-set tree table p n is right = record {
   size = length-set table p (Some n) ∙ is.size;
   node = λ q m h. elim (get-set_cases table p q (Some n) (Some m) h) [
     | inl e ↦ subst (λ (x : ℕ). IsRightNode tree x m) (sym e.0) (subst (λ (x : Node). IsRightNode tree p x) (same_Some n m e.1) right)
     | inr was ↦ is.node q m was
   ];
-  closed = λ q r m h import. good-kept table p r n ready.waits (elim (get-set_cases table p q (Some n) (Some m) h) [
-    | inl e ↦ ready.accepted r (imports-in tree p r ready.pack ready.at (subst (λ (x : ℕ). Imports tree x r) e.0 import))
-    | inr was ↦ is.closed q r m was import
-  ]);
 }
 
 table-set : (tree : List PackageTexts) (before : List Entry) (table : List (Option Node)) (p : ℕ) (n : Node) → IsTable tree before table → IsReady tree table p
     → IsKeyOf tree p n.key → n.found ≡ is_cached before n.key → (IsHonest before → IsRightNode tree p n) → IsTable tree before (set table p (Some n))
 table-set tree before table p n is ready key found right = record {
   size = length-set table p (Some n) ∙ is.size;
+  closed = λ q r m h import. good-kept table p r n ready.waits (elim (get-set_cases table p q (Some n) (Some m) h) [
+    | inl e ↦ ready.accepted r (imports-in tree p r ready.pack ready.at (subst (λ (x : ℕ). Imports tree x r) e.0 import))
+    | inr was ↦ is.closed q r m was import
+  ]);
   key = λ q m h. elim (get-set_cases table p q (Some n) (Some m) h) [
     | inl e ↦ subst (λ (x : ℕ). IsKeyOf tree x m.key) (sym e.0) (subst (λ (x : Node). IsKeyOf tree p x.key) (same_Some n m e.1) key)
     | inr was ↦ is.key q m was
@@ -84,7 +83,7 @@ table-set tree before table p n is ready key found right = record {
     | inl e ↦ subst (λ (x : Node). x.found ≡ is_cached before x.key) (same_Some n m e.1) found
     | inr was ↦ is.found q m was
   ];
-  right = λ honest. right-set tree table p n (is.right honest) ready (right honest);
+  right = λ honest. right-set tree table p n (is.right honest) (right honest);
 }
 
 pub goes-refl : (tree : List PackageTexts) (before : List Entry) (table : List (Option Node)) (count : ℕ) → IsTable tree before table → Goes tree before table table count count
@@ -118,20 +117,6 @@ goes-on tree before first table next begun count now a b =
     let four : now + waiting next ≤ count + waiting table = b.room in
     record { right = b.right; counts = omega (arith, one, two); room = omega (arith, three, four) }
 
-pub fewer-performs : (tree : List PackageTexts) (before : List Entry) (table next : List (Option Node)) (count now p : ℕ)
-    → slice_get table p ≡ Some None → Performs tree before p table next count now → waiting next + 1 ≡ waiting table
-fewer-performs tree before table next count now p waits does = rw does.is (waiting-set table p does.node waits)
-
-pub ready-kept : (tree : List PackageTexts) (before : List Entry) (table next : List (Option Node)) (p q count now : ℕ) → slice_get table p ≡ Some None
-    → Performs tree before p table next count now → (q ≡ p → ⊥) → IsReady tree table q → IsReady tree next q
-ready-kept tree before table next p q count now waits does other is = rw does.is (record {
-  pack = is.pack;
-  at = is.at;
-  waits = get-set_other table p q (Some does.node) other ∙ is.waits;
-  sound = is.sound;
-  accepted = λ r h. good-kept table p r does.node waits (is.accepted r h);
-})
-
 abbrev nones : ℕ → List (Option Node)
 nones n = replicate n None
 
@@ -148,13 +133,10 @@ length-none (suc n) = ap (λ m. suc m) (length-none n)
 pub table-none : (tree : List PackageTexts) (before : List Entry) (table : List (Option Node)) → table ≡ replicate (length tree) None → IsTable tree before table
 table-none tree before table e = rw e (record {
   size = length-none (length tree);
+  closed = λ p q n h import. absurd (no-node (length tree) p n h);
   key = λ p n h. absurd (no-node (length tree) p n h);
   found = λ p n h. absurd (no-node (length tree) p n h);
-  right = λ honest. record {
-    size = length-none (length tree);
-    node = λ p n h. absurd (no-node (length tree) p n h);
-    closed = λ p q n h import. absurd (no-node (length tree) p n h);
-  };
+  right = λ honest. record { size = length-none (length tree); node = λ p n h. absurd (no-node (length tree) p n h) };
 })
 
 waiting-replicate : (n : ℕ) → waiting (replicate n None) ≡ n

@@ -1,31 +1,28 @@
 -- What the table's nodes tell of the tree.
-use Rattle.std.proofs.Common.{◌≡◌, ℕ, ◌<◌, ◌⊎◌, inl, inr, Bool, true, false, Option, Some, None, List, [], ◌∷◌, ◌++◌, length, slice_get, map, drop, refl, sym, ap, ◌∙◌, subst, arith, zero, suc}
+use Rattle.std.proofs.Common.{◌≡◌, ℕ, ◌<◌, true, Option, Some, None, List, [], ◌∷◌, ◌++◌, length, slice_get, map, refl, sym, ap, ◌∙◌, subst, arith}
 use Rattle.std.specs.List.{Contains}
-use Rattle.std.specs.Prelude.{codes}
-use Rattle.std.proofs.lemmas.Option.{same_Some, slice_get_within, slice_get-get_or}
+use Rattle.std.proofs.lemmas.Option.{same_Some, slice_get_within}
 use Rattle.std.proofs.lemmas.List.{length-map}
 use Rattle.export_data.specs.declared.constants.ConstInterface.{ConstInterface}
 use Rattle.export_data.specs.Spelling.{IsSpelled}
 use Rattle.action_graph.specs.Nodes.{Named, pairs}
 use Rattle.action_graph.specs.declared.kit.LoadInput.{LoadInput}
-use Rattle.action_graph.specs.Judging.{Judged, Tells, IsOutcome, IsOutcomeOf, accepted_text, refused_text}
+use Rattle.action_graph.specs.Judging.{Judged, Tells}
 use Rattle.action_graph.specs.Judging.Judged.{Accepts, Refuses}
 use Rattle.action_graph.proofs.JudgingLaws.{tells_accepted, tells_refused}
 use Rattle.fact_cache.specs.declared.texts.Input.{Input}
-use Rattle.fact_cache.specs.declared.list.Entry.{Entry}
 use Rattle.gv_driver.specs.declared.tree.PackageTexts.{PackageTexts}
 use Rattle.gv_driver.specs.declared.node.Answer.{Answer}
 use Rattle.gv_driver.specs.declared.node.Answer.TheVariants.{Accepted, Refused}
 use Rattle.gv_driver.specs.declared.node.Node.{Node}
-use Rattle.gv_driver.specs.Trees.{Imports, IsTree}
 use Rattle.gv_driver.specs.Whole.{Checked}
 use Rattle.gv_driver.specs.Whole.Checked.{checked}
-use Rattle.gv_driver.specs.Loads.{IsExport, AreExports, IsLoadOf, IsInput, load_input}
+use Rattle.gv_driver.specs.Loads.{IsExport, IsLoadOf, load_input}
 use Rattle.gv_driver.specs.Caches.{IsRight}
-use Rattle.gv_driver.specs.Tables.{answer_text, answer_in, is_good, export_part, accepted_one, accepted_in, IsGood, path_in, export_in, pair_at, load_from, IsRightNode, AreRight, IsKeyOf, IsTable, IsReady}
+use Rattle.gv_driver.specs.Tables.{answer_text, answer_in, is_good, export_part, accepted_in, IsGood, path_in, export_in, pair_at, load_from, IsRightNode, AreRight, IsKeyOf, IsReady}
 use Rattle.gv_driver.specs.Runs.{entry_of}
 use Rattle.gv_driver.proofs.Places.{element, get-mapped, contains-at, at-contained}
-use Rattle.gv_driver.proofs.WholeLaws.{same_pack, unique, judged-of, unique-input}
+use Rattle.gv_driver.proofs.WholeLaws.{same_pack, unique, judged-of}
 
 -- the answer that is read from an outcome text has that text
 pub read-again : (judged : Judged) (text : List ℕ) → Tells judged text → answer_text (answer_in text) ≡ text

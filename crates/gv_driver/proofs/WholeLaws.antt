@@ -1,6 +1,5 @@
 -- A package has one finding, and a load one input.
-use Rattle.std.proofs.Common.{◌≡◌, ℕ, ◌<◌, ◌+◌, ◌⊎◌, inl, inr, true, false, Option, Some, List, [], ◌∷◌, ◌++◌, length, slice_get, get_or, map, refl, sym, ap, ◌∙◌, subst, arith, zero, suc}
-use Rattle.std.specs.List.{Contains}
+use Rattle.std.proofs.Common.{◌≡◌, ℕ, ◌<◌, ◌+◌, ◌⊎◌, inl, inr, true, false, Option, Some, List, [], ◌∷◌, ◌++◌, length, slice_get, refl, sym, ap, ◌∙◌, subst, arith, zero, suc}
 use Rattle.std.proofs.lemmas.Option.{same_Some, slice_get_within}
 use Rattle.gv_base.specs.Files.{is_before}
 use Rattle.gv_base.proofs.FileLemmas.{before-flip}
@@ -9,14 +8,14 @@ use Rattle.export_data.specs.Spelling.{IsSpelled, interface}
 use Rattle.action_graph.specs.declared.kit.LoadInput.{LoadInput}
 use Rattle.action_graph.specs.Nodes.{Named, pairs, load_texts}
 use Rattle.action_graph.specs.Judging.{Judged, Env, Judges, AreInterfaces, IsOutcome, IsLawful, IsSource, Tells}
-use Rattle.action_graph.specs.Judging.Judged.{Accepts, Refuses}
+use Rattle.action_graph.specs.Judging.Judged.{Accepts}
 use Rattle.action_graph.proofs.JudgingLaws.{judges_once, same_accepts, accepts_path, one_face}
 use Rattle.fact_cache.specs.declared.texts.Input.{Input}
 use Rattle.gv_driver.specs.declared.tree.PackageTexts.{PackageTexts}
-use Rattle.gv_driver.specs.Trees.{Imports, IsTree}
+use Rattle.gv_driver.specs.Trees.{IsTree}
 use Rattle.gv_driver.specs.Whole.{Checked}
 use Rattle.gv_driver.specs.Whole.Checked.{checked}
-use Rattle.gv_driver.specs.Loads.{IsExport, AreExports, IsLoadOf, IsInput, IsPlan, load_input}
+use Rattle.gv_driver.specs.Loads.{AreExports, IsLoadOf, IsInput, IsPlan}
 use Rattle.gv_driver.proofs.Places.{element, same-list, same-options}
 
 pub same_pack : (tree : List PackageTexts) (p : ℕ) (a b : PackageTexts) → slice_get tree p ≡ Some a → slice_get tree p ≡ Some b → a ≡ b

@@ -1,6 +1,7 @@
 -- How a run goes on, and what it has done at its end.
-use Rattle.std.specs.Prelude.{◌≡◌, ℕ, ◌+◌, ◌≤◌, ◌<◌, ◌^◌, Bool, Option, Some, None, List, [], ◌∷◌, ◌++◌, map, drop, length, slice_get, slice_set, sum_by, if◌then◌else◌}
+use Rattle.std.specs.Prelude.{◌≡◌, ℕ, ◌+◌, ◌≤◌, ◌<◌, Option, Some, None, List, [], ◌∷◌, ◌++◌, map, drop, length, slice_get, slice_set, sum_by, if◌then◌else◌}
 use Rattle.std.specs.List.{Contains}
+use Rattle.need_order.specs.declared.needed.Needed.{Needed}
 use Rattle.fact_cache.specs.declared.texts.Input.{Input}
 use Rattle.fact_cache.specs.declared.list.Entry.{Entry}
 use Rattle.gv_driver.specs.declared.tree.PackageTexts.{PackageTexts}
@@ -8,7 +9,7 @@ use Rattle.gv_driver.specs.declared.node.Node.{Node}
 use Rattle.gv_driver.specs.declared.reply.Reply.{Reply}
 use Rattle.gv_driver.specs.Loads.{IsPlan}
 use Rattle.gv_driver.specs.Caches.{IsHonest, IsRight, IsCacheAfter, IsPartKept, missing_of, is_cached, input_of}
-use Rattle.gv_driver.specs.Tables.{IsTable, IsKeyOf, IsRightNode, answer_text, cost, waiting, executed, keys_in}
+use Rattle.gv_driver.specs.Tables.{IsTable, IsReady, IsKeyOf, IsRightNode, answer_text, cost, waiting, executed, keys_in}
 use Rattle.gv_driver.specs.Reports.{IsReport}
 
 -- p's node is put into the table
@@ -19,6 +20,15 @@ pub record Performs (tree : List PackageTexts) (before : List Entry) (p : ℕ) (
   pub found : node.found ≡ is_cached before node.key
   pub counts : now ≡ count + cost node.found
   pub right : IsHonest before → IsRightNode tree p node
+
+-- p was looked at: its node was put in if it was ready, and nothing else changed.
+pub data Looks (tree : List PackageTexts) (p : ℕ) (table next : List (Option Node)) : Type 0 where
+  passes : (IsReady tree table p → ⊥) → next ≡ table → Looks tree p table next
+  puts : (node : Node) → IsReady tree table p → next ≡ slice_set table p (Some node) → Looks tree p table next
+
+-- of the first so many of an order none is ready
+abbrev pub ArePassed : List PackageTexts → List Needed → ℕ → List (Option Node) → Type 0
+ArePassed tree order end table = (k : ℕ) (e : Needed) → k < end → slice_get order k ≡ Some e → IsReady tree table e.vertex → ⊥
 
 -- From one table to a later one: the count of loads rose by what the later one took.
 pub record Goes (tree : List PackageTexts) (before : List Entry) (table next : List (Option Node)) (count now : ℕ) : Type 0 where

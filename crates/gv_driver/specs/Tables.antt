@@ -1,11 +1,8 @@
 -- The table of what is done, and what can be done next.
-use Rattle.std.specs.Prelude.{◌≡◌, ℕ, ◌+◌, ◌<◌, ◌==◌, Bool, true, false, Option, Some, None, List, [], ◌∷◌, map, drop, length, slice_get, sum_by, if◌then◌else◌}
+use Rattle.std.specs.Prelude.{◌≡◌, ℕ, ◌==◌, Bool, true, false, Option, Some, None, List, [], ◌∷◌, map, drop, length, slice_get, sum_by, if◌then◌else◌}
 use Rattle.std.specs.List.{Contains}
 use Rattle.std.specs.Option.{option_map}
 use Rattle.action_graph.specs.declared.kit.LoadInput.{LoadInput}
-use Rattle.action_graph.specs.declared.work.ActionNode.{ActionNode}
-use Rattle.action_graph.specs.declared.work.ActionNode.TheVariants.{Load}
-use Rattle.action_graph.specs.declared.work.PackageLine.{PackageLine}
 use Rattle.action_graph.specs.Nodes.{Named}
 use Rattle.action_graph.specs.Judging.{IsLawful, IsOutcome, accepted_text, refused_text}
 use Rattle.fact_cache.specs.declared.texts.Input.{Input}
@@ -77,11 +74,10 @@ pub record IsRightNode (tree : List PackageTexts) (p : ℕ) (n : Node) : Type 0 
   pub lawful : IsLawful load
   pub outcome : IsOutcome load (answer_text n.answer)
 
--- each node in the table is right, and what its package imports is accepted
+-- each node in the table is right
 pub record AreRight (tree : List PackageTexts) (table : List (Option Node)) : Type 0 where
   pub size : length table ≡ length tree
   pub node : (p : ℕ) (n : Node) → slice_get table p ≡ Some (Some n) → IsRightNode tree p n
-  pub closed : (p q : ℕ) (n : Node) → slice_get table p ≡ Some (Some n) → Imports tree p q → IsGood table q
 
 -- the input is a load's, and begins with the path of the package
 pub record IsKeyOf (tree : List PackageTexts) (p : ℕ) (input : Input) : Type 0 where
@@ -91,12 +87,17 @@ pub record IsKeyOf (tree : List PackageTexts) (p : ℕ) (input : Input) : Type 0
   pub node : input.node ≡ 0
   pub texts : input.texts ≡ pack.path ∷ rest
 
--- The table over any cache; over an honest one its nodes are right.
+-- The table over any cache: what a done package imports is accepted. Over an honest cache its nodes are right.
 pub record IsTable (tree : List PackageTexts) (before : List Entry) (table : List (Option Node)) : Type 0 where
   pub size : length table ≡ length tree
+  pub closed : (p q : ℕ) (n : Node) → slice_get table p ≡ Some (Some n) → Imports tree p q → IsGood table q
   pub key : (p : ℕ) (n : Node) → slice_get table p ≡ Some (Some n) → IsKeyOf tree p n.key
   pub found : (p : ℕ) (n : Node) → slice_get table p ≡ Some (Some n) → n.found ≡ is_cached before n.key
   pub right : IsHonest before → AreRight tree table
+
+-- each of these is done and accepted
+abbrev pub AreGood : List (Option Node) → List ℕ → Type 0
+AreGood table numbers = (q : ℕ) → Contains numbers q → IsGood table q
 
 -- p isn't done, and all that its load needs is
 pub record IsReady (tree : List PackageTexts) (table : List (Option Node)) (p : ℕ) : Type 0 where
@@ -104,24 +105,10 @@ pub record IsReady (tree : List PackageTexts) (table : List (Option Node)) (p : 
   pub at : slice_get tree p ≡ Some pack
   pub waits : slice_get table p ≡ Some None
   pub sound : pack.sound ≡ true
-  pub accepted : (q : ℕ) → Contains pack.imports q → IsGood table q
-
--- exactly the ready packages, in order
-pub record IsWave (tree : List PackageTexts) (table : List (Option Node)) (wave : List ℕ) : Type 0 where
-  pub each : (k p : ℕ) → slice_get wave k ≡ Some p → IsReady tree table p
-  pub every : (p : ℕ) → IsReady tree table p → Contains wave p
-  pub ordered : (j k p q : ℕ) → j < k → slice_get wave j ≡ Some p → slice_get wave k ≡ Some q → p < q
-
--- how the order of the work sees the tree and the table
-abbrev pub line_of : PackageTexts → PackageLine
-line_of pack = record { imports = pack.imports; sound = pack.sound; stub = pack.stub }
+  pub accepted : AreGood table pack.imports
 
 abbrev pub imports_in : PackageTexts → List ℕ
 imports_in pack = pack.imports
-
-pub record AreDoneIn (table : List (Option Node)) (end : ℕ) (nodes : List ActionNode) : Type 0 where
-  pub right : (p : ℕ) → Contains nodes (Load p) → (n : Node) × (slice_get table p ≡ Some (Some n))
-  pub every : (p : ℕ) (n : Node) → p < end → slice_get table p ≡ Some (Some n) → Contains nodes (Load p)
 
 abbrev pub key_in : Node → Input
 key_in n = n.key

@@ -3,7 +3,7 @@ ghost use Rattle.std.specs.Prelude.{◌≡◌, ◌<◌, ◌≤◌, ◌^◌, leng
 ghost use Rattle.gv_driver.specs.Tables.{done_in, fresh_in};
 
 use crate::node::Node;
-use crate::reply::Counts;
+use analysis_core::Counts;
 
 fn is_fresh(node: &Option<Node>) -> bool
     ensures { (if result then 1 else 0) ≡ fresh_in node.now }

@@ -9,7 +9,7 @@ use crate::keep::keep;
 use crate::node::Node;
 use crate::reply::Reply;
 use crate::report::verdicts;
-use crate::step::run_waves;
+use crate::step::run_loads;
 use crate::tree::PackageTexts;
 use action_graph::Kit;
 use fact_cache::Cache;
@@ -43,7 +43,7 @@ fn run_with<K: Kit>(
     ensures honest { IsHonest cache.old → IsHonest cache.new }
 {
     let mut table = none_done(alloc, tree.len())?;
-    run_waves(alloc, tree, cache, kit, &mut table)?;
+    run_loads(alloc, tree, cache, kit, &mut table)?;
     let list = verdicts(alloc, tree, &table)?;
     let counts = counts(&table);
     keep(alloc, cache, table)?;

@@ -1,11 +1,14 @@
 //! What a load reads.
 ghost use Rattle.std.specs.Prelude.{◌≡◌, IfOk, map, slice_get};
+ghost use Rattle.action_graph.specs.Nodes.{load_texts};
+ghost use Rattle.gv_driver.specs.Loads.{load_input};
 ghost use Rattle.gv_driver.specs.Tables.{export_in, load_from, pair_at, path_in};
 
 use crate::answer::export_of;
 use crate::node::Node;
 use crate::tree::PackageTexts;
-use action_graph::LoadInput;
+use action_graph::{LoadInput, texts_of_parts};
+use fact_cache::Input;
 use gv_base::{Bytes, NoMemory, Row, Text};
 use std::alloc::Global;
 
@@ -94,4 +97,33 @@ pub(crate) fn load_of(
     let files = Row::new(copy_files(alloc, pack.files.as_slice())?);
     let env = Row::new(export_pairs(alloc, tree, table, pack.imports.as_slice())?);
     Ok(LoadInput { path, files, env })
+}
+
+fn texts_at(
+    alloc: Global,
+    tree: &[PackageTexts],
+    table: &[Option<Node>],
+    pack: &PackageTexts,
+) -> Result<Vec<Bytes>, NoMemory>
+    ensures { IfOk result (λ texts. texts.items ≡ load_texts (load_from tree.now table.now pack.now)) }
+{
+    let env = export_pairs(alloc, tree, table, pack.imports.as_slice())?;
+    let texts = texts_of_parts(alloc, pack.path.as_str(), pack.files.as_slice(), &env)?;
+    Ok(texts)
+}
+
+/// What the load of a package reads, as the cache keeps it.
+pub(crate) fn key_of(
+    alloc: Global,
+    tree: &[PackageTexts],
+    table: &[Option<Node>],
+    pack: &PackageTexts,
+) -> Result<Input, NoMemory>
+    ensures { IfOk result (λ key. key ≡ load_input (load_from tree.now table.now pack.now)) }
+{
+    let texts = texts_at(alloc, tree, table, pack)?;
+    Ok(Input {
+        node: 0,
+        texts: Row::new(texts),
+    })
 }

@@ -8,13 +8,15 @@ mod input;
 mod keep;
 mod laws;
 mod node;
+mod order;
+mod ready;
 mod reply;
 mod report;
 mod step;
 mod tree;
-mod wave;
 
+pub use analysis_core::Counts;
 pub use driver::run;
 pub use laws::{one_cache, one_plan, one_report};
-pub use reply::{Counts, Reply, Verdict};
+pub use reply::{Reply, Verdict};
 pub use tree::PackageTexts;

@@ -1,5 +1,6 @@
 //! What a run says.
 use action_graph::MarkLine;
+use analysis_core::Counts;
 use gv_base::Row;
 
 /// What comes of a package, the first of these that holds.
@@ -13,19 +14,6 @@ pub enum Verdict {
     Refused(Row<MarkLine>),
     /// It breaks no rule.
     Accepted,
-}
-
-/// How much work a run had.
-#[derive(Clone, Copy, Debug, PartialEq, Eq, Drop)]
-pub struct Counts {
-    /// The loads and runs that the tree has.
-    pub nodes: u32,
-    /// Those for whose input the cache had no outcome.
-    pub missing: u32,
-    /// The loads that were executed.
-    pub loads: u32,
-    /// The runs of analyzers that were executed.
-    pub runs: u32,
 }
 
 /// What a run says of a tree.

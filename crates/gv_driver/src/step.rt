@@ -1,48 +1,62 @@
 //! Carrying out the loads of a run.
-ghost use Rattle.std.specs.Prelude.{◌≡◌, ◌+◌, ◌<◌, ◌^◌, ◌↔◌, ℕ, IsTrue, IfOk, OnOk, OnErr, length};
+ghost use Rattle.std.specs.Prelude.{◌≡◌, ◌+◌, ◌<◌, ◌^◌, ℕ, IfOk, OnOk, OnErr, length};
 ghost use Rattle.action_graph.specs.Judging.{IsLawful, IsOutcome};
-ghost use Rattle.gv_driver.specs.Trees.{IsTree};
+ghost use Rattle.need_order.specs.Graphs.{IsOrder};
+ghost use Rattle.gv_driver.specs.Trees.{Imports, IsTree};
 ghost use Rattle.gv_driver.specs.Loads.{load_input};
 ghost use Rattle.gv_driver.specs.Caches.{IsHonest, is_cached};
-ghost use Rattle.gv_driver.specs.Tables.{IsReady, IsTable, IsWave, answer_text, cost, waiting};
-ghost use Rattle.gv_driver.specs.Runs.{Goes, Performs};
+ghost use Rattle.gv_driver.specs.Tables.{IsReady, IsTable, answer_text, cost, load_from, waiting};
+ghost use Rattle.gv_driver.specs.Runs.{Goes, Looks, Performs};
 
 use crate::answer::{answer_of, read_answer};
-use crate::input::load_of;
-use crate::node::Node;
+use crate::input::{key_of, load_of};
+use crate::node::{Answer, Node};
+use crate::order::load_order;
+use crate::ready::is_ready;
 use crate::tree::PackageTexts;
-use crate::wave::wave;
-use action_graph::{Kit, LoadInput, texts_of_load};
-use fact_cache::{Cache, Input};
-use gv_base::{NoMemory, Row};
+use action_graph::Kit;
+use fact_cache::Cache;
+use gv_base::NoMemory;
+use need_order::Needed;
 use std::alloc::Global;
 
-fn key_of(alloc: Global, load: &LoadInput) -> Result<Input, NoMemory>
-    ensures { IfOk result (λ key. key ≡ load_input load.now) }
+/// What the kit gives for a package.
+fn loaded<K: Kit>(
+    alloc: Global,
+    tree: &[PackageTexts],
+    kit: &mut K,
+    table: &[Option<Node>],
+    pack: &PackageTexts,
+) -> Result<Answer, NoMemory>
+    requires { K.loads kit.old < 2 ^ 63 }
+    ensures counts { OnOk result (K.loads kit.new ≡ K.loads kit.old + 1) }
+    ensures refused { OnErr result (K.loads kit.new ≡ K.loads kit.old) }
+    ensures runs { K.runs kit.new ≡ K.runs kit.old }
+    ensures right { IsLawful (load_from tree.now table.now pack.now) → IfOk result (λ answer. IsOutcome (load_from tree.now table.now pack.now) (answer_text answer)) }
 {
-    let texts = texts_of_load(alloc, load)?;
-    Ok(Input {
-        node: 0,
-        texts: Row::new(texts),
-    })
+    let input = load_of(alloc, tree, table, pack)?;
+    let load = kit.load(&input)?;
+    Ok(answer_of(load))
 }
 
-/// What the cache has for an input, or else what the kit gives.
+/// What the cache has for a package, or else what the kit gives.
 fn node_of<K: Kit>(
     alloc: Global,
+    tree: &[PackageTexts],
     cache: &Cache,
     kit: &mut K,
-    load: &LoadInput,
+    table: &[Option<Node>],
+    pack: &PackageTexts,
 ) -> Result<Node, NoMemory>
     requires { K.loads kit.old < 2 ^ 63 }
-    ensures key { IfOk result (λ n. n.key ≡ load_input load.now) }
-    ensures found { IfOk result (λ n. n.found ≡ is_cached cache.now (load_input load.now)) }
+    ensures key { IfOk result (λ n. n.key ≡ load_input (load_from tree.now table.now pack.now)) }
+    ensures found { IfOk result (λ n. n.found ≡ is_cached cache.now (load_input (load_from tree.now table.now pack.now))) }
     ensures counts { IfOk result (λ n. K.loads kit.new ≡ K.loads kit.old + cost n.found) }
     ensures refused { OnErr result (K.loads kit.new ≡ K.loads kit.old) }
     ensures runs { K.runs kit.new ≡ K.runs kit.old }
-    ensures right { IsHonest cache.now → IsLawful load.now → IfOk result (λ n. IsOutcome load.now (answer_text n.answer)) }
+    ensures right { IsHonest cache.now → IsLawful (load_from tree.now table.now pack.now) → IfOk result (λ n. IsOutcome (load_from tree.now table.now pack.now) (answer_text n.answer)) }
 {
-    let key = key_of(alloc, load)?;
+    let key = key_of(alloc, tree, table, pack)?;
     match cache.find(&key) {
         Some(outcome) => {
             let answer = read_answer(alloc, outcome)?;
@@ -53,7 +67,7 @@ fn node_of<K: Kit>(
             })
         }
         None => {
-            let answer = answer_of(kit.load(load)?);
+            let answer = loaded(alloc, tree, kit, table, pack)?;
             Ok(Node {
                 key,
                 answer,
@@ -81,43 +95,61 @@ fn perform<K: Kit>(
     ensures count { OnErr result (K.loads kit.new ≡ K.loads kit.old) }
     ensures runs { K.runs kit.new ≡ K.runs kit.old }
 {
-    let load = load_of(alloc, tree, table, &tree[at])?;
-    let node = node_of(alloc, cache, kit, &load)?;
+    let node = node_of(alloc, tree, cache, kit, table, &tree[at])?;
     table[at] = Some(node);
     Ok(())
 }
 
-/// Puts the nodes of a wave into the table.
-fn run_wave<K: Kit>(
+/// Puts the node of a package into the table, where it is ready.
+fn look<K: Kit>(
     alloc: Global,
     tree: &[PackageTexts],
     cache: &Cache,
     kit: &mut K,
     table: &mut Vec<Option<Node>>,
-    numbers: &[u32],
+    at: usize,
 ) -> Result<(), NoMemory>
     requires tree { IsTree tree.now }
-    requires room { K.loads kit.old + waiting table.old.items < 2 ^ 63 }
+    requires room { K.loads kit.old < 2 ^ 63 }
     requires table { IsTable tree.now cache.now table.old.items }
-    requires wave { IsWave tree.now table.old.items numbers.now }
+    requires at { at < length tree.now }
+    ensures looks { OnOk result (Looks tree.now at table.old.items table.new.items) }
     ensures goes { Goes tree.now cache.now table.old.items table.new.items (K.loads kit.old) (K.loads kit.new) }
-    ensures fewer { OnOk result (waiting table.new.items + length numbers.now ≡ waiting table.old.items) }
     ensures runs { K.runs kit.new ≡ K.runs kit.old }
 {
-    for number in numbers {
-        perform(alloc, tree, cache, kit, table, *number as usize)?;
+    if !is_ready(tree, table, at) {
+        return Ok(());
+    }
+    perform(alloc, tree, cache, kit, table, at)?;
+    Ok(())
+}
+
+/// Looks at each package, in this order.
+fn run_in_order<K: Kit>(
+    alloc: Global,
+    tree: &[PackageTexts],
+    cache: &Cache,
+    kit: &mut K,
+    table: &mut Vec<Option<Node>>,
+    order: &[Needed],
+) -> Result<(), NoMemory>
+    requires tree { IsTree tree.now }
+    requires order { IsOrder (Imports tree.now) (length tree.now) order.now }
+    requires room { K.loads kit.old + waiting table.old.items < 2 ^ 63 }
+    requires table { IsTable tree.now cache.now table.old.items }
+    ensures goes { Goes tree.now cache.now table.old.items table.new.items (K.loads kit.old) (K.loads kit.new) }
+    ensures done { OnOk result ((p : ℕ) → IsReady tree.now table.new.items p → ⊥) }
+    ensures runs { K.runs kit.new ≡ K.runs kit.old }
+{
+    for next in order {
+        look(alloc, tree, cache, kit, table, next.vertex as usize)?;
     }
     Ok(())
 }
 
-fn is_done(wave: &[u32]) -> bool
-    ensures { IsTrue result ↔ (length wave.now ≡ 0) }
-{
-    wave.is_empty()
-}
-
-/// Puts all nodes that a tree has into the table, wave by wave.
-pub(crate) fn run_waves<K: Kit>(
+/// Puts all nodes that a tree has into the table. Each package is looked at once, after what it imports; one that
+/// isn't ready then never will be.
+pub(crate) fn run_loads<K: Kit>(
     alloc: Global,
     tree: &[PackageTexts],
     cache: &Cache,
@@ -132,11 +164,7 @@ pub(crate) fn run_waves<K: Kit>(
     ensures done { OnOk result ((p : ℕ) → IsReady tree.now table.new.items p → ⊥) }
     ensures runs { K.runs kit.new ≡ K.runs kit.old }
 {
-    loop {
-        let numbers = wave(alloc, tree, table)?;
-        if is_done(&numbers) {
-            return Ok(());
-        }
-        run_wave(alloc, tree, cache, kit, table, &numbers)?;
-    }
+    let order = load_order(alloc, tree)?;
+    run_in_order(alloc, tree, cache, kit, table, &order)?;
+    Ok(())
 }

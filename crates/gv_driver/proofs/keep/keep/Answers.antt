@@ -1,7 +1,4 @@
-use Rattle.std.proofs.Common.{◌≡◌, ℕ, ◌<◌, ◌≤◌, ◌+◌, set, ◌∙◌, ◌∷◌, [], ◌++◌, List, Option, length, arith, sym, ap, subst, refl, map, drop, Some, None, slice_get}
-use Rattle.fact_cache.specs.declared.list.Entry.{Entry}
-use Rattle.gv_driver.specs.declared.node.Node.{Node}
-use Rattle.gv_driver.specs.Runs.{Keeping}
+use Rattle.std.proofs.Common.{◌≡◌, ◌<◌, ◌+◌, set, ◌∙◌, length, arith, sym, refl, drop, Some, None, slice_get}
 use Rattle.gv_driver.proofs.KeepLaws.{keeping-first, keeping-none, keeping-kept, keeping-new, taken-at, same-later}
 use Rattle.gv_driver.proofs.keep.keep.Goals.{in-Some+in_ok-keep_node, in_default}
 use Rattle.gv_driver.proofs.keep.keep.Goals as goal

@@ -1,4 +1,4 @@
-use Rattle.std.proofs.Common.{◌≡◌, ◌<◌, ℕ, List, Option, Some, None, length, set, refl, sym, ap, ◌∙◌, subst}
+use Rattle.std.proofs.Common.{◌<◌, ℕ, List, Option, Some, None, length, set, refl, sym, ap, subst}
 use Rattle.std.proofs.lemmas.Option.{slice_get_within}
 use Rattle.gv_driver.specs.declared.node.Node.{Node}
 use Rattle.gv_driver.specs.Tables.{load_from}
@@ -15,9 +15,8 @@ returns-clause-ok g c =
     let tree = c.args.tree.now in
     let table = c.args.table.now.items in
     let pack = c.index-tree-at.result in
-    let load = c.in_ok-load.load in
     let node = c.in_ok-node.node in
-    performs-from tree c.args.cache.now table (set table c.args.at (Some node)) c.args.at pack load node (g.K.Kit.loads c.args.kit.now) (g.K.Kit.loads c.node_of.new.kit)
+    performs-from tree c.args.cache.now table (set table c.args.at (Some node)) c.args.at pack (load_from tree c.deref.result.now pack) node (g.K.Kit.loads c.args.kit.now) (g.K.Kit.loads c.node_of.new.kit)
     c.requires.tree c.requires.table c.requires.ready (pack-at tree table c.args.at pack c.requires.ready c.index-tree-at.is)
-    (c.in_ok-load.ensures ∙ ap (λ (t : List (Option Node)). load_from tree t pack) c.deref.ensures.value)
+    (ap (λ (t : List (Option Node)). load_from tree t pack) c.deref.ensures.value)
     c.in_ok-node.ensures.key c.in_ok-node.ensures.found c.in_ok-node.ensures.counts c.in_ok-node.ensures.right refl
