@@ -17,10 +17,12 @@ mod source;
 mod state;
 
 pub use drafts::Draft;
+pub use fault::counts;
 pub use go_mod::{Stop, module_path};
 pub use homes::Home;
 pub use laws::{one_answer_of_packages, packages_can_be_ordered};
 pub use listing::packages;
 pub use load_order::order;
+pub use names::place_in;
 pub use pack::{PackState, Package};
 pub use source::{directory_of, is_source, is_stub, package_of};
