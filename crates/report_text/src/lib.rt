@@ -2,7 +2,9 @@
 #![tactic(auto)]
 
 mod print;
+mod stand;
 #[cfg(test)]
 mod tests;
 
 pub use print::{stats, text};
+pub use stand::all_stand;

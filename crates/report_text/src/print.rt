@@ -2,7 +2,7 @@
 ghost use Rattle.std.specs.Prelude.{◌≡◌, ◌≤◌, ◌<◌, ◌++◌, ◌∷◌, ◌^◌, ℕ, List, [], length, codes, IfOk, OnOk, All, flat_map, string_bytes};
 ghost use Rattle.gv_base.specs.Lines.{IsTableOf};
 ghost use Rattle.analysis_core.specs.Replies.{file_numbered, place_text, error_line, reply_text, stats_text};
-ghost use Rattle.report_text.specs.Standing.{IsHand, LiesIn, StandsIn, AreShort};
+ghost use Rattle.report_text.specs.Standing.{IsHand, LiesIn, StandsIn};
 
 use analysis_core::{Counts, ErrorLine, Reply};
 use gv_base::{Bytes, Files, Lines, NoMemory, Place};
@@ -18,7 +18,7 @@ pub struct Hand {
 /// The lines of this file: those at hand, where they are its.
 fn turn_to(alloc: Global, files: &Files, hand: Hand, file: u32) -> Result<Hand, NoMemory>
     requires within { file < length files.now }
-    requires short { AreShort files.now }
+    requires short { length (file_numbered files.now file).1 ≤ 2 ^ 31 }
     requires hand { IsHand files.now hand }
     ensures is { IfOk result (λ h. IsHand files.now h) }
     ensures of { IfOk result (λ h. h.file ≡ file) }
@@ -59,7 +59,6 @@ fn push_error(
     out: &mut Vec<u8>,
     error: &ErrorLine,
 ) -> Result<Hand, NoMemory>
-    requires short { AreShort files.now }
     requires stands { StandsIn files.now error.now }
     requires hand { IsHand files.now hand }
     ensures is { IfOk result (λ h. IsHand files.now h) }
@@ -89,7 +88,6 @@ fn push_errors(
     out: &mut Vec<u8>,
     errors: &[ErrorLine],
 ) -> Result<(), NoMemory>
-    requires short { AreShort files.now }
     requires stand { All (StandsIn files.now) errors.now }
     ensures { OnOk result (out.new.items ≡ out.old.items ++ flat_map (error_line files.now) errors.now) }
 {
@@ -105,10 +103,9 @@ fn push_errors(
 }
 
 /// The bytes of a run's reply to `check`: a line for each error, and then how many packages and
-/// errors there are. The places of the reply stand in the files, none of which is longer than 2^31
-/// bytes.
+/// errors there are. The places of the reply stand in files of at most 2^31 bytes; `all_stand` tells whether
+/// they do.
 pub fn text(alloc: Global, reply: &Reply, files: &Files) -> Result<Bytes, NoMemory>
-    requires short { AreShort files.now }
     requires stand { All (StandsIn files.now) reply.now.errors }
     ensures { IfOk result (λ text. text ≡ reply_text files.now reply.now) }
 {

@@ -1,51 +1,11 @@
 //! A reply to each kind of line.
-ghost use Rattle.std.specs.Prelude.{IsTrue, All};
-ghost use Rattle.report_text.specs.Standing.{StandsIn, AreShort};
-
-use crate::{stats, text};
+use crate::{all_stand, stats, text};
 use analysis_core::{Counts, ErrorLine, Reply};
 use gv_base::{Bytes, Files, NoMemory, Place, Row, Text};
 use std::alloc::Global;
 use std::test::Fail;
 
-fn are_short(files: &Files) -> bool
-    ensures { IsTrue result → AreShort files.now }
-{
-    for file in 0..files.count() {
-        if files.at(file).1.len() > 1 << 31 {
-            return false;
-        }
-    }
-    true
-}
-
-fn stands(files: &Files, error: &ErrorLine) -> bool
-    ensures { IsTrue result → StandsIn files.now error.now }
-{
-    let Some(place) = error.place else {
-        return true;
-    };
-    if place.file >= files.count() {
-        return false;
-    }
-    place.offset as usize <= files.at(place.file).1.len()
-}
-
-fn all_stand(files: &Files, errors: &[ErrorLine]) -> bool
-    ensures { IsTrue result → All (StandsIn files.now) errors.now }
-{
-    for error in errors {
-        if !stands(files, error) {
-            return false;
-        }
-    }
-    true
-}
-
 fn printed(alloc: Global, reply: &Reply, files: &Files) -> Result<Bytes, NoMemory> {
-    if !are_short(files) {
-        return Err(NoMemory);
-    }
     if !all_stand(files, reply.errors.as_slice()) {
         return Err(NoMemory);
     }

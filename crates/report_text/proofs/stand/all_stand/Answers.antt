@@ -2,7 +2,7 @@ use Rattle.std.proofs.Common.{All, subst, arith, refl}
 use Rattle.std.proofs.lemmas.List.{take_all}
 use Rattle.report_text.specs.Standing.{StandsIn}
 use Rattle.report_text.proofs.TestLemmas.{stand-more}
-use Rattle.report_text.proofs.tests.all_stand.Goals as goal
+use Rattle.report_text.proofs.stand.all_stand.Goals as goal
 
 pub loop-error-preserved : goal.loop-error-preserved
 loop-error-preserved c = stand-more c.args.files.now c.args.errors.now c.loop-error.error-index c.error-item.result c.loop-error-test.true c.loop-error.invariant c.error-item.is (c.if-not-stands.ensures refl)

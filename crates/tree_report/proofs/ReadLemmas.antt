@@ -1,0 +1,69 @@
+-- Verdicts and heads, file by file.
+use Rattle.std.proofs.Common.{◌≡◌, ℕ, zero, suc, ◌+◌, ◌<◌, ◌≤◌, ◌⊎◌, inl, inr, Bool, true, false, cond, Option, Some, None, List, [], ◌∷◌, ◌++◌, length, map, filter, slice_get, get_or, All, refl, sym, ap, ◌∙◌, subst, arith}
+use Rattle.std.proofs.lemmas.Option.{same_Some, slice_get_within, slice_get-get_or}
+use Rattle.gv_base.specs.Files.{Entry}
+use Rattle.parse_file.specs.declared.verdict.FileVerdict.{FileVerdict}
+use Rattle.import_graph.specs.Sources.{is_source}
+use Rattle.tree_report.specs.Form.{source_texts}
+
+-- what holds of the items and of one item more
+pub each-pushed : {X : Type 0} (P : ℕ → X → Type 0) (xs ys : List X) (n : ℕ) (x : X) → ys ≡ xs ++ x ∷ [] → length xs ≡ n
+    → ((k : ℕ) (y : X) → slice_get xs k ≡ Some y → P k y) → P n x → (k : ℕ) (y : X) → slice_get ys k ≡ Some y → P k y
+each-pushed {X} P xs ys n x is size old new k y at =
+    part P xs k old (subst (λ m. P m x) (sym size) new) (subst (λ l. slice_get l k ≡ Some y) is at)
+  where
+    part : (Q : ℕ → X → Type 0) (zs : List X) (j : ℕ) → ((i : ℕ) (z : X) → slice_get zs i ≡ Some z → Q i z) → Q (length zs) x → slice_get (zs ++ x ∷ []) j ≡ Some y → Q j y
+    part Q [] zero old new at = subst (Q 0) (same_Some x y at) new
+    part Q [] (suc j) old new at = absurd (let l : j < 0 = slice_get_within [] j y at in omega (arith, l))
+    part Q (z ∷ zs) zero old new at = old 0 y at
+    part Q (z ∷ zs) (suc j) old new at = part (λ i u. Q (suc i) u) zs j (λ i u read. old (suc i) u read) new at
+
+pub length-pushed : {X : Type 0} (xs ys : List X) (n : ℕ) (x : X) → ys ≡ xs ++ x ∷ [] → length xs ≡ n → length ys ≡ n + 1
+length-pushed {X} xs ys n x is size = ap length is ∙ (snoc xs ∙ ap (λ m. m + 1) size)
+  where
+    snoc : (zs : List X) → length (zs ++ x ∷ []) ≡ length zs + 1
+    snoc [] = refl
+    snoc (z ∷ zs) = let e = snoc zs in omega (arith, e)
+
+all-first : {X : Type 0} (P : X → Type 0) (x : X) (xs : List X) → All P (x ∷ xs) → P x
+all-first P x xs all = all 0 x (omega arith)
+
+all-others : {X : Type 0} (P : X → Type 0) (x : X) (xs : List X) → All P (x ∷ xs) → All P xs
+all-others P x xs all n d lt = all (suc n) d (omega (arith, lt))
+
+abbrev texts : List Entry → List (List ℕ)
+texts = map (λ entry. entry.1)
+
+abbrev sources : List Entry → List Entry
+sources = filter (λ entry. is_source entry.0)
+
+differ : (b : Bool) → b ≡ true → b ≡ false → ⊥
+differ true h k = cc
+differ false h k = cc
+
+source-kept : (P : List ℕ → Type 0) (e : Entry) (es : List Entry) → is_source e.0 ≡ true → All P (source_texts (e ∷ es)) → All P (e.1 ∷ texts (sources es))
+source-kept P e es h all = subst (λ b. All P (texts (cond b (e ∷ sources es) (sources es)))) h all
+
+other-left : (P : List ℕ → Type 0) (e : Entry) (es : List Entry) → is_source e.0 ≡ false → All P (source_texts (e ∷ es)) → All P (texts (sources es))
+other-left P e es h all = subst (λ b. All P (texts (cond b (e ∷ sources es) (sources es)))) h all
+
+-- what holds of the texts of all source files holds of that of each
+pub source-text : (P : List ℕ → Type 0) (tree : List Entry) (n : ℕ) (path text : List ℕ) → All P (source_texts tree) → slice_get tree n ≡ Some (path, text) → is_source path ≡ true → P text
+source-text P [] n path text all at is = absurd (let l : n < 0 = slice_get_within [] n (path, text) at in omega (arith, l))
+source-text P (e ∷ es) n path text all at is = by (is_source e.0) refl n at (λ others k there. source-text P es k path text others there is)
+  where
+    by : (b : Bool) → is_source e.0 ≡ b → (k : ℕ) → slice_get (e ∷ es) k ≡ Some (path, text) → (All P (texts (sources es)) → (j : ℕ) → slice_get es j ≡ Some (path, text) → P text) → P text
+    by true h zero here more = subst (λ (x : Entry). P x.1) (same_Some e (path, text) here) (all-first P e.1 (texts (sources es)) (source-kept P e es h all))
+    by true h (suc k) there more = more (all-others P e.1 (texts (sources es)) (source-kept P e es h all)) k there
+    by false h zero here more = absurd (differ (is_source path) is (sym (ap (λ (x : Entry). is_source x.0) (same_Some e (path, text) here)) ∙ h))
+    by false h (suc k) there more = more (other-left P e es h all) k there
+
+-- what holds of a file and of what is known of it holds of what is read at its number
+pub pair-here : (Q : Entry → Option FileVerdict → Type 0) (files : List Entry) (verdicts : List (Option FileVerdict)) (n : ℕ) (entry : Entry) (verdict : Option FileVerdict)
+    → slice_get files n ≡ Some entry → verdict ≡ get_or verdicts n verdict → n < length verdicts → Q entry verdict
+    → (e : Entry) (v : Option FileVerdict) → slice_get files n ≡ Some e → slice_get verdicts n ≡ Some v → Q e v
+pair-here Q files verdicts n entry verdict at is lt holds e v here there =
+    let same : entry ≡ e = same_Some entry e (sym at ∙ here) in
+    let known : slice_get verdicts n ≡ Some verdict = slice_get-get_or verdicts n verdict lt ∙ ap Some (sym is) in
+    let alike : verdict ≡ v = same_Some verdict v (sym known ∙ there) in
+    subst (Q e) alike (subst (λ x. Q x verdict) same holds)

@@ -1,0 +1,96 @@
+-- The trees that are built: those of whose source files each is refused by the scanner or the parser, or is a file of
+-- integer constants with imports.
+use Rattle.std.specs.Prelude.{◌≡◌, ℕ, ◌≤◌, ◌||◌, Bool, true, false, Option, Some, None, List, [], ◌∷◌, length, map, slice_get, codes, sum_by, bytes_eq, nat_eq}
+use Rattle.std.specs.List.{All, filter, starts_with}
+use Rattle.gv_base.specs.Files.{Entry}
+use Rattle.go_tree.specs.Head.{head_of}
+use Rattle.go_tree.specs.declared.head.Head.{Head}
+use Rattle.parse_file.specs.Verdict.{IsVerdict}
+use Rattle.parse_file.specs.declared.verdict.FileVerdict.{FileVerdict}
+use Rattle.parse_file.specs.declared.verdict.FileVerdict.TheVariants as file
+use Rattle.const_check.specs.Form.{IsConstantFile}
+use Rattle.import_graph.specs.Sources.{is_source}
+use Rattle.import_graph.specs.Packages.{ArePackages}
+use Rattle.import_graph.specs.declared.pack.Package.{Package}
+
+-- the path of a file that a run knows no meaning for yet: `go.mod`, and what stands under `std`
+abbrev pub is_early : List ℕ → Bool
+is_early path = bytes_eq path (codes "go.mod") || starts_with nat_eq path (codes "std/")
+
+-- the texts of a tree's source files
+abbrev pub source_texts : List Entry → List (List ℕ)
+source_texts tree = map (λ entry. entry.1) (filter (λ entry. is_source entry.0) tree)
+
+-- the limits of a tree, of its files and of its packages
+abbrev pub most_files : ℕ
+most_files = 10000
+
+abbrev pub most_file_bytes : ℕ
+most_file_bytes = 4194304
+
+abbrev pub most_tree_bytes : ℕ
+most_tree_bytes = 67108864
+
+abbrev pub most_packages : ℕ
+most_packages = 1024
+
+-- the texts are within the limits
+pub record AreWithinLimits (texts : List (List ℕ)) : Type 0 where
+  pub few : length texts ≤ most_files
+  pub small : All (λ text. length text ≤ most_file_bytes) texts
+  pub light : sum_by length texts ≤ most_tree_bytes
+
+-- what is known of a file: of a source file the verdict of its bytes, of another nothing
+abbrev pub IsRead : Entry → Option FileVerdict → Type 0
+IsRead entry None = is_source entry.0 ≡ false
+IsRead entry (Some verdict) = (is_source entry.0 ≡ true) × IsVerdict entry.1 verdict
+
+-- the same of each file
+pub record AreRead (tree : List Entry) (verdicts : List (Option FileVerdict)) : Type 0 where
+  pub size : length verdicts ≡ length tree
+  pub each : (n : ℕ) (entry : Entry) (verdict : Option FileVerdict) → slice_get tree n ≡ Some entry → slice_get verdicts n ≡ Some verdict → IsRead entry verdict
+
+-- the head of a file with this verdict; a file that is refused has none
+abbrev pub head_by : List ℕ → FileVerdict → Option Head
+head_by text (file.Parsed tree) = Some (head_of tree text)
+head_by text (file.Lexical offset why) = None
+head_by text (file.Syntax offset) = None
+head_by text (file.TooDeep offset) = None
+
+abbrev pub head_in : Entry → Option FileVerdict → Option Head
+head_in entry None = None
+head_in entry (Some verdict) = head_by entry.1 verdict
+
+-- the heads of the files
+pub record AreHeads (tree : List Entry) (verdicts : List (Option FileVerdict)) (heads : List (Option Head)) : Type 0 where
+  pub size : length heads ≡ length tree
+  pub each : (n : ℕ) (entry : Entry) (verdict : Option FileVerdict) (head : Option Head) → slice_get tree n ≡ Some entry → slice_get verdicts n ≡ Some verdict → slice_get heads n ≡ Some head → head ≡ head_in entry verdict
+
+-- A file that isn't refused is of constants, and no build constraint stands before its package clause.
+abbrev pub FitsForm : List ℕ → FileVerdict → Type 0
+FitsForm text (file.Parsed tree) = IsConstantFile text tree × ((head_of tree text).constraint ≡ None)
+FitsForm text (file.Lexical offset why) = Unit {0}
+FitsForm text (file.Syntax offset) = Unit {0}
+FitsForm text (file.TooDeep offset) = Unit {0}
+
+abbrev pub IsOfForm : Entry → Option FileVerdict → Type 0
+IsOfForm entry None = Unit {0}
+IsOfForm entry (Some verdict) = FitsForm entry.1 verdict
+
+-- the same of each file
+abbrev pub AreOfForm : List Entry → List (Option FileVerdict) → Type 0
+AreOfForm tree verdicts = (n : ℕ) (entry : Entry) (verdict : Option FileVerdict) → slice_get tree n ≡ Some entry → slice_get verdicts n ≡ Some verdict → IsOfForm entry verdict
+
+-- The tree is of the form; its files have these verdicts and heads, and these are its packages.
+pub record IsForm (tree : List Entry) (verdicts : List (Option FileVerdict)) (heads : List (Option Head)) (packages : List Package) : Type 0 where
+  pub plain : All (λ entry. is_early entry.0 ≡ false) tree
+  pub within : AreWithinLimits (source_texts tree)
+  pub read : AreRead tree verdicts
+  pub form : AreOfForm tree verdicts
+  pub headed : AreHeads tree verdicts heads
+  pub packed : ArePackages tree heads packages
+  pub few : length packages ≤ most_packages
+
+-- the tree is of the form
+abbrev pub IsBuilt : List Entry → Type 0
+IsBuilt tree = (verdicts : List (Option FileVerdict)) × ((heads : List (Option Head)) × ((packages : List Package) × IsForm tree verdicts heads packages))

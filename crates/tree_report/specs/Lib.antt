@@ -1,0 +1,5 @@
+pub mod Shown
+pub mod Form
+pub mod Lines
+pub mod Reports
+pub mod Formed

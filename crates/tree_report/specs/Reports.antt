@@ -1,0 +1,56 @@
+-- What a run answers of a tree, and what it leaves in the cache.
+use Rattle.std.specs.Prelude.{◌≡◌, ℕ, ◌+◌, Option, List, length, map, sum_by}
+use Rattle.gv_base.specs.Files.{Entry}
+use Rattle.fact_cache.specs.declared.texts.Input.{Input}
+use Rattle.fact_cache.specs.declared.list.Entry.{Entry as Kept}
+use Rattle.parse_file.specs.declared.verdict.FileVerdict.{FileVerdict}
+use Rattle.import_graph.specs.Orders.{is_sound}
+use Rattle.import_graph.specs.declared.pack.Package.{Package}
+use Rattle.gv_driver.specs.declared.tree.PackageTexts.{PackageTexts}
+use Rattle.gv_driver.specs.declared.reply.Verdict.{Verdict}
+pub use Rattle.gv_driver.specs.Caches.{IsHonest}
+use Rattle.gv_driver.specs.Caches.{IsCacheAfter, missing_of}
+use Rattle.gv_driver.specs.Loads.{IsPlan}
+use Rattle.gv_driver.specs.Reports.{IsReport}
+use Rattle.gv_driver.specs.Runs.{some_in}
+use Rattle.analysis_core.specs.declared.reply.Reply.{Reply}
+use Rattle.analysis_core.specs.Replies.{file_numbered, is_found, reply_text}
+use Rattle.tree_report.specs.declared.run.Answer.{Answer}
+use Rattle.tree_report.specs.declared.run.Answer.TheVariants.{NotBuilt, Told}
+use Rattle.tree_report.specs.declared.print.TreeReport.{TreeReport}
+use Rattle.go_tree.specs.declared.head.Head.{Head}
+use Rattle.tree_report.specs.Form.{IsForm, IsBuilt}
+use Rattle.tree_report.specs.Lines.{error_lines}
+
+-- a package with the texts of its files
+abbrev pub texts_of : List Entry → Package → PackageTexts
+texts_of tree p = record { path = p.path; stub = p.stub; sound = is_sound p.state; imports = p.imports; files = map (file_numbered tree) p.files }
+
+-- The report of a tree of the form, over one cache and leaving another. What comes of its packages comes of their
+-- sources, and knows neither cache nor export texts. The nodes are the loads of its packages; exactly those for whose
+-- inputs the cache had nothing were executed, and stand in it then.
+pub record Reports (tree : List Entry) (before after : List Kept) (report : TreeReport) : Type 0 where
+  pub verdicts : List (Option FileVerdict)
+  pub heads : List (Option Head)
+  pub packages : List Package
+  pub form : IsForm tree verdicts heads packages
+  pub outcomes : List Verdict
+  pub outcome : IsReport (map (texts_of tree) packages) outcomes
+  pub inputs : List (Option Input)
+  pub plan : IsPlan (map (texts_of tree) packages) inputs
+  pub cache : IsCacheAfter before after inputs
+  pub reply : Reply
+  pub size : reply.packages ≡ length packages
+  pub errors : reply.errors ≡ error_lines heads verdicts packages outcomes
+  pub nodes : reply.counts.nodes ≡ sum_by some_in inputs
+  pub missing : reply.counts.missing ≡ length (missing_of before inputs)
+  pub loads : reply.counts.loads ≡ length (missing_of before inputs)
+  pub runs : reply.counts.runs ≡ 0
+  pub text : report.text ≡ reply_text tree reply
+  pub found : report.found ≡ is_found reply
+  pub counts : report.counts ≡ reply.counts
+
+-- What is answered of a tree; loads were counted from one number to another.
+abbrev pub IsAnswered : List Entry → List Kept → List Kept → ℕ → ℕ → Answer → Type 0
+IsAnswered tree before after count now NotBuilt = (IsBuilt tree → ⊥) × ((after ≡ before) × (now ≡ count))
+IsAnswered tree before after count now (Told report) = Reports tree before after report × (now ≡ count + report.counts.loads)

@@ -1,0 +1,17 @@
+//! What follows from the definitions alone. The bodies are empty: the contracts are the laws.
+ghost use Rattle.std.specs.Prelude.{◌≡◌, List, []};
+ghost use Rattle.gv_base.specs.Files.{Entry};
+ghost use Rattle.fact_cache.specs.declared.list.Entry.{Entry as Kept};
+ghost use Rattle.tree_report.specs.Form.{IsBuilt};
+ghost use Rattle.tree_report.specs.Reports.{IsHonest, Reports};
+ghost use Rattle.tree_report.specs.declared.print.TreeReport.{TreeReport};
+
+/// Over one cache a tree has one report and leaves one cache, and from an honest one an honest one; a cache without
+/// entries is honest. A tree that has a report is built.
+pub fn one_report_of_a_tree()
+    ensures report { (tree : List Entry) (before after other : List Kept) (a b : TreeReport) → Reports tree before after a → Reports tree before other b → a ≡ b }
+    ensures cache { (tree : List Entry) (before after other : List Kept) (a b : TreeReport) → Reports tree before after a → Reports tree before other b → after ≡ other }
+    ensures built { (tree : List Entry) (before after : List Kept) (a : TreeReport) → Reports tree before after a → IsBuilt tree }
+    ensures fresh { IsHonest [] }
+    ensures honest { (tree : List Entry) (before after : List Kept) (a : TreeReport) → IsHonest before → Reports tree before after a → IsHonest after }
+{}

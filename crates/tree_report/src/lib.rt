@@ -1,0 +1,22 @@
+//! What a run replies to a tree of files.
+#![tactic(auto)]
+
+mod files;
+mod formed;
+mod laws;
+mod limits;
+mod lines;
+mod marks;
+mod outcomes;
+mod print;
+mod read;
+mod run;
+mod states;
+mod texts;
+
+pub use laws::one_report_of_a_tree;
+pub use print::TreeReport;
+pub use run::{Answer, report_on};
+
+#[cfg(test)]
+mod tests;

@@ -1,0 +1,129 @@
+//! The report of a tree.
+ghost use Rattle.std.specs.Prelude.{◌≡◌, ◌<◌, ◌≤◌, ◌+◌, ◌^◌, ℕ, Some, length, slice_get, sum_by, IfOk};
+ghost use Rattle.import_graph.specs.Packages.{paths_of};
+ghost use Rattle.import_graph.specs.Tables.{AreAscending};
+ghost use Rattle.tree_report.specs.Formed.{Holds, IsReplyOf};
+ghost use Rattle.tree_report.specs.Reports.{IsHonest, IsAnswered, Reports};
+
+use crate::files::are_in_order;
+use crate::formed::{Formed, form_of};
+use crate::print::{TreeReport, printed};
+use crate::states::{Found, error_lines};
+use crate::texts::all_texts;
+use action_graph::Kit;
+use analysis_core::{Counts, Reply};
+use fact_cache::Cache;
+use gv_base::{Bytes, Files, NoMemory, Row};
+use import_graph::Package;
+use std::alloc::Global;
+
+/// What is answered of a tree.
+#[derive(Drop)]
+pub enum Answer {
+    /// It isn't in the form that is built. The cache is as it was.
+    NotBuilt,
+    /// Its report.
+    Told(TreeReport),
+}
+
+fn copied(alloc: Global, text: &[u8]) -> Result<Bytes, NoMemory>
+    ensures { IfOk result (λ copy. copy ≡ text.now) }
+{
+    Ok(Bytes::new(text.to_vec(alloc)?))
+}
+
+/// The paths of the packages.
+fn paths_of(alloc: Global, packages: &[Package]) -> Result<Vec<Bytes>, NoMemory>
+    ensures { IfOk result (λ paths. paths.items ≡ paths_of packages.now) }
+{
+    let mut paths = Vec::new(alloc);
+    for pack in packages {
+        let path = copied(alloc, pack.path.as_slice())?;
+        paths.push(path)?;
+    }
+    Ok(paths)
+}
+
+/// The reply of a run over the packages of a tree.
+fn reply_of(alloc: Global, formed: &Formed, ran: &gv_driver::Reply) -> Result<Reply, NoMemory>
+    requires order { AreAscending (paths_of formed.now.packages.items) }
+    requires few { length formed.now.packages.items ≤ 1024 }
+    ensures { IfOk result (λ reply. IsReplyOf formed.now ran.now reply) }
+{
+    let outcomes = ran.verdicts.as_slice();
+    if outcomes.len() != formed.packages.len() {
+        return Err(NoMemory);
+    }
+    let paths = paths_of(alloc, &formed.packages)?;
+    let errors = error_lines(
+        alloc,
+        &Found {
+            heads: &formed.heads,
+            verdicts: &formed.verdicts,
+            packages: &formed.packages,
+            outcomes,
+            paths: &paths,
+        },
+    )?;
+    Ok(Reply {
+        packages: formed.packages.len() as u32,
+        errors: Row::new(errors),
+        counts: Counts {
+            nodes: ran.counts.nodes,
+            missing: ran.counts.missing,
+            loads: ran.counts.loads,
+            runs: ran.counts.runs,
+        },
+    })
+}
+
+/// The report of a tree of the form.
+fn report_formed<K: Kit>(
+    alloc: Global,
+    files: &Files,
+    formed: &Formed,
+    cache: &mut Cache,
+    kits: &mut [K],
+) -> Result<TreeReport, NoMemory>
+    requires form { Holds files.now formed.now }
+    requires some { 0 < length kits.old }
+    requires room { (k : ℕ) (kit : K) → slice_get kits.old k ≡ Some kit → K.loads kit ≤ 2 ^ 62 }
+    ensures bound { sum_by K.loads kits.new ≤ sum_by K.loads kits.old + 1024 }
+    ensures runs { sum_by K.runs kits.new ≡ sum_by K.runs kits.old }
+    ensures told { IsHonest cache.old → IfOk result (Reports files.now cache.old cache.new) }
+    ensures loads { IsHonest cache.old → IfOk result (λ report. sum_by K.loads kits.new ≡ sum_by K.loads kits.old + report.counts.loads) }
+    ensures honest { IsHonest cache.old → IsHonest cache.new }
+{
+    if !are_in_order(files) {
+        return Err(NoMemory);
+    }
+    let tree = all_texts(alloc, files, &formed.packages)?;
+    let ran = gv_driver::run(alloc, &tree, cache, kits)?;
+    let reply = reply_of(alloc, formed, &ran)?;
+    let report = printed(alloc, files, &reply)?;
+    Ok(report)
+}
+
+/// Reports on a tree with the first of the kits, and with what the cache has; what was executed is kept.
+pub fn report_on<K: Kit>(
+    alloc: Global,
+    files: &Files,
+    cache: &mut Cache,
+    kits: &mut [K],
+) -> Result<Answer, NoMemory>
+    requires some { 0 < length kits.old }
+    requires room { (k : ℕ) (kit : K) → slice_get kits.old k ≡ Some kit → K.loads kit ≤ 2 ^ 62 }
+    ensures bound { sum_by K.loads kits.new ≤ sum_by K.loads kits.old + 1024 }
+    ensures runs { sum_by K.runs kits.new ≡ sum_by K.runs kits.old }
+    ensures answered { IsHonest cache.old → IfOk result (IsAnswered files.now cache.old cache.new (sum_by K.loads kits.old) (sum_by K.loads kits.new)) }
+    ensures honest { IsHonest cache.old → IsHonest cache.new }
+{
+    let found = form_of(alloc, files)?;
+    match found {
+        None => Ok(Answer::NotBuilt),
+        Some(formed) => {
+            let report = report_formed(alloc, files, &formed, cache, kits)?;
+            Ok(Answer::Told(report))
+        }
+    }
+}

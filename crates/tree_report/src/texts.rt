@@ -1,0 +1,84 @@
+//! Packages with the texts of their files, as a run takes them.
+ghost use Rattle.std.specs.Prelude.{◌≡◌, map, IfOk};
+ghost use Rattle.analysis_core.specs.Replies.{file_numbered};
+ghost use Rattle.import_graph.specs.Orders.{is_sound};
+ghost use Rattle.tree_report.specs.Reports.{texts_of};
+
+use crate::files::file_numbered;
+use gv_base::{Bytes, Files, NoMemory, Row, Text};
+use gv_driver::PackageTexts;
+use import_graph::{PackState, Package};
+use std::alloc::Global;
+
+fn is_sound(state: &PackState) -> bool
+    ensures { result ≡ is_sound state.now }
+{
+    match state {
+        PackState::Broken => false,
+        PackState::NameClash(_) => false,
+        PackState::MissingImport(_) => false,
+        PackState::ImportCycle => false,
+        PackState::Sound => true,
+    }
+}
+
+/// A text of these bytes. Paths of packages are ASCII; bytes that aren't UTF-8 are answered as want of memory.
+pub fn text_of(alloc: Global, bytes: &[u8]) -> Result<Text, NoMemory>
+    ensures { IfOk result (λ text. text ≡ bytes.now) }
+{
+    let Ok(text) = std::str::from_utf8(bytes) else {
+        return Err(NoMemory);
+    };
+    Ok(Text::new(String::from_str(alloc, text)?))
+}
+
+fn copied(alloc: Global, files: &Files, file: u32) -> Result<(Text, Bytes), NoMemory>
+    ensures { IfOk result (λ copy. copy ≡ file_numbered files.now file) }
+{
+    let (path, bytes) = file_numbered(files, file);
+    let path = Text::new(String::from_str(alloc, path)?);
+    let bytes = Bytes::new(bytes.to_vec(alloc)?);
+    Ok((path, bytes))
+}
+
+fn files_of(alloc: Global, files: &Files, numbers: &[u32]) -> Result<Vec<(Text, Bytes)>, NoMemory>
+    ensures { IfOk result (λ list. list.items ≡ map (file_numbered files.now) numbers.now) }
+{
+    let mut list = Vec::new(alloc);
+    for number in numbers {
+        let file = copied(alloc, files, *number)?;
+        list.push(file)?;
+    }
+    Ok(list)
+}
+
+fn texts_of(alloc: Global, files: &Files, pack: &Package) -> Result<PackageTexts, NoMemory>
+    ensures { IfOk result (λ texts. texts ≡ texts_of files.now pack.now) }
+{
+    let path = text_of(alloc, pack.path.as_slice())?;
+    let imports = pack.imports.as_slice().to_vec(alloc)?;
+    let list = files_of(alloc, files, pack.files.as_slice())?;
+    Ok(PackageTexts {
+        path,
+        stub: pack.stub,
+        sound: is_sound(&pack.state),
+        imports: Row::new(imports),
+        files: Row::new(list),
+    })
+}
+
+/// Each package with the texts of its files.
+pub fn all_texts(
+    alloc: Global,
+    files: &Files,
+    packages: &[Package],
+) -> Result<Vec<PackageTexts>, NoMemory>
+    ensures { IfOk result (λ texts. texts.items ≡ map (texts_of files.now) packages.now) }
+{
+    let mut list = Vec::new(alloc);
+    for pack in packages {
+        let texts = texts_of(alloc, files, pack)?;
+        list.push(texts)?;
+    }
+    Ok(list)
+}
