@@ -8,6 +8,7 @@ use Rattle.gv_tool.specs.declared.session.Session.{Session}
 use Rattle.gv_tool.specs.declared.status.Status.{Status}
 use Rattle.gv_tool.specs.declared.status.Status.TheVariants.{Usage}
 use Rattle.gv_tool.specs.Outcome.{Outcome}
+use Rattle.gv_tool.specs.Judging.{IsHonest}
 use Rattle.gv_tool.specs.Replies.{Standing, at_start}
 use Rattle.gv_tool.specs.Desk.{standing_of}
 use Rattle.gv_tool.specs.Turn.{Turns, SoFar, Runs}
@@ -22,14 +23,14 @@ RoseBy-length : (a b c : ℕ) (xs ys : List ℕ) → RoseBy (length xs) a b → 
 RoseBy-length a b c xs ys h k = rw length-append (RoseBy-trans a b c (length xs) (length ys) h k)
 
 -- at the start
-pub SoFar-start : (source : SourceView) (sink : SinkView) (session : Session) → standing_of session.desk ≡ at_start → session.pending ≡ [] → session.offset ≡ 0 → SoFar source source sink sink session
-SoFar-start source sink session s p o = record {
+pub SoFar-start : (source : SourceView) (sink : SinkView) (session : Session) → standing_of session.desk ≡ at_start → session.pending ≡ [] → session.offset ≡ 0 → IsHonest session.desk.cache → SoFar source source sink sink session
+SoFar-start source sink session s p o k = record {
   given = [];
   out = [];
   takes = Consumes-none source.left;
   counts = omega arith;
   says = Appends-none sink.held;
-  stands = record { read = []; reached = rw (s, p) (record { parts = refl; within = omega arith; answered = Answered-none at_start }); offset = o };
+  stands = record { read = []; reached = rw (s, p) (record { parts = refl; within = omega arith; answered = Answered-none at_start }); offset = o; honest = k };
 }
 
 -- a turn that goes on

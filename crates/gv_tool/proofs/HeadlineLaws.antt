@@ -7,17 +7,18 @@ use Rattle.gv_tool.specs.declared.status.Status.TheVariants.{Done, Found, Usage,
 use Rattle.gv_tool.specs.Replies.{at_start}
 use Rattle.gv_tool.specs.Turn.{Runs}
 use Rattle.gv_tool.specs.Headline.{Session, EndedBy, number_of, IsAllDue, IsDueOf, IsCutShort, Due}
+use Rattle.gv_tool.proofs.JudgingLaws.{OneReport}
 use Rattle.gv_tool.proofs.Course.{never_usage}
 use Rattle.gv_tool.proofs.OutputLaws.{IsDueOf-run}
 
-due-of : (a b : SourceView) (x y : SinkView) (status : Status) (r : Runs a b x y status) → IsDueOf a.left r.out status
-due-of a b x y status r = IsDueOf-run a.left b.left r.given r.out status r.takes r.outcome
+due-of : OneReport → (a b : SourceView) (x y : SinkView) (status : Status) (r : Runs a b x y status) → IsDueOf a.left r.out status
+due-of law a b x y status r = IsDueOf-run law a.left b.left r.given r.out status r.takes r.outcome
 
-pub Session-of : (a b : SourceView) (x y : SinkView) (status : Status) (n : ℕ) → Runs a b x y status → n ≡ number_of status → Session a b x y n
-Session-of a b x y status n r e = record { status = status; number = e; course = r; due = due-of a b x y status r }
+pub Session-of : OneReport → (a b : SourceView) (x y : SinkView) (status : Status) (n : ℕ) → Runs a b x y status → n ≡ number_of status → Session a b x y n
+Session-of law a b x y status n r e = record { status = status; number = e; course = r; due = due-of law a b x y status r }
 
-pub EndedBy-of : (a b : SourceView) (x y : SinkView) (status wanted : Status) → Runs a b x y status → status ≡ wanted → EndedBy a b x y wanted
-EndedBy-of a b x y status wanted r e = subst (λ s. EndedBy a b x y s) e (record { course = r; due = due-of a b x y status r })
+pub EndedBy-of : OneReport → (a b : SourceView) (x y : SinkView) (status wanted : Status) → Runs a b x y status → status ≡ wanted → EndedBy a b x y wanted
+EndedBy-of law a b x y status wanted r e = subst (λ s. EndedBy a b x y s) e (record { course = r; due = due-of law a b x y status r })
 
 pub only-refused : (s : Status) → number_of s ≡ 8 → s ≡ Refused
 only-refused Done e = absurd (omega arith)
@@ -44,11 +45,11 @@ only-not_built Stuck e = absurd (omega arith)
 only-not_built NotBuilt e = refl
 
 -- the status is that of what is due, or that of an end before it
-pub exact-of : (a b : SourceView) (x y : SinkView) (status : Status) (script whole : List ℕ) (due : Status) → Runs a b x y status → a.left ≡ Some script → Due script whole due → (number_of status ≡ number_of due) ⊎ IsCutShort (number_of status)
-exact-of a b x y status script whole due r e d = go status refl
+pub exact-of : OneReport → (a b : SourceView) (x y : SinkView) (status : Status) (script whole : List ℕ) (due : Status) → Runs a b x y status → a.left ≡ Some script → Due script whole due → (number_of status ≡ number_of due) ⊎ IsCutShort (number_of status)
+exact-of law a b x y status script whole due r e d = go status refl
   where
     known : IsDueOf (Some script) r.out status
-    known = subst (λ l. IsDueOf l r.out status) e (due-of a b x y status r)
+    known = subst (λ l. IsDueOf l r.out status) e (due-of law a b x y status r)
 
     same : IsAllDue status → number_of status ≡ number_of due
     same all = ap number_of (known.single all whole due d).1

@@ -1,7 +1,9 @@
--- A tree has one report.
-use Rattle.std.proofs.Common.{◌≡◌, ℕ, List, Bool}
-use Rattle.one_package.proofs.OneReport.{one-report}
-use Rattle.gv_tool.specs.Judging.{Tree, IsBuilt, Reports}
+-- What the law of reports says, as a premise: a call of the law in the code gives it.
+use Rattle.std.proofs.Common.{◌≡◌}
+use Rattle.gv_tool.specs.Judging.{Tree, Entries, TreeReport, IsBuilt, Reports}
 
-pub one_report : (tree : Tree) (a b : List ℕ) (f g : Bool) → IsBuilt tree → Reports tree a f → Reports tree b g → (a ≡ b) × (f ≡ g)
-one_report tree a b f g built r s = one-report tree a b f g r s
+-- over one cache a tree has one report and leaves one cache, and a tree with a report is built
+pub record OneReport : Type 0 where
+  pub report : (tree : Tree) (before after other : Entries) (a b : TreeReport) → Reports tree before after a → Reports tree before other b → a ≡ b
+  pub cache : (tree : Tree) (before after other : Entries) (a b : TreeReport) → Reports tree before after a → Reports tree before other b → after ≡ other
+  pub built : (tree : Tree) (before after : Entries) (a : TreeReport) → Reports tree before after a → IsBuilt tree

@@ -4,7 +4,9 @@ pub mod FieldLaws
 pub mod PathLaws
 pub mod FileLaws
 pub mod WordLaws
+pub mod DeskLaws
 pub mod JudgingLaws
+pub mod HonestLaws
 pub mod Steps
 pub mod Course
 pub mod PrefixLaws

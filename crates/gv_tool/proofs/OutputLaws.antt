@@ -3,7 +3,7 @@ use Rattle.std.proofs.Common.{◌≡◌, inl, inr, ℕ, zero, suc, ◌+◌, ◌-
 use Rattle.std.proofs.lemmas.List.{append-nil, length-append, take_all}
 use Rattle.std.specs.Io.KnownBytes.{Consumes}
 use Rattle.gv_tool.specs.declared.word.Word.{Word}
-use Rattle.gv_tool.specs.declared.word.Word.TheVariants.{Put, Del, Check, End}
+use Rattle.gv_tool.specs.declared.word.Word.TheVariants.{Put, Del, Check, Stats, End}
 use Rattle.gv_tool.specs.declared.status.Status.{Status}
 use Rattle.gv_tool.specs.declared.status.Status.TheVariants.{Done, Found, Usage, SourceFault, SinkFault, NoMemory, Refused, TooLong, Stuck, NotBuilt}
 use Rattle.gv_tool.specs.Script.{Fields, Command, ending, spelling, IsLawful, IsBeginning, NoCommand}
@@ -12,17 +12,10 @@ use Rattle.gv_tool.specs.Replies.{Standing, is_run, Carries, Does, at_start}
 use Rattle.gv_tool.specs.Outcome.{limit, refusal, not_built, IsPrefix, Reached, IsRefused, no_command, cut_short, IsUnbuilt, IsEnding, at_end, by_command, IsPastLimit, IsCutOff, of_replies, of_refusal, of_unbuilt, EndsBy, Outcome}
 use Rattle.gv_tool.specs.Headline.{IsAllDue, Due, IsDueOf}
 use Rattle.gv_tool.proofs.Grammar.{append-split}
+use Rattle.gv_tool.proofs.WordLaws.{nonempty}
+use Rattle.gv_tool.proofs.JudgingLaws.{OneReport}
 use Rattle.gv_tool.proofs.PrefixLaws.{prefix_free, Halted, said-begins, same-reading}
 use Rattle.gv_tool.proofs.DueLaws.{take-joined, Reached-more, refused-whole, unbuilt-whole, Outcome-whole}
-
-word-nonempty : (w : Word) (f : Fields) → 0 < length (spelling (record { word = w; fields = f }))
-word-nonempty Put f = omega arith
-word-nonempty Del f = omega arith
-word-nonempty Check f = omega arith
-word-nonempty End f = omega arith
-
-nonempty : (c : Command) → 0 < length (spelling c)
-nonempty c = word-nonempty c.word c.fields
 
 -- a beginning doesn't begin with a command
 beginning-halts : (b : List ℕ) → IsBeginning b → (c : Command) (z : List ℕ) → IsLawful c → b ≡ spelling c ++ z → ⊥
@@ -58,17 +51,18 @@ halted-refused : (now : Standing) (n : ℕ) (rest : List ℕ) → IsRefused n re
 halted-refused now n rest (no_command h) c next reply more lawful does s w = no_command-halts (limit - n) rest h c more lawful s (omega arith)
 halted-refused now n rest (cut_short b some x l) c next reply more lawful does s w = beginning-halts rest b c more lawful s
 
-run-built : (w : Word) (f : Fields) (s n : Standing) (r : List ℕ) → is_run w ≡ true → Carries w f s n r → IsBuilt s.tree
-run-built Put f s n r e h = absurd (let x : ◌≡◌ {A = Bool} false true = e in cc)
-run-built Del f s n r e h = absurd (let x : ◌≡◌ {A = Bool} false true = e in cc)
-run-built Check f s n r e h = h.built
-run-built End f s n r e h = absurd (let x : ◌≡◌ {A = Bool} false true = e in cc)
+run-built : OneReport → (w : Word) (f : Fields) (s n : Standing) (r : List ℕ) → is_run w ≡ true → Carries w f s n r → IsBuilt s.tree
+run-built law Put f s n r e h = absurd (let x : ◌≡◌ {A = Bool} false true = e in cc)
+run-built law Del f s n r e h = absurd (let x : ◌≡◌ {A = Bool} false true = e in cc)
+run-built law Check f s n r e h = law.built s.tree s.cache n.cache h.report h.reports
+run-built law Stats f s n r e h = absurd (let x : ◌≡◌ {A = Bool} false true = e in cc)
+run-built law End f s n r e h = absurd (let x : ◌≡◌ {A = Bool} false true = e in cc)
 
-halted-unbuilt : (now : Standing) (n : ℕ) (rest : List ℕ) → IsUnbuilt now.tree n rest → Halted now n rest
-halted-unbuilt now n rest u c next reply more lawful does s w =
+halted-unbuilt : OneReport → (now : Standing) (n : ℕ) (rest : List ℕ) → IsUnbuilt now.tree n rest → Halted now n rest
+halted-unbuilt law now n rest u c next reply more lawful does s w =
     let f = prefix_free c u.command more u.more lawful u.lawful (sym s ∙ u.spelled) in
     let run : is_run c.word ≡ true = ap (λ z. is_run z.word) f.command ∙ u.run in
-    u.unbuilt (run-built c.word c.fields now next reply run does)
+    u.unbuilt (run-built law c.word c.fields now next reply run does)
 
 past-none : (n : ℕ) (b more : List ℕ) → IsBeginning b → n + length b ≡ limit → (c : Command) (m : List ℕ) → IsLawful c → b ++ more ≡ spelling c ++ m → n + length (spelling c) ≤ limit → ⊥
 past-none n b more h full c m lawful s w = elim (append-split b (spelling c) more m s) [
@@ -143,19 +137,19 @@ same-prefix x whole e = ([], append-nil x ∙ e)
 whole-ending : (now : Standing) (n : ℕ) (rest said whole : List ℕ) → whole ≡ said → IsEnding n rest (Some []) → IsWhole now n rest said whole
 whole-ending now n rest said whole e x = record { halted = halted-ending now n rest x; begins = same-prefix said whole (sym e); refused = λ r. absurd (refused-not-ending n rest r x); unbuilt = λ u. absurd (unbuilt-not-ending now.tree n rest u x) }
 
-whole-of : (now : Standing) (n : ℕ) (rest said whole : List ℕ) (status : Status) → IsAllDue status → EndsBy now n rest said whole (Some []) status → IsWhole now n rest said whole
-whole-of now n rest said whole Done a e = whole-ending now n rest said whole e.0 e.1
-whole-of now n rest said whole Found a e = whole-ending now n rest said whole e.0 e.1
-whole-of now n rest said whole Refused a e = record { halted = halted-refused now n rest e.1; begins = (refusal n, sym e.0); refused = λ r. e.0; unbuilt = λ u. absurd (unbuilt-not-refused now.tree n rest u e.1) }
-whole-of now n rest said whole NotBuilt a e = record { halted = halted-unbuilt now n rest e.1; begins = (not_built n, sym e.0); refused = λ r. absurd (unbuilt-not-refused now.tree n rest e.1 r); unbuilt = λ u. e.0 }
-whole-of now n rest said whole TooLong a e =
+whole-of : OneReport → (now : Standing) (n : ℕ) (rest said whole : List ℕ) (status : Status) → IsAllDue status → EndsBy now n rest said whole (Some []) status → IsWhole now n rest said whole
+whole-of law now n rest said whole Done a e = whole-ending now n rest said whole e.0 e.1
+whole-of law now n rest said whole Found a e = whole-ending now n rest said whole e.0 e.1
+whole-of law now n rest said whole Refused a e = record { halted = halted-refused now n rest e.1; begins = (refusal n, sym e.0); refused = λ r. e.0; unbuilt = λ u. absurd (unbuilt-not-refused now.tree n rest u e.1) }
+whole-of law now n rest said whole NotBuilt a e = record { halted = halted-unbuilt law now n rest e.1; begins = (not_built n, sym e.0); refused = λ r. absurd (unbuilt-not-refused now.tree n rest e.1 r); unbuilt = λ u. e.0 }
+whole-of law now n rest said whole TooLong a e =
     let p = e.1 in
     record { halted = subst (λ z. Halted now n z) (sym p.parts) (halted-past now n p.first p.more p.beginning p.full); begins = same-prefix said whole (sym e.0); refused = λ r. absurd (refused-is-not-past n rest r p); unbuilt = λ u. absurd (unbuilt-not-past now.tree n rest u p) }
-whole-of now n rest said whole Usage a e = absurd a
-whole-of now n rest said whole SourceFault a e = absurd a
-whole-of now n rest said whole SinkFault a e = absurd a
-whole-of now n rest said whole NoMemory a e = absurd a
-whole-of now n rest said whole Stuck a e = absurd a
+whole-of law now n rest said whole Usage a e = absurd a
+whole-of law now n rest said whole SourceFault a e = absurd a
+whole-of law now n rest said whole SinkFault a e = absurd a
+whole-of law now n rest said whole NoMemory a e = absurd a
+whole-of law now n rest said whole Stuck a e = absurd a
 
 -- a script has one end at which all is due
 record Same (out out' : List ℕ) (st st' : Status) : Type 0 where
@@ -223,13 +217,13 @@ ends-single now n rest said out out' NoMemory st' a b e f = absurd a
 ends-single now n rest said out out' Stuck st' a b e f = absurd a
 
 -- what is due for a script is one output, and one status
-pub Due-single : (script out out' : List ℕ) (st st' : Status) → Due script out st → Due script out' st' → (out ≡ out') × (st ≡ st')
-Due-single script out out' st st' d d' =
+pub Due-single : OneReport → (script out out' : List ℕ) (st st' : Status) → Due script out st → Due script out' st' → (out ≡ out') × (st ≡ st')
+Due-single law script out out' st st' d d' =
     let o = d.outcome in
     let o' = d'.outcome in
-    let w = whole-of o.now (length o.read) o.rest o.said out st d.all o.ends in
-    let w' = whole-of o'.now (length o'.read) o'.rest o'.said out' st' d'.all o'.ends in
-    let s = same-reading o.reached o'.reached w.halted w'.halted in
+    let w = whole-of law o.now (length o.read) o.rest o.said out st d.all o.ends in
+    let w' = whole-of law o'.now (length o'.read) o'.rest o'.said out' st' d'.all o'.ends in
+    let s = same-reading law o.reached o'.reached w.halted w'.halted in
     let e : EndsBy o'.now (length o'.read) o'.rest o'.said out (Some []) st = rw (s.nows, s.reads, s.rests, s.says) at o.ends in
     let r = ends-single o'.now (length o'.read) o'.rest o'.said out out' st st' d.all d'.all e o'.ends in
     (r.output, r.status)
@@ -243,45 +237,45 @@ record Reading (script whole : List ℕ) : Type 0 where
   reached : Reached at_start now script read rest said
   is_whole : IsWhole now (length read) rest said whole
 
-reading-of : (script whole : List ℕ) (status : Status) → Due script whole status → Reading script whole
-reading-of script whole status d = let o = d.outcome in record { now = o.now; read = o.read; rest = o.rest; said = o.said; reached = o.reached; is_whole = whole-of o.now (length o.read) o.rest o.said whole status d.all o.ends }
+reading-of : OneReport → (script whole : List ℕ) (status : Status) → Due script whole status → Reading script whole
+reading-of law script whole status d = let o = d.outcome in record { now = o.now; read = o.read; rest = o.rest; said = o.said; reached = o.reached; is_whole = whole-of law o.now (length o.read) o.rest o.said whole status d.all o.ends }
 
 IsPrefix-trans : (x y z : List ℕ) → IsPrefix x y → IsPrefix y z → IsPrefix x z
 IsPrefix-trans x y z a b = (a.0 ++ b.0, sym (append_assoc x a.0 b.0) ∙ ap (λ w. w ++ b.0) a.1 ∙ b.1)
 
 -- replies to commands at the front begin what is due
-replies-prefix : (script whole : List ℕ) (now : Standing) (read rest said : List ℕ) → Reading script whole → Reached at_start now script read rest said → IsPrefix said whole
-replies-prefix script whole now read rest said d r = IsPrefix-trans said d.said whole (said-begins r d.reached d.is_whole.halted) d.is_whole.begins
+replies-prefix : OneReport → (script whole : List ℕ) (now : Standing) (read rest said : List ℕ) → Reading script whole → Reached at_start now script read rest said → IsPrefix said whole
+replies-prefix law script whole now read rest said d r = IsPrefix-trans said d.said whole (said-begins law r d.reached d.is_whole.halted) d.is_whole.begins
 
 -- and so does a refusal
-refusal-prefix : (script whole : List ℕ) (now : Standing) (read rest said : List ℕ) → Reading script whole → Reached at_start now script read rest said → IsRefused (length read) rest (Some []) → said ++ refusal (length read) ≡ whole
-refusal-prefix script whole now read rest said d r x =
-    let s = same-reading r d.reached (halted-refused now (length read) rest x) d.is_whole.halted in
+refusal-prefix : OneReport → (script whole : List ℕ) (now : Standing) (read rest said : List ℕ) → Reading script whole → Reached at_start now script read rest said → IsRefused (length read) rest (Some []) → said ++ refusal (length read) ≡ whole
+refusal-prefix law script whole now read rest said d r x =
+    let s = same-reading law r d.reached (halted-refused now (length read) rest x) d.is_whole.halted in
     let y : IsRefused (length d.read) d.rest (Some []) = rw (s.reads, s.rests) at x in
     ap (λ z. said ++ refusal (length z)) s.reads ∙ ap (λ z. z ++ refusal (length d.read)) s.says ∙ sym (d.is_whole.refused y)
 
 -- and so does the line for a tree that isn't built
-unbuilt-prefix : (script whole : List ℕ) (now : Standing) (read rest said : List ℕ) → Reading script whole → Reached at_start now script read rest said → IsUnbuilt now.tree (length read) rest → said ++ not_built (length read) ≡ whole
-unbuilt-prefix script whole now read rest said d r x =
-    let s = same-reading r d.reached (halted-unbuilt now (length read) rest x) d.is_whole.halted in
+unbuilt-prefix : OneReport → (script whole : List ℕ) (now : Standing) (read rest said : List ℕ) → Reading script whole → Reached at_start now script read rest said → IsUnbuilt now.tree (length read) rest → said ++ not_built (length read) ≡ whole
+unbuilt-prefix law script whole now read rest said d r x =
+    let s = same-reading law r d.reached (halted-unbuilt law now (length read) rest x) d.is_whole.halted in
     let y : IsUnbuilt d.now.tree (length d.read) d.rest = rw (s.nows, s.reads, s.rests) at x in
     ap (λ z. said ++ not_built (length z)) s.reads ∙ ap (λ z. z ++ not_built (length d.read)) s.says ∙ sym (d.is_whole.unbuilt y)
 
 -- and so does what ends a session in any way
-ends-prefix : (script whole : List ℕ) (now : Standing) (read tail rest said out : List ℕ) (status : Status) → Reading script whole → Reached at_start now script read (tail ++ rest) said → EndsBy now (length read) tail said out (Some rest) status → IsPrefix out whole
-ends-prefix script whole now read tail rest said out status d r e = go status e
+ends-prefix : OneReport → (script whole : List ℕ) (now : Standing) (read tail rest said out : List ℕ) (status : Status) → Reading script whole → Reached at_start now script read (tail ++ rest) said → EndsBy now (length read) tail said out (Some rest) status → IsPrefix out whole
+ends-prefix law script whole now read tail rest said out status d r e = go status e
   where
     replies : IsPrefix said whole
-    replies = replies-prefix script whole now read (tail ++ rest) said d r
+    replies = replies-prefix law script whole now read (tail ++ rest) said d r
 
     equal : out ≡ said → IsPrefix out whole
     equal x = IsPrefix-trans out said whole (same-prefix out said x) replies
 
     refused : IsRefused (length read) tail (Some rest) → said ++ refusal (length read) ≡ whole
-    refused x = refusal-prefix script whole now read (tail ++ rest) said d r (refused-whole (length read) tail rest x)
+    refused x = refusal-prefix law script whole now read (tail ++ rest) said d r (refused-whole (length read) tail rest x)
 
     unbuilt : IsUnbuilt now.tree (length read) tail → said ++ not_built (length read) ≡ whole
-    unbuilt x = unbuilt-prefix script whole now read (tail ++ rest) said d r (unbuilt-whole now.tree (length read) tail rest x)
+    unbuilt x = unbuilt-prefix law script whole now read (tail ++ rest) said d r (unbuilt-whole now.tree (length read) tail rest x)
 
     cut_off : IsCutOff now.tree (length read) tail said out (Some rest) → IsPrefix out whole
     cut_off (of_replies p) = IsPrefix-trans out said whole p replies
@@ -300,17 +294,17 @@ ends-prefix script whole now read tail rest said out status d r e = go status e
     go Refused e = same-prefix out whole (e.0 ∙ refused e.1)
     go NotBuilt e = same-prefix out whole (e.0 ∙ unbuilt e.1)
 
-outcome-prefix : (given rest out whole : List ℕ) (status : Status) → Reading (given ++ rest) whole → Outcome at_start given out (Some rest) status → IsPrefix out whole
-outcome-prefix given rest out whole status d o = ends-prefix (given ++ rest) whole o.now o.read o.rest rest o.said out status d (Reached-more rest o.reached) o.ends
+outcome-prefix : OneReport → (given rest out whole : List ℕ) (status : Status) → Reading (given ++ rest) whole → Outcome at_start given out (Some rest) status → IsPrefix out whole
+outcome-prefix law given rest out whole status d o = ends-prefix law (given ++ rest) whole o.now o.read o.rest rest o.said out status d (Reached-more rest o.reached) o.ends
 
 -- what went out of a run, where the source tells its script
-pub IsDueOf-run : (left left' : Option (List ℕ)) (given out : List ℕ) (status : Status) → Consumes left left' given → Outcome at_start given out left' status → IsDueOf left out status
-IsDueOf-run None left' given out status c o = tt
-IsDueOf-run (Some script) None given out status c o = absurd c
-IsDueOf-run (Some script) (Some rest) given out status c o =
+pub IsDueOf-run : OneReport → (left left' : Option (List ℕ)) (given out : List ℕ) (status : Status) → Consumes left left' given → Outcome at_start given out left' status → IsDueOf left out status
+IsDueOf-run law None left' given out status c o = tt
+IsDueOf-run law (Some script) None given out status c o = absurd c
+IsDueOf-run law (Some script) (Some rest) given out status c o =
     let due : IsAllDue status → Due script out status = λ all. rw c (record { all = all; outcome = Outcome-whole at_start given out rest status all o }) in
     record {
       due = due;
-      single = λ all whole other d. Due-single script out whole status other (due all) d;
-      prefix = λ whole other d. outcome-prefix given rest out whole status (rw c at (reading-of script whole other d)) o;
+      single = λ all whole other d. Due-single law script out whole status other (due all) d;
+      prefix = λ whole other d. outcome-prefix law given rest out whole status (rw c at (reading-of law script whole other d)) o;
     }

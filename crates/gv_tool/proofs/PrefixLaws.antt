@@ -5,7 +5,7 @@ use Rattle.std.proofs.lemmas.Fmt.{decimal_injective}
 use Rattle.std.specs.List.{flat_map}
 use Rattle.std.specs.Fmt.{decimal}
 use Rattle.gv_tool.specs.declared.word.Word.{Word}
-use Rattle.gv_tool.specs.declared.word.Word.TheVariants.{Put, Del, Check, End}
+use Rattle.gv_tool.specs.declared.word.Word.TheVariants.{Put, Del, Check, Stats, End}
 use Rattle.gv_tool.specs.declared.word.Shape.{Shape}
 use Rattle.gv_tool.specs.declared.word.Shape.TheVariants.{Bare, Path, File}
 use Rattle.gv_tool.specs.Words.{text_of, shape_of}
@@ -14,7 +14,8 @@ use Rattle.gv_tool.specs.Segments.{is_path_byte}
 use Rattle.gv_tool.specs.Runs.{is_digit}
 use Rattle.gv_tool.specs.Replies.{Standing, Runs, Carries, Does, Leads}
 use Rattle.gv_tool.specs.Outcome.{limit, IsPrefix, Reached}
-use Rattle.gv_tool.proofs.JudgingLaws.{one_report}
+use Rattle.gv_tool.specs.Judging.{TreeReport}
+use Rattle.gv_tool.proofs.JudgingLaws.{OneReport}
 use Rattle.gv_tool.proofs.RunLaws.{run-unique}
 use Rattle.gv_tool.proofs.PathLaws.{path-bytes}
 use Rattle.gv_tool.proofs.FieldLaws.{decimal-digits}
@@ -83,22 +84,37 @@ record SameStep (n n' : Standing) (r r' : List ℕ) : Type 0 where
   now : n ≡ n'
   reply : r ≡ r'
 
-one_run : (s n n' : Standing) (r r' : List ℕ) → Runs s n r → Runs s n' r' → SameStep n n' r r'
-one_run s n n' r r' h k =
-    let o = one_report s.tree r r' n.found n'.found h.built h.reports k.reports in
-    let t : n.tree ≡ n'.tree = h.tree ∙ sym k.tree in
-    record { now = ap (λ z. record { tree = z; found = n.found }) t ∙ ap (λ z. record { tree = n'.tree; found = z }) o.1; reply = o.0 }
+same-standing : (a b : Standing) → a.tree ≡ b.tree → a.found ≡ b.found → a.cache ≡ b.cache → a.counts ≡ b.counts → a.loads ≡ b.loads → a ≡ b
+same-standing a b t f c n l =
+    ap (λ z. record { tree = z; found = a.found; cache = a.cache; counts = a.counts; loads = a.loads }) t
+    ∙ (ap (λ z. record { tree = b.tree; found = z; cache = a.cache; counts = a.counts; loads = a.loads }) f
+    ∙ (ap (λ z. record { tree = b.tree; found = b.found; cache = z; counts = a.counts; loads = a.loads }) c
+    ∙ (ap (λ z. record { tree = b.tree; found = b.found; cache = b.cache; counts = z; loads = a.loads }) n
+    ∙ ap (λ z. record { tree = b.tree; found = b.found; cache = b.cache; counts = b.counts; loads = z }) l)))
+
+one_run : OneReport → (s n n' : Standing) (r r' : List ℕ) → Runs s n r → Runs s n' r' → SameStep n n' r r'
+one_run law s n n' r r' h k =
+    let o : h.report ≡ k.report = law.report s.tree s.cache n.cache n'.cache h.report k.report h.reports k.reports in
+    let c : n.cache ≡ n'.cache = law.cache s.tree s.cache n.cache n'.cache h.report k.report h.reports k.reports in
+    let found : n.found ≡ n'.found = h.found ∙ (ap (λ (z : TreeReport). z.found) o ∙ sym k.found) in
+    let counts : n.counts ≡ n'.counts = h.counts ∙ (ap (λ (z : TreeReport). z.counts) o ∙ sym k.counts) in
+    let loads : n.loads ≡ n'.loads = h.loads ∙ (ap (λ (z : TreeReport). s.loads + z.counts.loads) o ∙ sym k.loads) in
+    record {
+      now = same-standing n n' (h.tree ∙ sym k.tree) found c counts loads;
+      reply = h.text ∙ (ap (λ (z : TreeReport). z.text) o ∙ sym k.text);
+    }
 
 -- a command does one thing
-one_step : (w : Word) (f : Fields) (s n n' : Standing) (r r' : List ℕ) → Carries w f s n r → Carries w f s n' r' → SameStep n n' r r'
-one_step Put bare s n n' r r' h k = absurd h
-one_step Put (at_path path) s n n' r r' h k = absurd h
-one_step Put (with_file path bytes) s n n' r r' h k = record { now = h.0 ∙ sym k.0; reply = h.1 ∙ sym k.1 }
-one_step Del bare s n n' r r' h k = absurd h
-one_step Del (at_path path) s n n' r r' h k = record { now = h.0 ∙ sym k.0; reply = h.1 ∙ sym k.1 }
-one_step Del (with_file path bytes) s n n' r r' h k = absurd h
-one_step Check f s n n' r r' h k = one_run s n n' r r' h k
-one_step End f s n n' r r' h k = absurd h
+one_step : OneReport → (w : Word) (f : Fields) (s n n' : Standing) (r r' : List ℕ) → Carries w f s n r → Carries w f s n' r' → SameStep n n' r r'
+one_step law Put bare s n n' r r' h k = absurd h
+one_step law Put (at_path path) s n n' r r' h k = absurd h
+one_step law Put (with_file path bytes) s n n' r r' h k = record { now = h.0 ∙ sym k.0; reply = h.1 ∙ sym k.1 }
+one_step law Del bare s n n' r r' h k = absurd h
+one_step law Del (at_path path) s n n' r r' h k = record { now = h.0 ∙ sym k.0; reply = h.1 ∙ sym k.1 }
+one_step law Del (with_file path bytes) s n n' r r' h k = absurd h
+one_step law Check f s n n' r r' h k = one_run law s n n' r r' h k
+one_step law Stats f s n n' r r' h k = record { now = h.0 ∙ sym k.0; reply = h.1 ∙ sym k.1 }
+one_step law End f s n n' r r' h k = absurd h
 
 -- no command that is answered here begins the rest within the limit
 abbrev pub Halted : Standing → ℕ → List ℕ → Type 0
@@ -110,23 +126,23 @@ pub record Extends (cs ds : List Command) (said said' : List ℕ) : Type 0 where
   pub begins : IsPrefix said said'
 
 -- of two readings of one script, the first begins one that has halted
-pub commands-begin : (cs ds : List Command) (s now now' : Standing) (said said' x y : List ℕ) (n : ℕ) → Leads cs s now said → Leads ds s now' said' → flat_map spelling cs ++ x ≡ flat_map spelling ds ++ y → n + length (flat_map spelling cs) ≤ limit → Halted now' (n + length (flat_map spelling ds)) y → Extends cs ds said said'
-commands-begin [] ds s now now' said said' x y n a b e w h = record { more = ds; whole = refl; begins = (said', ap (λ z. z ++ said') a.1) }
-commands-begin (c ∷ cs) [] s now now' said said' x y n a b e w h =
+pub commands-begin : OneReport → (cs ds : List Command) (s now now' : Standing) (said said' x y : List ℕ) (n : ℕ) → Leads cs s now said → Leads ds s now' said' → flat_map spelling cs ++ x ≡ flat_map spelling ds ++ y → n + length (flat_map spelling cs) ≤ limit → Halted now' (n + length (flat_map spelling ds)) y → Extends cs ds said said'
+commands-begin law [] ds s now now' said said' x y n a b e w h = record { more = ds; whole = refl; begins = (said', ap (λ z. z ++ said') a.1) }
+commands-begin law (c ∷ cs) [] s now now' said said' x y n a b e w h =
     let l : length (spelling c ++ flat_map spelling cs) ≡ length (spelling c) + length (flat_map spelling cs) = length-append (spelling c) (flat_map spelling cs) in
     let d : Does c now' a.0 a.1 = rw b.0 a.4 in
     absurd (h c a.0 a.1 (flat_map spelling cs ++ x) a.3 d (sym e ∙ append_assoc (spelling c) (flat_map spelling cs) x) (omega arith))
-commands-begin (c ∷ cs) (d ∷ ds) s now now' said said' x y n a b e w h =
+commands-begin law (c ∷ cs) (d ∷ ds) s now now' said said' x y n a b e w h =
     let f = prefix_free c d (flat_map spelling cs ++ x) (flat_map spelling ds ++ y) a.3 b.3 (sym (append_assoc (spelling c) (flat_map spelling cs) x) ∙ e ∙ append_assoc (spelling d) (flat_map spelling ds) y) in
     let l : length (spelling c ++ flat_map spelling cs) ≡ length (spelling c) + length (flat_map spelling cs) = length-append (spelling c) (flat_map spelling cs) in
     let m : length (spelling d ++ flat_map spelling ds) ≡ length (spelling d) + length (flat_map spelling ds) = length-append (spelling d) (flat_map spelling ds) in
     let k : length (spelling c) ≡ length (spelling d) = ap (λ z. length (spelling z)) f.command in
     let b4 : Does c s b.0 b.1 = subst (λ z. Does z s b.0 b.1) (sym f.command) b.4 in
-    let o = one_step c.word c.fields s a.0 b.0 a.1 b.1 a.4 b4 in
+    let o = one_step law c.word c.fields s a.0 b.0 a.1 b.1 a.4 b4 in
     let b5 : Leads ds a.0 now' b.2 = subst (λ z. Leads ds z now' b.2) (sym o.now) b.5 in
     let h' : (c' : Command) (next : Standing) (reply more : List ℕ) → IsLawful c' → Does c' now' next reply → y ≡ spelling c' ++ more → ((n + length (spelling c)) + length (flat_map spelling ds)) + length (spelling c') ≤ limit → ⊥ =
     λ c' next reply more u v z q. h c' next reply more u v z (omega arith) in
-    let r = commands-begin cs ds a.0 now now' a.2 b.2 x y (n + length (spelling c)) a.5 b5 f.rest (omega arith) h' in
+    let r = commands-begin law cs ds a.0 now now' a.2 b.2 x y (n + length (spelling c)) a.5 b5 f.rest (omega arith) h' in
     record {
       more = r.more;
       whole = ap (λ z. z ∷ (cs ++ r.more)) f.command ∙ ap (λ z. d ∷ z) r.whole;
@@ -134,15 +150,15 @@ commands-begin (c ∷ cs) (d ∷ ds) s now now' said said' x y n a b e w h =
     }
 
 -- of two readings of one script, the first has said a beginning of what the other has said that has halted
-pub said-begins : {start now now' : Standing} {bytes read read' rest rest' said said' : List ℕ} → Reached start now bytes read rest said → Reached start now' bytes read' rest' said' → Halted now' (length read') rest' → IsPrefix said said'
-said-begins {start} {now} {now'} {bytes} {read} {read'} {rest} {rest'} {said} {said'} r r' h =
+pub said-begins : {start now now' : Standing} {bytes read read' rest rest' said said' : List ℕ} → OneReport → Reached start now bytes read rest said → Reached start now' bytes read' rest' said' → Halted now' (length read') rest' → IsPrefix said said'
+said-begins {start} {now} {now'} {bytes} {read} {read'} {rest} {rest'} {said} {said'} law r r' h =
     let a = r.answered in
     let b = r'.answered in
     let lr : length read ≡ length (flat_map spelling a.commands) = ap length a.spelled in
     let lr' : length read' ≡ length (flat_map spelling b.commands) = ap length b.spelled in
     let w = r.within in
     let e : flat_map spelling a.commands ++ rest ≡ flat_map spelling b.commands ++ rest' = ap (λ z. z ++ rest) (sym a.spelled) ∙ sym r.parts ∙ r'.parts ∙ ap (λ z. z ++ rest') b.spelled in
-    let x = commands-begin a.commands b.commands start now now' said said' rest rest' 0 a.leads b.leads e (omega arith) (λ c next reply more u v z q. h c next reply more u v z (omega arith)) in
+    let x = commands-begin law a.commands b.commands start now now' said said' rest rest' 0 a.leads b.leads e (omega arith) (λ c next reply more u v z q. h c next reply more u v z (omega arith)) in
     x.begins
 
 pub record SameReading (now now' : Standing) (read read' rest rest' said said' : List ℕ) : Type 0 where
@@ -159,17 +175,17 @@ shorter cs ds (x ∷ es) fs e f =
     absurd (omega arith)
 
 -- commands lead to one place
-one_course : (cs : List Command) (s n n' : Standing) (r r' : List ℕ) → Leads cs s n r → Leads cs s n' r' → SameStep n n' r r'
-one_course [] s n n' r r' a b = record { now = a.0 ∙ sym b.0; reply = a.1 ∙ sym b.1 }
-one_course (c ∷ cs) s n n' r r' a b =
-    let o = one_step c.word c.fields s a.0 b.0 a.1 b.1 a.4 b.4 in
+one_course : OneReport → (cs : List Command) (s n n' : Standing) (r r' : List ℕ) → Leads cs s n r → Leads cs s n' r' → SameStep n n' r r'
+one_course law [] s n n' r r' a b = record { now = a.0 ∙ sym b.0; reply = a.1 ∙ sym b.1 }
+one_course law (c ∷ cs) s n n' r r' a b =
+    let o = one_step law c.word c.fields s a.0 b.0 a.1 b.1 a.4 b.4 in
     let b5 : Leads cs a.0 n' b.2 = subst (λ z. Leads cs z n' b.2) (sym o.now) b.5 in
-    let t = one_course cs a.0 n n' a.2 b.2 a.5 b5 in
+    let t = one_course law cs a.0 n n' a.2 b.2 a.5 b5 in
     record { now = t.now; reply = a.6 ∙ ap (λ z. z ++ a.2) o.reply ∙ ap (λ z. b.1 ++ z) t.reply ∙ sym b.6 }
 
 -- two readings that have both halted are one
-pub same-reading : {start now now' : Standing} {bytes read read' rest rest' said said' : List ℕ} → Reached start now bytes read rest said → Reached start now' bytes read' rest' said' → Halted now (length read) rest → Halted now' (length read') rest' → SameReading now now' read read' rest rest' said said'
-same-reading {start} {now} {now'} {bytes} {read} {read'} {rest} {rest'} {said} {said'} r r' g h =
+pub same-reading : {start now now' : Standing} {bytes read read' rest rest' said said' : List ℕ} → OneReport → Reached start now bytes read rest said → Reached start now' bytes read' rest' said' → Halted now (length read) rest → Halted now' (length read') rest' → SameReading now now' read read' rest rest' said said'
+same-reading {start} {now} {now'} {bytes} {read} {read'} {rest} {rest'} {said} {said'} law r r' g h =
     let a = r.answered in
     let b = r'.answered in
     let lr : length read ≡ length (flat_map spelling a.commands) = ap length a.spelled in
@@ -177,10 +193,10 @@ same-reading {start} {now} {now'} {bytes} {read} {read'} {rest} {rest'} {said} {
     let w = r.within in
     let w' = r'.within in
     let e : flat_map spelling a.commands ++ rest ≡ flat_map spelling b.commands ++ rest' = ap (λ z. z ++ rest) (sym a.spelled) ∙ sym r.parts ∙ r'.parts ∙ ap (λ z. z ++ rest') b.spelled in
-    let x = commands-begin a.commands b.commands start now now' said said' rest rest' 0 a.leads b.leads e (omega arith) (λ c next reply more u v z q. h c next reply more u v z (omega arith)) in
-    let y = commands-begin b.commands a.commands start now' now said' said rest' rest 0 b.leads a.leads (sym e) (omega arith) (λ c next reply more u v z q. g c next reply more u v z (omega arith)) in
+    let x = commands-begin law a.commands b.commands start now now' said said' rest rest' 0 a.leads b.leads e (omega arith) (λ c next reply more u v z q. h c next reply more u v z (omega arith)) in
+    let y = commands-begin law b.commands a.commands start now' now said' said rest' rest 0 b.leads a.leads (sym e) (omega arith) (λ c next reply more u v z q. g c next reply more u v z (omega arith)) in
     let s : a.commands ≡ b.commands = shorter a.commands b.commands x.more y.more x.whole y.whole in
     let reads : read ≡ read' = a.spelled ∙ ap (flat_map spelling) s ∙ sym b.spelled in
     let leads : Leads a.commands start now' said' = subst (λ z. Leads z start now' said') (sym s) b.leads in
-    let o = one_course a.commands start now now' said said' a.leads leads in
+    let o = one_course law a.commands start now now' said said' a.leads leads in
     record { nows = o.now; reads = reads; rests = cancel read' rest rest' (ap (λ z. z ++ rest) (sym reads) ∙ sym r.parts ∙ r'.parts); says = o.reply }

@@ -15,7 +15,7 @@ use Rattle.gv_tool.specs.declared.status.Status.{Status}
 use Rattle.gv_tool.specs.declared.status.Status.TheVariants.{Done, Found, Usage, SourceFault, SinkFault, NoMemory, Refused, TooLong, Stuck, NotBuilt}
 use Rattle.gv_tool.specs.Script.{Fields, bare, at_path, with_file, Fit, Command, ending, spelling, IsLawful, IsBeginning, NoCommand}
 use Rattle.gv_tool.specs.Next.{IsNext, command_of}
-use Rattle.gv_tool.specs.Judging.{IsBuilt}
+use Rattle.gv_tool.specs.Judging.{IsBuilt, IsHonest}
 use Rattle.gv_tool.specs.Replies.{Standing, is_run, Does, Leads, Answered}
 use Rattle.gv_tool.specs.Desk.{standing_of}
 use Rattle.gv_tool.specs.Outcome.{limit, refusal, not_built, IsPrefix, Reached, IsRefused, no_command, cut_short, IsUnbuilt, IsEnding, by_command, IsCutOff, of_replies, of_refusal, of_unbuilt, EndsBy, Outcome}
@@ -62,11 +62,11 @@ Stands-fits : {start : Standing} {given out : List ℕ} {session : Session} (h :
 Stands-fits {session = session} h = let w = within-limit session in let o : session.offset ≡ length h.read = h.offset in omega arith
 
 -- a command is answered
-pub Stands-answered : {start : Standing} {given out : List ℕ} (old new : Session) (decoded : Decoded) (len : ℕ) (reply : List ℕ) → Stands start given out old → IsNext old.pending (Whole decoded len) → Does (command_of decoded) (standing_of old.desk) (standing_of new.desk) reply → new.pending ≡ drop len old.pending → new.offset ≡ old.offset + len → Stands start given (out ++ reply) new
-Stands-answered {start} {given} {out} old new decoded len reply h next does p o =
+pub Stands-answered : {start : Standing} {given out : List ℕ} (old new : Session) (decoded : Decoded) (len : ℕ) (reply : List ℕ) → Stands start given out old → IsNext old.pending (Whole decoded len) → Does (command_of decoded) (standing_of old.desk) (standing_of new.desk) reply → new.pending ≡ drop len old.pending → new.offset ≡ old.offset + len → IsHonest new.desk.cache → Stands start given (out ++ reply) new
+Stands-answered {start} {given} {out} old new decoded len reply h next does p o k =
     let c = command_of decoded in
     let step : Reached start (standing_of new.desk) given (h.read ++ spelling c) (drop len old.pending) (out ++ reply) = Reached-next h.reached c (drop len old.pending) (standing_of new.desk) reply next.0.lawful does next.0.spelled (Stands-fits h) in
-    record { read = h.read ++ spelling c; reached = rw p step; offset = o ∙ ap (λ z. z + len) h.offset ∙ ap (λ z. length h.read + z) next.1 ∙ sym (length-append h.read (spelling c)) }
+    record { read = h.read ++ spelling c; reached = rw p step; offset = o ∙ ap (λ z. z + len) h.offset ∙ ap (λ z. length h.read + z) next.1 ∙ sym (length-append h.read (spelling c)); honest = k }
 
 -- it ends where it stands
 pub Outcome-here : {start : Standing} {given out : List ℕ} (session : Session) (now : List ℕ) (left : Option (List ℕ)) (status : Status) → Stands start given out session → EndsBy (standing_of session.desk) session.offset session.pending out now left status → Outcome start given now left status
@@ -173,7 +173,7 @@ PastLimit-over {start} {given} {out} session more left h b full some =
 pub Stands-piece : {start : Standing} {given out : List ℕ} (old new : Session) (more : List ℕ) → Stands start given out old → new.pending ≡ old.pending ++ more → new.desk ≡ old.desk → new.offset ≡ old.offset → Stands start (given ++ more) (out ++ []) new
 Stands-piece {start} {given} {out} old new more h p s o =
     let r : Reached start (standing_of old.desk) (given ++ more) h.read (old.pending ++ more) out = record { parts = ap (λ z. z ++ more) h.reached.parts ∙ append_assoc h.read old.pending more; within = h.reached.within; answered = h.reached.answered } in
-    record { read = h.read; reached = rw (append-nil out, s, p) r; offset = o ∙ h.offset }
+    record { read = h.read; reached = rw (append-nil out, s, p) r; offset = o ∙ h.offset; honest = rw s h.honest }
 
 bare-only : (fields : Fields) → Fit Bare fields → fields ≡ bare
 bare-only bare h = refl
@@ -199,20 +199,20 @@ IsEnding-of session decoded len left next e =
     by_command (drop len session.pending) t (omega arith)
 
 -- a reply was written, or a part of it
-pub StandsOrEnds-reply : {start : Standing} {given out : List ℕ} (old mid new : Session) (decoded : Decoded) (len : ℕ) (reply said : List ℕ) (left : Option (List ℕ)) (result : Option Status) → Stands start given out old → IsNext old.pending (Whole decoded len) → Does (command_of decoded) (standing_of old.desk) (standing_of mid.desk) reply → mid.pending ≡ old.pending → mid.offset ≡ old.offset → LeavesReply len reply said mid new result → StandsOrEnds start given (out ++ said) new left result
-StandsOrEnds-reply {start} {given} {out} old mid new decoded len reply said left None h next does p o l =
+pub StandsOrEnds-reply : {start : Standing} {given out : List ℕ} (old mid new : Session) (decoded : Decoded) (len : ℕ) (reply said : List ℕ) (left : Option (List ℕ)) (result : Option Status) → Stands start given out old → IsNext old.pending (Whole decoded len) → Does (command_of decoded) (standing_of old.desk) (standing_of mid.desk) reply → mid.pending ≡ old.pending → mid.offset ≡ old.offset → IsHonest mid.desk.cache → LeavesReply len reply said mid new result → StandsOrEnds start given (out ++ said) new left result
+StandsOrEnds-reply {start} {given} {out} old mid new decoded len reply said left None h next does p o k l =
     let d : Does (command_of decoded) (standing_of old.desk) (standing_of new.desk) said = rw (l.0, l.1) does in
-    Stands-answered old new decoded len said h next d (l.2 ∙ ap (drop len) p) (l.3 ∙ ap (λ z. z + len) o)
-StandsOrEnds-reply {start} {given} {out} old mid new decoded len reply said left (Some SinkFault) h next does p o l = WentOut-within old (standing_of mid.desk) decoded len reply said left SinkFault h next does (λ _ _ _ _ _ x. x) l.0
-StandsOrEnds-reply {start} {given} {out} old mid new decoded len reply said left (Some Stuck) h next does p o l = WentOut-within old (standing_of mid.desk) decoded len reply said left Stuck h next does (λ _ _ _ _ _ x. x) l.0
-StandsOrEnds-reply old mid new decoded len reply said left (Some Done) h next does p o l = absurd l.1
-StandsOrEnds-reply old mid new decoded len reply said left (Some Found) h next does p o l = absurd l.1
-StandsOrEnds-reply old mid new decoded len reply said left (Some Usage) h next does p o l = absurd l.1
-StandsOrEnds-reply old mid new decoded len reply said left (Some SourceFault) h next does p o l = absurd l.1
-StandsOrEnds-reply old mid new decoded len reply said left (Some NoMemory) h next does p o l = absurd l.1
-StandsOrEnds-reply old mid new decoded len reply said left (Some Refused) h next does p o l = absurd l.1
-StandsOrEnds-reply old mid new decoded len reply said left (Some TooLong) h next does p o l = absurd l.1
-StandsOrEnds-reply old mid new decoded len reply said left (Some NotBuilt) h next does p o l = absurd l.1
+    Stands-answered old new decoded len said h next d (l.2 ∙ ap (drop len) p) (l.3 ∙ ap (λ z. z + len) o) (rw l.1 k)
+StandsOrEnds-reply {start} {given} {out} old mid new decoded len reply said left (Some SinkFault) h next does p o k l = WentOut-within old (standing_of mid.desk) decoded len reply said left SinkFault h next does (λ _ _ _ _ _ x. x) l.0
+StandsOrEnds-reply {start} {given} {out} old mid new decoded len reply said left (Some Stuck) h next does p o k l = WentOut-within old (standing_of mid.desk) decoded len reply said left Stuck h next does (λ _ _ _ _ _ x. x) l.0
+StandsOrEnds-reply old mid new decoded len reply said left (Some Done) h next does p o k l = absurd l.1
+StandsOrEnds-reply old mid new decoded len reply said left (Some Found) h next does p o k l = absurd l.1
+StandsOrEnds-reply old mid new decoded len reply said left (Some Usage) h next does p o k l = absurd l.1
+StandsOrEnds-reply old mid new decoded len reply said left (Some SourceFault) h next does p o k l = absurd l.1
+StandsOrEnds-reply old mid new decoded len reply said left (Some NoMemory) h next does p o k l = absurd l.1
+StandsOrEnds-reply old mid new decoded len reply said left (Some Refused) h next does p o k l = absurd l.1
+StandsOrEnds-reply old mid new decoded len reply said left (Some TooLong) h next does p o k l = absurd l.1
+StandsOrEnds-reply old mid new decoded len reply said left (Some NotBuilt) h next does p o k l = absurd l.1
 
 pub empty-list : (xs : List ℕ) → length xs ≡ 0 → xs ≡ []
 empty-list [] e = refl
@@ -220,4 +220,4 @@ empty-list (x ∷ xs) e = absurd (omega arith)
 
 -- nothing changed
 pub Stands-same : {start : Standing} {given out : List ℕ} (old new : Session) → Stands start given out old → new.desk ≡ old.desk → new.pending ≡ old.pending → new.offset ≡ old.offset → Stands start given out new
-Stands-same {start} {given} {out} old new h d p o = record { read = h.read; reached = rw (d, p) h.reached; offset = o ∙ h.offset }
+Stands-same {start} {given} {out} old new h d p o = record { read = h.read; reached = rw (d, p) h.reached; offset = o ∙ h.offset; honest = rw d h.honest }

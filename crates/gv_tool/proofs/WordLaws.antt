@@ -6,24 +6,37 @@ use Rattle.std.proofs.lemmas.List.{length-append}
 use Rattle.std.proofs.lemmas.Bool.{or_cases, eqb-true, eq-eqb, and_parts}
 use Rattle.gv_base.specs.Paths.{IsPath}
 use Rattle.gv_tool.specs.declared.word.Word.{Word}
-use Rattle.gv_tool.specs.declared.word.Word.TheVariants.{Put, Del, Check, End}
+use Rattle.gv_tool.specs.declared.word.Word.TheVariants.{Put, Del, Check, Stats, End}
 use Rattle.gv_tool.specs.declared.word.Shape.{Shape}
 use Rattle.gv_tool.specs.declared.word.Shape.TheVariants.{Bare, Path, File}
 use Rattle.gv_tool.specs.Words.{text_of, shape_of, number_of, words, differ, are_apart}
-use Rattle.gv_tool.specs.Script.{Fields, bare, at_path, with_file, Fit, field_text, Begins, IsBeginning, NoCommand}
+use Rattle.gv_tool.specs.Script.{Fields, bare, at_path, with_file, Fit, field_text, Command, spelling, Begins, IsBeginning, NoCommand}
 use Rattle.gv_tool.proofs.FileLaws.{FieldsPart, FieldsOther}
+
+word-nonempty : (w : Word) (f : Fields) → 0 < length (spelling (record { word = w; fields = f }))
+word-nonempty Put f = omega arith
+word-nonempty Del f = omega arith
+word-nonempty Check f = omega arith
+word-nonempty Stats f = omega arith
+word-nonempty End f = omega arith
+
+-- a command has bytes
+pub nonempty : (c : Command) → 0 < length (spelling c)
+nonempty c = word-nonempty c.word c.fields
 
 -- the table is read by its numbers
 number_of-at : (w : Word) → get_or words (number_of w) End ≡ w
 number_of-at Put = refl
 number_of-at Del = refl
 number_of-at Check = refl
+number_of-at Stats = refl
 number_of-at End = refl
 
 pub number_of-below : (w : Word) → number_of w < length words
 number_of-below Put = omega arith
 number_of-below Del = omega arith
 number_of-below Check = omega arith
+number_of-below Stats = omega arith
 number_of-below End = omega arith
 
 pub number_of-injective : (w v : Word) → number_of w ≡ number_of v → w ≡ v

@@ -1,8 +1,14 @@
--- The report of a tree, and which trees have one.
+-- The report of a tree over a cache, which trees have one, and which caches are honest.
 use Rattle.std.specs.Prelude.{List}
 use Rattle.gv_base.specs.Files.{Entry}
-pub use Rattle.one_package.specs.Report.{IsBuilt, Reports}
-pub use Rattle.one_package.specs.Judging.{IsJudged}
+use Rattle.fact_cache.specs.declared.list.Entry.{Entry as Kept}
+pub use Rattle.tree_report.specs.declared.print.TreeReport.{TreeReport}
+pub use Rattle.tree_report.specs.Form.{IsBuilt}
+pub use Rattle.tree_report.specs.Reports.{IsHonest, Reports}
 
 abbrev pub Tree : Type 0
 Tree = List Entry
+
+-- what earlier loads gave, each beside its whole input, the oldest first
+abbrev pub Entries : Type 0
+Entries = List Kept

@@ -10,14 +10,16 @@ use Rattle.gv_tool.specs.declared.session.Session.{Session}
 use Rattle.gv_tool.specs.declared.pieces.Taken.{Taken}
 use Rattle.gv_tool.specs.declared.pieces.Taken.TheVariants.{More, AtEnd, Over, Fault, Full}
 use Rattle.gv_tool.specs.Desk.{standing_of}
+use Rattle.gv_tool.specs.Judging.{IsHonest}
 use Rattle.gv_tool.specs.Replies.{Standing, at_start}
 use Rattle.gv_tool.specs.Outcome.{limit, Reached, Outcome, IsPrefix}
 
--- the session stands where the commands among the bytes lead, and holds the others
+-- The session stands where the commands among the bytes lead, and holds the others. Its cache is honest.
 pub record Stands (start : Standing) (given out : List ℕ) (session : Session) : Type 0 where
   pub read : List ℕ
   pub reached : Reached start (standing_of session.desk) given read session.pending out
   pub offset : session.offset ≡ length read
+  pub honest : IsHonest session.desk.cache
 
 -- it stands on, or has ended
 abbrev pub StandsOrEnds : Standing → List ℕ → List ℕ → Session → Option (List ℕ) → Option Status → Type 0

@@ -2,7 +2,7 @@
 use Rattle.std.specs.Prelude.{ℕ, List, [], ◌∷◌, ◌++◌, codes, Bool, false, ◌==◌, ◌||◌, not}
 use Rattle.std.specs.List.{list_all}
 use Rattle.gv_tool.specs.declared.word.Word.{Word}
-use Rattle.gv_tool.specs.declared.word.Word.TheVariants.{Put, Del, Check, End}
+use Rattle.gv_tool.specs.declared.word.Word.TheVariants.{Put, Del, Check, Stats, End}
 use Rattle.gv_tool.specs.declared.word.Shape.{Shape}
 use Rattle.gv_tool.specs.declared.word.Shape.TheVariants.{Bare, Path, File}
 
@@ -11,6 +11,7 @@ abbrev pub text_of : Word → List ℕ
 text_of Put = codes "put "
 text_of Del = codes "del "
 text_of Check = codes "check" ++ 10 ∷ []
+text_of Stats = codes "stats" ++ 10 ∷ []
 text_of End = codes "end" ++ 10 ∷ []
 
 -- what follows a word
@@ -18,17 +19,19 @@ abbrev pub shape_of : Word → Shape
 shape_of Put = File
 shape_of Del = Path
 shape_of Check = Bare
+shape_of Stats = Bare
 shape_of End = Bare
 
 abbrev pub number_of : Word → ℕ
 number_of Put = 0
 number_of Del = 1
 number_of Check = 2
-number_of End = 3
+number_of Stats = 3
+number_of End = 4
 
 -- the words in the order of their numbers
 abbrev pub words : List Word
-words = Put ∷ Del ∷ Check ∷ End ∷ []
+words = Put ∷ Del ∷ Check ∷ Stats ∷ End ∷ []
 
 -- two texts differ before one of them ends
 abbrev pub differ : List ℕ → List ℕ → Bool

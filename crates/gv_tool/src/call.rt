@@ -10,6 +10,7 @@ use crate::top::run;
 use gv_base::{Keeper, Sink, Source, SureSink, SureSource, Tree};
 use std::alloc::Global;
 use std::thread::Threads;
+use tree_report::one_report_of_a_tree;
 
 /// The number of a status.
 fn number(status: Status) -> u8
@@ -40,6 +41,7 @@ pub fn session<R: Threads + Sync, K: Keeper, I: Source, O: Sink>(
     ensures exact { (script whole : List ℕ) (due : Status) → (I.view input.old).left ≡ Some script → Due script whole due → (result ≡ number_of due) ⊎ IsCutShort result }
     ensures keeper { keeper.new ≡ keeper.old }
 {
+    one_report_of_a_tree();
     number(run(alloc, input, output))
 }
 

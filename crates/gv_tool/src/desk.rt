@@ -1,13 +1,19 @@
 //! The state of a session, and what a command does to it.
-ghost use Rattle.std.specs.Prelude.{◌≡◌, ◌≢◌, IfOk, [], false};
+ghost use Rattle.std.specs.Prelude.{◌≡◌, ◌≢◌, ◌≤◌, ◌+◌, ◌^◌, IfOk, []};
 ghost use Rattle.gv_base.specs.Paths.{IsPath};
+ghost use Rattle.analysis_core.specs.Replies.{stats_text};
+ghost use Rattle.gv_tool.specs.Judging.{IsHonest};
 
 use crate::fieldset::Fields;
 use crate::script::Command;
 use crate::word::Word;
+use analysis_core::Counts;
+use const_kit::ConstKit;
+use fact_cache::Cache;
 use gv_base::{Bytes, Files, NoMemory};
-use one_package::{Judged, judge};
+use report_text::stats;
 use std::alloc::Global;
+use tree_report::{Answer as Reported, one_report_of_a_tree, report_on};
 
 /// What is answered to a command.
 #[derive(Drop)]
@@ -18,12 +24,23 @@ pub enum Answer {
     NotBuilt,
 }
 
-/// The files so far, and what the last run found.
+/// The files so far, what the last run found and how much work it was, and what earlier loads gave.
 #[derive(Drop)]
 pub struct Desk {
     pub files: Files,
     pub found: bool,
+    pub cache: Cache,
+    pub counts: Counts,
+    pub kits: [ConstKit; 1],
 }
+
+/// The numbers before any run.
+const NO_COUNTS: Counts = Counts {
+    nodes: 0,
+    missing: 0,
+    loads: 0,
+    runs: 0,
+};
 
 /// A path as a text.
 fn path_text(path: &[u8]) -> &str
@@ -45,25 +62,33 @@ fn silence(alloc: Global) -> Answer
 
 impl Desk {
     ghost use Rattle.gv_base.specs.Files.{put_file, del_file};
-    ghost use Rattle.gv_tool.specs.Desk.{standing_of, IsAnswer, IsReport};
+    ghost use Rattle.gv_tool.specs.Desk.{standing_of, loads_of, IsAnswer, IsReport};
     ghost use Rattle.gv_tool.specs.Next.{command_of};
     ghost use Rattle.gv_tool.specs.Script.{IsLawful};
-    ghost use Rattle.gv_tool.specs.Replies.{at_start, Standing};
+    ghost use Rattle.gv_tool.specs.Replies.{at_start, with_tree};
 
-    /// An empty tree.
+    /// An empty tree, and an empty cache.
     pub fn new(alloc: Global) -> Self
-        ensures { standing_of result ≡ at_start }
+        ensures standing { standing_of result ≡ at_start }
+        ensures loads { loads_of result.kits ≡ 0 }
+        ensures honest { IsHonest result.cache }
     {
+        one_report_of_a_tree();
         Desk {
             files: Files::new(alloc),
             found: false,
+            cache: Cache::new(alloc),
+            counts: NO_COUNTS,
+            kits: [ConstKit::new(alloc)],
         }
     }
 
     /// Sets a file.
     fn put(&mut self, alloc: Global, path: &[u8], bytes: &[u8]) -> Result<Answer, NoMemory>
         requires { IsPath path.now }
-        ensures { IfOk result (λ answer. (answer ≡ Answer.Reply []) × (self.new.files ≡ put_file self.old.files path.now bytes.now) × (self.new.found ≡ self.old.found)) }
+        ensures put { IfOk result (λ answer. (answer ≡ Answer.Reply []) × (standing_of self.new ≡ with_tree (standing_of self.old) (put_file self.old.files path.now bytes.now))) }
+        ensures cache { self.new.cache ≡ self.old.cache }
+        ensures kits { self.new.kits ≡ self.old.kits }
     {
         self.files.put(path_text(path), bytes)?;
         Ok(silence(alloc))
@@ -73,31 +98,47 @@ impl Desk {
     fn del(&mut self, alloc: Global, path: &[u8]) -> Answer
         requires { IsPath path.now }
         ensures answer { result ≡ Answer.Reply [] }
-        ensures files { self.new.files ≡ del_file self.old.files path.now }
-        ensures found { self.new.found ≡ self.old.found }
+        ensures del { standing_of self.new ≡ with_tree (standing_of self.old) (del_file self.old.files path.now) }
+        ensures kits { self.new.kits ≡ self.old.kits }
     {
         let _held = self.files.del(path_text(path));
         silence(alloc)
     }
 
-    /// Reports on the tree.
+    /// Reports on the tree. The kit does at most 1,024 loads.
     fn check(&mut self, alloc: Global) -> Result<Answer, NoMemory>
-        ensures { IfOk result (λ answer. IsReport (standing_of self.old) (standing_of self.new) answer) }
+        requires room { loads_of self.old.kits ≤ 2 ^ 62 }
+        ensures bound { loads_of self.new.kits ≤ loads_of self.old.kits + 1024 }
+        ensures honest { IsHonest self.old.cache → IsHonest self.new.cache }
+        ensures report { IsHonest self.old.cache → IfOk result (λ answer. IsReport (standing_of self.old) (standing_of self.new) answer) }
     {
-        match judge(alloc, &self.files)? {
-            Judged::NotBuilt => Ok(Answer::NotBuilt),
-            Judged::Report(text, found) => {
-                self.found = found;
-                Ok(Answer::Reply(text))
+        let answer = report_on(alloc, &self.files, &mut self.cache, &mut self.kits)?;
+        match answer {
+            Reported::NotBuilt => Ok(Answer::NotBuilt),
+            Reported::Told(report) => {
+                self.found = report.found;
+                self.counts = report.counts;
+                Ok(Answer::Reply(report.text))
             }
         }
     }
 
+    /// Tells the numbers of the last run.
+    fn stats(&self, alloc: Global) -> Result<Answer, NoMemory>
+        ensures { IfOk result (λ answer. answer ≡ Answer.Reply (stats_text self.now.counts)) }
+    {
+        let text = stats(alloc, &self.counts)?;
+        Ok(Answer::Reply(text))
+    }
+
     /// Carries a command out, and gives the answer to it.
-    pub fn apply(&mut self, alloc: Global, command: Command<'_>) -> Result<Answer, NoMemory>
+    pub(crate) fn apply(&mut self, alloc: Global, command: Command<'_>) -> Result<Answer, NoMemory>
         requires lawful { IsLawful (command_of command) }
         requires goes { command.word ≢ Word.End }
-        ensures { IfOk result (λ answer. IsAnswer (command_of command.entry) (standing_of self.old) (standing_of self.new) answer) }
+        requires room { loads_of self.old.kits ≤ 2 ^ 62 }
+        ensures bound { loads_of self.new.kits ≤ loads_of self.old.kits + 1024 }
+        ensures honest { IsHonest self.old.cache → IsHonest self.new.cache }
+        ensures answer { IsHonest self.old.cache → IfOk result (λ answer. IsAnswer (command_of command.entry) (standing_of self.old) (standing_of self.new) answer) }
     {
         match command.word {
             Word::Put => match command.fields {
@@ -111,6 +152,7 @@ impl Desk {
                 Fields::With(_, _) => unreachable!(),
             },
             Word::Check => self.check(alloc),
+            Word::Stats => self.stats(alloc),
             Word::End => unreachable!(),
         }
     }

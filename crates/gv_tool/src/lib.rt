@@ -6,6 +6,7 @@ pub mod call;
 pub mod desk;
 mod fields;
 pub mod fieldset;
+pub mod laws;
 mod lines;
 pub mod options;
 mod path;

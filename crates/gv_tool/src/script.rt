@@ -23,6 +23,7 @@ impl Command<'_> {
             Word::Put => false,
             Word::Del => false,
             Word::Check => false,
+            Word::Stats => false,
             Word::End => true,
         }
     }

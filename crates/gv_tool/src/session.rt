@@ -16,7 +16,8 @@ pub struct Session {
 }
 
 impl Session {
-    ghost use Rattle.gv_tool.specs.Desk.{standing_of};
+    ghost use Rattle.gv_tool.specs.Desk.{standing_of, loads_of};
+    ghost use Rattle.gv_tool.specs.Judging.{IsHonest};
     ghost use Rattle.gv_tool.specs.Replies.{at_start};
 
     /// The most bytes of a script.
@@ -25,6 +26,8 @@ impl Session {
     /// A session that has taken nothing.
     pub fn new(alloc: Global) -> Self
         ensures standing { standing_of result.desk ≡ at_start }
+        ensures loads { loads_of result.desk.kits ≡ 0 }
+        ensures honest { IsHonest result.desk.cache }
         ensures pending { result.pending ≡ [] }
         ensures offset { result.offset ≡ 0 }
     {

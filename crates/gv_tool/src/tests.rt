@@ -10,10 +10,12 @@ use std::thread::Threads;
 
 /// Commands, and the reply to each.
 #[rattlefmt::skip]
-const COMMANDS: [(&[u8], &[u8]); 8] = [
+const COMMANDS: [(&[u8], &[u8]); 10] = [
+    (b"stats\n", b"nodes 0, missing 0, loads 0, runs 0\n"),
     (b"check\n", b"packages 0, errors 0\n"),
     (b"put a/b.go 23\npackage a\n\nconst A = A\n\n", b""),
     (b"check\n", b"a/b.go:3:7: E4 declaration cycle\npackages 1, errors 1\n"),
+    (b"stats\n", b"nodes 1, missing 1, loads 1, runs 0\n"),
     (b"put a/b.go 10\npackage a\n\n", b""),
     (b"put a.b-c_d/+~@/...go 1\n\n\n", b""),
     (b"check\n", b"packages 1, errors 0\n"),
@@ -23,7 +25,7 @@ const COMMANDS: [(&[u8], &[u8]); 8] = [
 
 /// Scripts, and the output and the status of each.
 #[rattlefmt::skip]
-const SCRIPTS: [(&[u8], &[u8], u8); 22] = [
+const SCRIPTS: [(&[u8], &[u8], u8); 25] = [
     (b"", b"", 0),
     (b"end\nrubbish", b"", 0),
     (b"check\nput a.go 100\npackage a\n", b"packages 0, errors 0\nscript refused at 6\n", 8),
@@ -44,8 +46,11 @@ const SCRIPTS: [(&[u8], &[u8], u8); 22] = [
     (b"del a:b\n", b"script refused at 0\n", 8),
     (b"Check\n", b"script refused at 0\n", 8),
     (b"check\r\n", b"script refused at 0\n", 8),
-    (b"put a/a.go 1\n\n\nput x/a.go 1\n\n\ncheck\n", b"not built at 30\n", 11),
-    (b"put x/a.go 1\n\n\ndel x/a.go\ncheck\nput x.go 0\n\ncheck\nend\n", b"packages 0, errors 0\nnot built at 44\n", 11),
+    (b"put a/a.go 21\npackage a\n\nvar x int\n\nstats\ncheck\n", b"nodes 0, missing 0, loads 0, runs 0\nnot built at 42\n", 11),
+    (b"check\nput a/a.go 21\npackage a\n\nvar x int\n\ndel a/a.go\ncheck\nput go.mod 0\n\ncheck\nend\n", b"packages 0, errors 0\npackages 0, errors 0\nnot built at 73\n", 11),
+    (b"stats\n", b"nodes 0, missing 0, loads 0, runs 0\n", 0),
+    (b"stats \n", b"script refused at 0\n", 8),
+    (b"stat\n", b"script refused at 0\n", 8),
 ];
 
 /// Trees, and the reply to a check of each: rules at their places, and what is not built.
@@ -58,13 +63,27 @@ const TREES: [(&[u8], &[u8], u8); 14] = [
     (b"put a/a.go 39\npackage a\n\nconst A = B\nconst B = B + 1\n\ncheck\n", b"a/a.go:4:7: E4 declaration cycle\npackages 1, errors 1\n", 1),
     (b"put a/b.go 23\npackage a\n\nconst A = 1\n\nput a/a.go 35\npackage a\n\nconst A = 2\nconst B = C\n\nput a/c.go 23\npackage a\n\nconst C = B\n\ncheck\n", b"a/a.go:4:7: E4 declaration cycle\na/b.go:3:7: E1 redeclared\na/c.go:3:7: E4 declaration cycle\npackages 1, errors 3\n", 1),
     (b"put a/a.go 45\npackage a\n\nconst A = 1 +\n\t2 + A0\nconst A0 = 3\nput a/a_test.go 1\nx\nput a/_a.go 1\nx\nput a/notes 1\nx\nput testdata/a.go 1\nx\ncheck\n", b"packages 1, errors 0\n", 0),
-    (b"put a/a.go 11\npackage a\n\n\nput a/b.go 10\npackage b\n\ncheck\n", b"not built at 51\n", 11),
-    (b"put a/a.go 11\npackage a\n\n\nput b/a.go 11\npackage a\n\n\ncheck\n", b"not built at 52\n", 11),
+    (b"put a/a.go 11\npackage a\n\n\nput a/b.go 10\npackage b\n\ncheck\n", b"a/b.go:1:9: package name differs\npackages 1, errors 1\n", 1),
+    (b"put a/a.go 11\npackage a\n\n\nput b/a.go 11\npackage a\n\n\ncheck\n", b"packages 2, errors 0\n", 0),
     (b"put go.mod 9\nmodule m\n\ncheck\n", b"not built at 23\n", 11),
     (b"put std/a 1\nx\ncheck\n", b"not built at 14\n", 11),
     (b"put a/a.go 25\npackage a\n\nconst int = 1\n\ncheck\n", b"not built at 40\n", 11),
     (b"put a/a.go 24\npackage a\n\nconst A = 01\n\ncheck\n", b"not built at 39\n", 11),
     (b"put a/a.go 39\npackage a\n\nconst A = B + 1\nconst B = A\n\ncheck\ndel a/a.go\ncheck\n", b"a/a.go:3:7: E4 declaration cycle\na/a.go:4:7: E4 declaration cycle\npackages 1, errors 2\npackages 0, errors 0\n", 0),
+];
+
+/// Trees of packages that import each other, and the replies to checks and to `stats`.
+#[rattlefmt::skip]
+const PACKAGES: [(&[u8], &[u8], u8); 9] = [
+    (b"put q/q.go 23\npackage q\n\nconst N = 2\n\nput p/p.go 43\npackage p\n\nimport \"m/q\"\n\nconst M = q.N + 1\n\ncheck\nstats\ncheck\nstats\nput q/q.go 27\npackage q\n\nconst N = 1 + 1\n\ncheck\nstats\nput q/q.go 23\npackage q\n\nconst N = 3\n\ncheck\nstats\n", b"packages 2, errors 0\nnodes 2, missing 2, loads 2, runs 0\npackages 2, errors 0\nnodes 2, missing 0, loads 0, runs 0\npackages 2, errors 0\nnodes 2, missing 1, loads 1, runs 0\npackages 2, errors 0\nnodes 2, missing 2, loads 2, runs 0\n", 0),
+    (b"put q/q.go 23\npackage q\n\nconst N = 2\n\nput p/p.go 39\npackage p\n\nimport \"m/q\"\n\nconst M = q.n\n\ncheck\n", b"p/p.go:5:11: E9 not exported by package\npackages 2, errors 1\n", 1),
+    (b"put q/q.go 23\npackage q\n\nconst N = 2\n\nput p/p.go 37\npackage p\n\nimport \"m/q\"\n\nconst M = 1\n\ncheck\nstats\n", b"p/p.go:3:8: E7 unused import\npackages 2, errors 1\nnodes 2, missing 2, loads 2, runs 0\n", 1),
+    (b"put a/a.go 39\npackage a\n\nimport \"m/b\"\n\nconst A = b.B\n\nput b/b.go 39\npackage b\n\nimport \"m/a\"\n\nconst B = a.A\n\ncheck\n", b"m/a: import cycle\nm/b: import cycle\npackages 2, errors 2\n", 1),
+    (b"put q/q.go 23\npackage q\n\nconst N = N\n\nput p/p.go 39\npackage p\n\nimport \"m/q\"\n\nconst M = q.N\n\ncheck\n", b"m/p: blocked by m/q\nq/q.go:3:7: E4 declaration cycle\npackages 2, errors 2\n", 1),
+    (b"put p/p.go 39\npackage p\n\nimport \"m/q\"\n\nconst M = q.N\n\ncheck\n", b"p/p.go:3:8: missing import \"m/q\"\npackages 1, errors 1\n", 1),
+    (b"put a/a.go 102\npackage a\n\ntype T struct{ n int }\n\nfunc f(x T) bool {\n\tif x == T{} {\n\t\treturn true\n\t}\n\treturn false\n}\n\ncheck\n", b"a/a.go:5:1: syntax error\npackages 1, errors 1\n", 1),
+    (b"put a/a.go 26\npackage a\n\nconst S = 'ab'\n\ncheck\n", b"a/a.go:3:11: lexical: bad lexeme\npackages 1, errors 1\n", 1),
+    (b"put q/q.go 23\npackage q\n\nconst N = 2\n\ncheck\nput p/p.go 39\npackage p\n\nimport \"m/q\"\n\nconst M = q.N\n\ndel q/q.go\nstats\n", b"packages 1, errors 0\nnodes 1, missing 1, loads 1, runs 0\n", 0),
 ];
 
 fn answer<R: Threads + Sync>(
@@ -94,7 +113,17 @@ fn answers_scripts(rt: HostRuntime) -> Result<(), Fail> {
         assert_eq!(rt; out.as_slice(), due);
         assert_eq!(rt; status, number);
     }
+    Ok(())
+}
+
+#[test]
+fn answers_trees(rt: HostRuntime) -> Result<(), Fail> {
     for (script, due, number) in TREES {
+        let (status, out) = answer(&rt, rt.alloc(), script, &[], &[], &[])?;
+        assert_eq!(rt; out.as_slice(), due);
+        assert_eq!(rt; status, number);
+    }
+    for (script, due, number) in PACKAGES {
         let (status, out) = answer(&rt, rt.alloc(), script, &[], &[], &[])?;
         assert_eq!(rt; out.as_slice(), due);
         assert_eq!(rt; status, number);
@@ -119,7 +148,7 @@ fn due_at(alloc: Global, cut: usize) -> Result<(u8, Vec<u8>), Fail> {
             return Ok((found, due));
         }
         due.extend_from_slice(reply)?;
-        if !reply.is_empty() {
+        if !reply.is_empty() && !reply.starts_with(b"nodes") {
             found = if reply.starts_with(b"packages") { 0 } else { 1 };
         }
         at = end;

@@ -1,6 +1,7 @@
 //! The loop of a session, and the top calls.
-ghost use Rattle.std.specs.Prelude.{◌≡◌, ◌≢◌, ◌+◌, ◌<◌, ◌⊎◌, ℕ, List, Some, None};
+ghost use Rattle.std.specs.Prelude.{◌≡◌, ◌≢◌, ◌+◌, ◌*◌, ◌<◌, ◌≤◌, ◌⊎◌, ℕ, List, Some, None};
 ghost use Rattle.gv_base.specs.Counts.{Rose, RoseBy};
+ghost use Rattle.gv_tool.specs.Desk.{loads_of};
 ghost use Rattle.gv_tool.specs.Script.{IsBeginning};
 ghost use Rattle.gv_tool.specs.Outcome.{OnlyWhereRose, limit};
 ghost use Rattle.gv_tool.specs.Turn.{Turns, Ends, Runs, verdict_of, work_left};
@@ -40,13 +41,15 @@ fn finish<O: Sink>(alloc: Global, session: &Session, output: &mut O) -> Status
     }
 }
 
-/// Answers the next command, or takes a piece of the script.
+/// Answers the next command, or takes a piece of the script. A command does at most 1,024 loads, and has a byte.
 fn turn<I: Source, O: Sink>(
     alloc: Global,
     session: &mut Session,
     input: &mut I,
     output: &mut O,
 ) -> Option<Status>
+    requires room { loads_of session.old.desk.kits ≤ 1024 * session.old.offset }
+    ensures room { result ≡ None → loads_of session.new.desk.kits ≤ 1024 * session.new.offset }
     ensures turns { Turns (I.view input.old) (I.view input.new) (O.view output.old) (O.view output.new) session.old session.new result }
     ensures source_fault { OnlyWhereRose (I.view input.old).faults (I.view input.new).faults (result ≡ Some Status.SourceFault) }
     ensures sink_fault { OnlyWhereRose (O.view output.old).faults (O.view output.new).faults (result ≡ Some Status.SinkFault) }

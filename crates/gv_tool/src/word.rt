@@ -8,6 +8,7 @@ pub enum Word {
     Put,
     Del,
     Check,
+    Stats,
     End,
 }
 
@@ -24,17 +25,18 @@ pub enum Shape {
 
 impl Word {
     /// How many words there are.
-    pub(crate) const COUNT: usize = 4;
+    pub(crate) const COUNT: usize = 5;
 
     /// The word of a number below `COUNT`.
     pub(crate) fn of_number(number: usize) -> Word
-        requires { number < 4 }
+        requires { number < 5 }
         ensures { number_of result ≡ number }
     {
         match number {
             0 => Word::Put,
             1 => Word::Del,
             2 => Word::Check,
+            3 => Word::Stats,
             _ => Word::End,
         }
     }
@@ -47,6 +49,7 @@ impl Word {
             Word::Put => b"put ",
             Word::Del => b"del ",
             Word::Check => b"check\n",
+            Word::Stats => b"stats\n",
             Word::End => b"end\n",
         }
     }
@@ -59,6 +62,7 @@ impl Word {
             Word::Put => Shape::File,
             Word::Del => Shape::Path,
             Word::Check => Shape::Bare,
+            Word::Stats => Shape::Bare,
             Word::End => Shape::Bare,
         }
     }

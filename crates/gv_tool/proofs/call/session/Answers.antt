@@ -4,13 +4,13 @@ use Rattle.gv_tool.proofs.HeadlineLaws.{Session-of, EndedBy-of, only-refused, on
 use Rattle.gv_tool.proofs.call.session.Goals as goal
 
 pub returns-clause-session : goal.returns-clause-session
-returns-clause-session g c = Session-of (g.I.Source.view c.args.input.now) (g.I.Source.view c.run.new.input) (g.O.Sink.view c.args.output.now) (g.O.Sink.view c.run.new.output) c.run.result c.number.result c.run.ensures.outcome c.number.ensures
+returns-clause-session g c = Session-of (record { report = c.one_report_of_a_tree.ensures.report; cache = c.one_report_of_a_tree.ensures.cache; built = c.one_report_of_a_tree.ensures.built }) (g.I.Source.view c.args.input.now) (g.I.Source.view c.run.new.input) (g.O.Sink.view c.args.output.now) (g.O.Sink.view c.run.new.output) c.run.result c.number.result c.run.ensures.outcome c.number.ensures
 
 pub returns-clause-refused : goal.returns-clause-refused
-returns-clause-refused g c = λ e. EndedBy-of (g.I.Source.view c.args.input.now) (g.I.Source.view c.run.new.input) (g.O.Sink.view c.args.output.now) (g.O.Sink.view c.run.new.output) c.run.result Refused c.run.ensures.outcome (only-refused c.run.result (sym c.number.ensures ∙ e))
+returns-clause-refused g c = λ e. EndedBy-of (record { report = c.one_report_of_a_tree.ensures.report; cache = c.one_report_of_a_tree.ensures.cache; built = c.one_report_of_a_tree.ensures.built }) (g.I.Source.view c.args.input.now) (g.I.Source.view c.run.new.input) (g.O.Sink.view c.args.output.now) (g.O.Sink.view c.run.new.output) c.run.result Refused c.run.ensures.outcome (only-refused c.run.result (sym c.number.ensures ∙ e))
 
 pub returns-clause-not_built : goal.returns-clause-not_built
-returns-clause-not_built g c = λ e. EndedBy-of (g.I.Source.view c.args.input.now) (g.I.Source.view c.run.new.input) (g.O.Sink.view c.args.output.now) (g.O.Sink.view c.run.new.output) c.run.result NotBuilt c.run.ensures.outcome (only-not_built c.run.result (sym c.number.ensures ∙ e))
+returns-clause-not_built g c = λ e. EndedBy-of (record { report = c.one_report_of_a_tree.ensures.report; cache = c.one_report_of_a_tree.ensures.cache; built = c.one_report_of_a_tree.ensures.built }) (g.I.Source.view c.args.input.now) (g.I.Source.view c.run.new.input) (g.O.Sink.view c.args.output.now) (g.O.Sink.view c.run.new.output) c.run.result NotBuilt c.run.ensures.outcome (only-not_built c.run.result (sym c.number.ensures ∙ e))
 
 pub returns-clause-exact : goal.returns-clause-exact
-returns-clause-exact g c = λ script whole due e d. rw c.number.ensures (exact-of (g.I.Source.view c.args.input.now) (g.I.Source.view c.run.new.input) (g.O.Sink.view c.args.output.now) (g.O.Sink.view c.run.new.output) c.run.result script whole due c.run.ensures.outcome e d)
+returns-clause-exact g c = λ script whole due e d. rw c.number.ensures (exact-of (record { report = c.one_report_of_a_tree.ensures.report; cache = c.one_report_of_a_tree.ensures.cache; built = c.one_report_of_a_tree.ensures.built }) (g.I.Source.view c.args.input.now) (g.I.Source.view c.run.new.input) (g.O.Sink.view c.args.output.now) (g.O.Sink.view c.run.new.output) c.run.result script whole due c.run.ensures.outcome e d)

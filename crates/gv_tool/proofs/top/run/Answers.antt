@@ -1,10 +1,11 @@
-use Rattle.std.proofs.Common.{arith}
+use Rattle.std.proofs.Common.{arith, refl}
 use Rattle.gv_tool.proofs.Course.{SoFar-turn, Runs-turn}
 use Rattle.gv_tool.proofs.top.run.Goals as goal
 
 pub script-preserved : goal.script-preserved
 script-preserved g c = record {
   so_far = SoFar-turn c.script.invariant.so_far c.in_default.ensures.turns;
+  room = c.in_default.ensures.room refl;
   source = omega (arith, c.in_default.ensures.source_fault.later);
   sink = omega (arith, c.in_default.ensures.sink_fault.later);
   stalls = omega (arith, c.in_default.ensures.stuck.later);

@@ -1,10 +1,12 @@
-use Rattle.std.proofs.Common.{◌≤◌}
+use Rattle.std.proofs.Common.{◌≤◌, ◌*◌}
+use Rattle.gv_tool.specs.Desk.{loads_of}
 use Rattle.gv_tool.specs.Turn.{SoFar, work_left}
 use Rattle.gv_tool.proofs.top.run.Given as goal
 
 abbrev pub invariant-script : goal.invariant-script
 invariant-script g l = record {
   so_far : SoFar (g.I.Source.view l.initial.input) (g.I.Source.view l.input) (g.O.Sink.view l.initial.output) (g.O.Sink.view l.output) l.session;
+  room : loads_of l.session.desk.kits ≤ 1024 * l.session.offset;
   source : (g.I.Source.view l.initial.input).faults ≤ (g.I.Source.view l.input).faults;
   sink : (g.O.Sink.view l.initial.output).faults ≤ (g.O.Sink.view l.output).faults;
   stalls : (g.O.Sink.view l.initial.output).stalls ≤ (g.O.Sink.view l.output).stalls;

@@ -35,8 +35,8 @@ returns-in-Ok-Reply-clause-turns g c =
       says = r.says;
       goes = λ start before out s.
           let next : IsNext session.pending (Whole c.in-Whole.command c.in-Whole.len) = rw c.as_slice.ensures at c.in-Whole.ensures in
-          let does : Does (command_of c.in-Whole.command) (standing_of session.desk) (standing_of c.apply.new.self) c.as_slice-in-Ok-Reply.result.now = rw c.as_slice-in-Ok-Reply.ensures (let a : IsAnswer (command_of c.in-Whole.command) (standing_of session.desk) (standing_of c.apply.new.self) (Reply c.in-Ok-Reply.reply) = rw c.in-Ok-Reply.field-0-is at c.in-Ok-Reply.ensures in a) in
-          rw (append-nil before) (StandsOrEnds-reply session (record session { desk = c.apply.new.self }) c.tell.new.session c.in-Whole.command c.in-Whole.len c.as_slice-in-Ok-Reply.result.now r.said source.left c.tell.result s next does refl refl r.leaves);
+          let does : Does (command_of c.in-Whole.command) (standing_of session.desk) (standing_of c.apply.new.self) c.as_slice-in-Ok-Reply.result.now = rw c.as_slice-in-Ok-Reply.ensures (let a : IsAnswer (command_of c.in-Whole.command) (standing_of session.desk) (standing_of c.apply.new.self) (Reply c.in-Ok-Reply.reply) = rw c.in-Ok-Reply.field-0-is at (c.in-Ok-Reply.ensures.answer s.honest) in a) in
+          rw (append-nil before) (StandsOrEnds-reply session (record session { desk = c.apply.new.self }) c.tell.new.session c.in-Whole.command c.in-Whole.len c.as_slice-in-Ok-Reply.result.now r.said source.left c.tell.result s next does refl refl (c.in-Ok-Reply.ensures.honest s.honest) r.leaves);
     }
 
 pub returns-in-Ok-NotBuilt-clause-turns : goal.returns-in-Ok-NotBuilt-clause-turns
@@ -51,7 +51,7 @@ returns-in-Ok-NotBuilt-clause-turns g c =
       says = r.says;
       goes = λ start before out s.
           let next : IsNext session.pending (Whole c.in-Whole.command c.in-Whole.len) = rw c.as_slice.ensures at c.in-Whole.ensures in
-          let a : IsAnswer (command_of c.in-Whole.command) (standing_of session.desk) (standing_of c.apply.new.self) NotBuilt = rw c.in-Ok-NotBuilt.field-0-is at c.in-Ok-NotBuilt.ensures in
+          let a : IsAnswer (command_of c.in-Whole.command) (standing_of session.desk) (standing_of c.apply.new.self) NotBuilt = rw c.in-Ok-NotBuilt.field-0-is at (c.in-Ok-NotBuilt.ensures.answer s.honest) in
           rw (append-nil before) (Outcome-unbuilt session source.left r.said c.stop.result s (IsUnbuilt-of session c.in-Whole.command c.in-Whole.len next a.0 a.1) r.line);
     }
 

@@ -1,5 +1,0 @@
-pub mod Sources
-pub mod Form
-pub mod Shown
-pub mod Report
-pub mod Judging
