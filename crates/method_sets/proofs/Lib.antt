@@ -16,3 +16,9 @@ pub mod Settles
 pub mod Uniqueness
 mod SpecificationFacts
 pub mod TestLaws
+pub mod NoteSteps
+pub mod NoteParts
+pub mod NoteFits
+pub mod NoteList
+pub mod NoteSets
+pub mod OneSet

@@ -6,3 +6,4 @@ pub mod Apart
 pub mod Search
 pub mod Shown
 pub mod Held
+pub mod Notes

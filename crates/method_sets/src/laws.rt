@@ -1,10 +1,13 @@
 //! There is one answer.
 ghost use Rattle.std.specs.Prelude.{◌≡◌, ℕ, List, [], codes};
+ghost use Rattle.type_model.specs.declared.term.Method.{Method};
+ghost use Rattle.type_model.specs.declared.table.TypeTable.{TypeTable};
 ghost use Rattle.type_model.specs.GoTypes.{GoType};
+ghost use Rattle.type_model.specs.Tables.{IsTable};
 ghost use Rattle.type_model.specs.Declarations.{Declarations};
 ghost use Rattle.method_sets.specs.Members.{Name, Member};
 ghost use Rattle.method_sets.specs.Paths.{Begins, Selects, IsAmbiguous, NoPath};
-ghost use Rattle.method_sets.specs.Selections.{IsInSet};
+ghost use Rattle.method_sets.specs.Selections.{IsInSet, IsMethodSet};
 ghost use Rattle.method_sets.specs.Examples.{defined, with_fields, with_methods, letter_f, text_field, method_m};
 
 /// Whatever is declared: paths from a type begin at one type at most; at most one path is the only one
@@ -16,6 +19,11 @@ pub fn one_selection()
     ensures apart { (ds : Declarations) (name : Name) (a : GoType) (p : List ℕ) (m : Member) (d : ℕ) → Selects ds name a p m → IsAmbiguous ds name a d → ⊥ }
     ensures depth { (ds : Declarations) (name : Name) (a : GoType) (d e : ℕ) → IsAmbiguous ds name a d → IsAmbiguous ds name a e → d ≡ e }
     ensures none { (ds : Declarations) (name : Name) (a : GoType) (p : List ℕ) (m : Member) → NoPath ds name a → Selects ds name a p m → ⊥ }
+{}
+
+/// A type of a table has one method set, whatever the table holds.
+pub fn one_method_set()
+    ensures { (t : TypeTable) (of : GoType) (xs ys : List Method) → IsTable t → IsMethodSet t of xs → IsMethodSet t of ys → xs ≡ ys }
 {}
 
 /// The Go specification's words on selection and method sets, by examples: of two embedded structs

@@ -1,17 +1,20 @@
-//! Selection by paths of embedded fields.
+//! Selection by paths of embedded fields, and method sets.
 #![tactic(auto)]
 
 mod laws;
 mod look;
 mod member;
+mod note;
 mod opening;
 mod search;
 mod selecting;
 mod selection;
+mod sets;
 #[cfg(test)]
 mod tests;
 mod walk;
 
-pub use laws::{examples_hold, one_selection};
+pub use laws::{examples_hold, one_method_set, one_selection};
 pub use selecting::select;
 pub use selection::{Selected, Selection};
+pub use sets::method_set;

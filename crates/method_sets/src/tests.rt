@@ -5,7 +5,7 @@ ghost use Rattle.type_model.specs.Orders.{IsOrdered};
 ghost use Rattle.type_model.specs.Tables.{IsTable, count, declarations_in, types_in};
 ghost use Rattle.method_sets.specs.Apart.{IsFar, AreFar};
 
-use crate::{Selected, Selection, select};
+use crate::{Selected, Selection, method_set, select};
 use gv_base::{Bytes, Kind, NoMemory, Row, Text};
 use std::alloc::Global;
 use std::test::Fail;
@@ -362,5 +362,21 @@ fn meets_each_type_once_on_30_levels_of_pairs(rt: HostRuntime) -> Result<(), Fai
     assert!(rt; is(found, &Want::Ambiguous(30)));
     let found = select(alloc, &table, id, "G", "a")?;
     assert!(rt; is(found, &Want::Absent));
+    Ok(())
+}
+
+#[test]
+fn a_pointer_has_the_methods_of_pointer_receivers(rt: HostRuntime) -> Result<(), Fail> {
+    let alloc = rt.alloc();
+    let mut table = small(alloc)?;
+    let q = type_of_part(&mut table, alloc, "Q", 0, false)?;
+    let found = method_set(alloc, &table, q)?;
+    assert!(rt; found.is_empty());
+    let pointer = type_of_part(&mut table, alloc, "Q", 0, true)?;
+    let found = method_set(alloc, &table, pointer)?;
+    assert!(rt; found.len() == 1);
+    let s = type_of_part(&mut table, alloc, "S", 0, false)?;
+    let found = method_set(alloc, &table, s)?;
+    assert!(rt; found.len() == 1);
     Ok(())
 }
