@@ -1,0 +1,10 @@
+pub mod Orders
+pub mod LawLemmas
+pub mod TableLemmas
+pub mod RegionLemmas
+pub mod AnswerLemmas
+pub mod PackageLemmas
+pub mod ImportLemmas
+pub mod StepLemmas
+pub mod ReadLemmas
+pub mod BindLemmas

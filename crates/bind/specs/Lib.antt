@@ -1,0 +1,11 @@
+pub mod Sources
+pub mod Imports
+pub mod Regions
+pub mod Universe
+pub mod Denoting
+pub mod Tables
+pub mod Package
+pub mod Places
+pub mod Imported
+pub mod Answers
+pub mod Collected

@@ -1,0 +1,15 @@
+//! What each use of a name in the files of a package denotes.
+#![tactic(auto)]
+
+mod answer;
+mod file;
+mod imports;
+mod laws;
+mod places;
+mod table;
+mod tops;
+mod universe;
+mod uses;
+
+pub use laws::one_binding;
+pub use uses::bind;

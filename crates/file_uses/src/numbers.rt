@@ -1,0 +1,129 @@
+//! The names of a file's nodes, by number.
+ghost use Rattle.std.specs.Prelude.{◌≡◌, ◌<◌, ◌≤◌, ◌+◌, ◌^◌, IfOk, OnOk, List, ℕ, Some, length, option_map, if◌then◌else◌};
+ghost use Rattle.std.specs.Str.{bytes_eq};
+ghost use Rattle.scopes.specs.Regions.{is_name, form_of};
+ghost use Rattle.file_uses.specs.Numbers.{name_in, found, IsNumbered, IsNumbering};
+
+use go_tree::{FileTree, NodeKind, token_text};
+use gv_base::NoMemory;
+use scopes::{Form, role};
+use std::alloc::Global;
+use std::collections::HashMap;
+
+/// The number of each node's name, and one more than the greatest.
+#[derive(Drop)]
+pub struct Numbers {
+    pub of: Vec<usize>,
+    pub count: usize,
+}
+
+fn is_name(kind: NodeKind) -> bool
+    ensures { result ≡ is_name (form_of kind) }
+{
+    match role(kind).form {
+        Form::Name => true,
+        Form::Names | Form::Params | Form::Param | Form::Bind | Form::Other => false,
+    }
+}
+
+/// The bytes of the name that a node is, if it is one.
+pub fn name_at<'a>(bytes: &'a [u8], tree: &FileTree, at: usize) -> Option<&'a [u8]>
+    ensures { option_map (λ o. o.now) result ≡ name_in bytes.now tree.now at }
+{
+    let node = match tree.nodes.as_slice().get(at) {
+        Some(node) => node,
+        None => return None,
+    };
+    if !is_name(node.kind) {
+        return None;
+    }
+    match tree.tokens.as_slice().get(node.first as usize) {
+        Some(token) => Some(token_text(bytes, token)),
+        None => None,
+    }
+}
+
+fn find(names: &HashMap<&[u8], usize>, name: &[u8]) -> Option<usize>
+    ensures { result ≡ found names.now name.now }
+{
+    names.get(name).copied()
+}
+
+fn keep<'a>(
+    names: &mut HashMap<&'a [u8], usize>,
+    name: &'a [u8],
+    number: usize,
+) -> Result<(), NoMemory>
+    ensures { OnOk result ((q : List ℕ) → found names.new q ≡ (if bytes_eq name.now q then Some number else found names.old q)) }
+{
+    names.insert(name, number)?;
+    Ok(())
+}
+
+/// The number of a name: that which it has, or the next one, which it then has.
+fn number_of<'a>(
+    names: &mut HashMap<&'a [u8], usize>,
+    name: &'a [u8],
+    next: usize,
+) -> Result<usize, NoMemory>
+    ensures { IfOk result (λ n. IsNumbered (Some name.now) (found names.old) (found names.new) next n) }
+{
+    match find(names, name) {
+        Some(number) => Ok(number),
+        None => {
+            keep(names, name, next)?;
+            Ok(next)
+        }
+    }
+}
+
+/// The number of a node's name.
+fn number_at<'a>(
+    names: &mut HashMap<&'a [u8], usize>,
+    bytes: &'a [u8],
+    tree: &FileTree,
+    at: usize,
+    next: usize,
+) -> Result<usize, NoMemory>
+    ensures { IfOk result (λ n. IsNumbered (name_in bytes.now tree.now at) (found names.old) (found names.new) next n) }
+{
+    match name_at(bytes, tree, at) {
+        Some(name) => {
+            let number = number_of(names, name, next)?;
+            Ok(number)
+        }
+        None => Ok(0),
+    }
+}
+
+/// One more where the number is the next one.
+fn after(next: usize, number: usize) -> usize
+    requires { next < 2 ^ 62 }
+    ensures next { next ≤ result }
+    ensures below { number ≤ next → number < result }
+    ensures one { result ≤ next + 1 }
+{
+    if number == next { next + 1 } else { next }
+}
+
+pub(crate) fn count_nodes(tree: &FileTree) -> usize
+    ensures { result ≡ length tree.now.nodes }
+{
+    tree.nodes.as_slice().len()
+}
+
+/// The number of each node's name. Two nodes have the same number exactly where they have the same name, or none.
+pub fn number_names(alloc: Global, bytes: &[u8], tree: &FileTree) -> Result<Numbers, NoMemory>
+    requires { length tree.now.nodes ≤ 2 ^ 32 }
+    ensures { IfOk result (λ numbers. IsNumbering (name_in bytes.now tree.now) (length tree.now.nodes) numbers.of.items numbers.count) }
+{
+    let mut names: HashMap<&[u8], usize> = HashMap::new(alloc);
+    let mut of = Vec::new(alloc);
+    let mut next = 1;
+    for at in 0..count_nodes(tree) {
+        let number = number_at(&mut names, bytes, tree, at, next)?;
+        of.push(number)?;
+        next = after(next, number);
+    }
+    Ok(Numbers { of, count: next })
+}
