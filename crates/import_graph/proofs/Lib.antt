@@ -1,4 +1,5 @@
 pub mod SourceLemmas
+pub mod TestPaths
 pub mod ModuleLemmas
 pub mod OrderLemmas
 pub mod NameLemmas
