@@ -9,7 +9,13 @@ mod opening;
 mod search;
 mod selecting;
 mod selection;
+#[cfg(test)]
+mod selector_tests;
+#[cfg(test)]
+mod set_tests;
 mod sets;
+#[cfg(test)]
+mod test_types;
 #[cfg(test)]
 mod tests;
 mod walk;

@@ -93,7 +93,26 @@ fn print_missing(
     Ok(())
 }
 
-/// Prints a question `compare V`, `implement V T`, `assign V T VALUE` or `convert V T VALUE` with its answer.
+/// Whether the relation that a question names holds.
+fn holds(t: &TypeTable, question: &str, x: &Operand, to: TypeId) -> Result<bool>
+    requires table { IsTable t.now }
+    requires first { x.now.of.0 < count t.now }
+    requires second { to.0 < count t.now }
+{
+    if question == "identical" {
+        return Ok(t.same(x.of, to));
+    }
+    if question == "assign" {
+        return Ok(assignable(t, x, method_set(t, x.of), to));
+    }
+    if question == "convert" {
+        return Ok(convertible(t, x, method_set(t, x.of), to));
+    }
+    bail!("no such question")
+}
+
+/// Prints a question `compare V`, `implement V T`, `identical V T`, `assign V T VALUE` or `convert V T VALUE`
+/// with its answer.
 pub fn print_answer(
     rt: &impl Print,
     alloc: Global,
@@ -117,20 +136,7 @@ pub fn print_answer(
         return print_missing(rt, alloc, t, of, to, line);
     }
     let value = constant(alloc, words.next().unwrap_or(""))?;
-    let x = Operand { of, value };
-    if question == "assign" {
-        println!(rt;
-            "{line}: {}",
-            word(assignable(t, &x, method_set(t, of), to))
-        )?;
-        return Ok(());
-    }
-    if question == "convert" {
-        println!(rt;
-            "{line}: {}",
-            word(convertible(t, &x, method_set(t, of), to))
-        )?;
-        return Ok(());
-    }
-    bail!("no such question")
+    let yes = holds(t, question, &Operand { of, value }, to)?;
+    println!(rt; "{line}: {}", word(yes))?;
+    Ok(())
 }
