@@ -7,6 +7,8 @@ mod imports;
 mod laws;
 mod places;
 mod table;
+#[cfg(test)]
+mod tests;
 mod tops;
 mod universe;
 mod uses;

@@ -1,60 +1,53 @@
-//! One file, and a line for each use in it.
-ghost use Rattle.std.specs.Prelude.{◌<◌, length, IfSome};
+//! One row: the files of a package, and a line for each use in them.
+ghost use Rattle.bind_rows.specs.Ready.{AreReady};
 
-use crate::file::{Found, found_in};
+use crate::print::{Package, print_files};
+use crate::read::add_files;
 use anyhow::{Result, bail};
-use parse_file::{FileVerdict, parse_file};
+use bind::bind;
+use file_uses::Locals;
+use go_tree::FileTree;
+use gv_base::{Bytes, Text};
 use std::alloc::Global;
 
-/// The most bytes of a file.
-const LIMIT: usize = 1 << 16;
+/// The most files of a row.
+const MOST: usize = 1 << 16;
 
-const MARK: [u8; 4] = [b'\n', b'%', b'%', b'\n'];
-
-/// The text before the first line `%%`, and what stands behind that line.
-pub fn cut(bytes: &[u8]) -> Option<(&[u8], &[u8])>
-    ensures { IfSome result (λ parts. length parts.1.now < length bytes.now) }
+/// Binds the uses in the files, and prints a line for each.
+fn print_uses(
+    rt: &impl Print,
+    alloc: Global,
+    files: &[FileTree],
+    sources: &[(Text, Bytes)],
+    locals: &[Locals],
+) -> Result<()>
+    requires { AreReady files.now sources.now }
 {
-    for at in 0..bytes.len() {
-        let here = &bytes[at..];
-        if here.starts_with(&MARK) {
-            return Some((&bytes[..at], &here[4..]));
-        }
+    if files.len() > MOST {
+        bail!("too many files");
     }
-    None
+    match bind(alloc, files, sources, &[]) {
+        Ok(bindings) => print_files(
+            rt,
+            &Package {
+                files,
+                sources,
+                locals,
+                bindings: &bindings,
+            },
+        ),
+        Err(_) => bail!("no memory"),
+    }
 }
 
-fn shown(bytes: &[u8]) -> &str {
-    match std::str::from_utf8(bytes) {
-        Ok(text) => text,
-        Err(_) => "?",
-    }
-}
-
-fn print_lines(rt: &impl Print, found: &[Found<'_>]) -> Result<()> {
-    println!(rt; "file")?;
-    for line in found {
-        match line.of {
-            Some(of) => println!(rt; "  {} {} is of {of}", line.at, shown(line.name))?,
-            None => println!(rt; "  {} {}", line.at, shown(line.name))?,
-        }
-    }
-    Ok(())
-}
-
-/// Prints a line for each use in the file: where it stands, its name, and where its declaration's name stands, if that
-/// is within a function.
-pub fn print_uses(rt: &impl Print, alloc: Global, text: &[u8]) -> Result<()> {
-    if text.len() > LIMIT {
-        bail!("too long");
-    }
-    match parse_file(alloc, text) {
-        Ok(FileVerdict::Parsed(tree)) => match found_in(alloc, text, &tree) {
-            Ok(Some(found)) => print_lines(rt, &found),
-            Ok(None) => bail!("no tree"),
-            Err(_) => bail!("no memory"),
-        },
-        Ok(_) => Ok(println!(rt; "broken")?),
+/// Prints a line for each use in the files of the row: where it stands, its name, and what it denotes.
+pub fn print_row(rt: &impl Print, alloc: Global, row: &[u8]) -> Result<()> {
+    let mut files = Vec::new(alloc);
+    let mut sources = Vec::new(alloc);
+    let mut locals = Vec::new(alloc);
+    match add_files(alloc, row, &mut files, &mut sources, &mut locals) {
+        Ok(true) => print_uses(rt, alloc, &files, &sources, &locals),
+        Ok(false) => Ok(println!(rt; "broken")?),
         Err(_) => bail!("no memory"),
     }
 }

@@ -11,6 +11,8 @@ mod pick;
 mod seeds;
 mod spot;
 mod tables;
+#[cfg(test)]
+mod tests;
 mod view;
 
 pub use laws::needs_are_of_four_cases;

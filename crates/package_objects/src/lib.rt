@@ -7,6 +7,8 @@ mod files;
 mod nodes;
 mod parameters;
 mod switch;
+#[cfg(test)]
+mod tests;
 mod valued;
 
 pub use files::entries_of;

@@ -1,0 +1,23 @@
+-- The first label of each name in each function, as labels are met.
+use Rattle.std.proofs.Common.{◌≡◌, ℕ, ◌+◌, List, Option, Some, None, unwrap_or, sym, ap, ◌∙◌, subst, inl, inr, arith}
+use Rattle.label_uses.proofs.CaseLemmas.{before_or_at}
+use Rattle.label_uses.specs.Tables.{Adds, FirstBelow, AreFirst}
+
+-- where n is a label of the function and the name
+with_one : (Is : ℕ → List ℕ → Type 0) (function : ℕ → ℕ) (n f : ℕ) (q : List ℕ) (old : Option ℕ) → Is n q → function n ≡ f → FirstBelow Is function n f q old → FirstBelow Is function (n + 1) f q (Some (unwrap_or old n))
+with_one Is function n f q None is fun none = (is, fun, omega arith, none)
+with_one Is function n f q (Some l) is fun (was, its, low, first) = (was, its, omega arith, first)
+
+-- where it is none
+with_none : (Is : ℕ → List ℕ → Type 0) (function : ℕ → ℕ) (n f : ℕ) (q : List ℕ) (old : Option ℕ) → (Is n q → function n ≡ f → ⊥) → FirstBelow Is function n f q old → FirstBelow Is function (n + 1) f q old
+with_none Is function n f q None not_it none = λ e low is fun. elim (before_or_at e n low) [
+  | inl before ↦ none e before is fun
+  | inr here ↦ not_it (subst (λ (x : ℕ). Is x q) here is) (ap function (sym here) ∙ fun)
+]
+with_none Is function n f q (Some l) not_it (was, its, low, first) = (was, its, omega arith, first)
+
+pub first_more : (Is : ℕ → List ℕ → Type 0) (function : ℕ → ℕ) (n : ℕ) (old new : ℕ → List ℕ → Option ℕ) → AreFirst Is function n old → Adds Is function n old new → AreFirst Is function (n + 1) new
+first_more Is function n old new was adds f q = elim (adds f q) [
+  | inl this ↦ subst (λ (o : Option ℕ). FirstBelow Is function (n + 1) f q o) (sym this.2) (with_one Is function n f q (old f q) this.0 this.1 (was f q))
+  | inr other ↦ subst (λ (o : Option ℕ). FirstBelow Is function (n + 1) f q o) (sym other.1) (with_none Is function n f q (old f q) other.0 (was f q))
+]

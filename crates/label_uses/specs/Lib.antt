@@ -1,0 +1,7 @@
+pub mod Functions
+pub mod Labels
+pub mod Read
+pub mod Parents
+pub mod Names
+pub mod Tables
+pub mod Rows

@@ -1,0 +1,15 @@
+//! Which label each jump of a file denotes.
+#![tactic(auto)]
+
+mod answer;
+mod functions;
+mod laws;
+mod names;
+mod parents;
+mod read;
+mod rows;
+mod table;
+
+pub use answer::{Jump, Label, Labels};
+pub use laws::one_label;
+pub use read::labels;
