@@ -1,0 +1,12 @@
+mod FollowLemmas
+mod Lists
+mod LinkLemmas
+mod EndLemmas
+mod CircleLemmas
+mod KinLemmas
+mod GroupLemmas
+mod LiteralLemmas
+mod AboveLemmas
+mod MentionLemmas
+mod WorldLemmas
+mod CarryLemmas

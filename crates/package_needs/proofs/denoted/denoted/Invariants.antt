@@ -1,0 +1,6 @@
+use Rattle.package_needs.specs.Worlds.{DenotesName}
+use Rattle.package_needs.proofs.MentionLemmas.{Rows}
+use Rattle.package_needs.proofs.denoted.denoted.Given as goal
+
+abbrev pub invariant-loop-file : goal.invariant-loop-file
+invariant-loop-file l = Rows (DenotesName l.b) l.trees l.rows.items l.file

@@ -1,0 +1,18 @@
+//! What follows from the definitions alone.
+ghost use Rattle.std.specs.Prelude.{List, Option};
+ghost use Rattle.std.specs.Global.{Vec};
+ghost use Rattle.go_tree.specs.declared.bindings.Object.{Object};
+ghost use Rattle.go_tree.specs.declared.tree.FileTree.{FileTree};
+ghost use Rattle.go_tree.specs.declared.tree.NodeRef.{NodeRef};
+ghost use Rattle.object_order.specs.declared.needed.Needed.{Needed};
+ghost use Rattle.object_order.specs.Cases.{NeedsOf};
+ghost use Rattle.object_order.specs.Names.{IsNamed};
+ghost use Rattle.object_order.specs.Orders.{IsNeedOrder};
+ghost use Rattle.object_order.specs.Spots.{World};
+ghost use Rattle.package_objects.specs.Declares.{declared};
+ghost use Rattle.package_needs.specs.Worlds.{IsPackage, MarkTheSame};
+
+/// Two orders of need of one package mark the same objects, whatever descriptions of it they go by.
+pub fn orders_mark_the_same()
+    ensures { (uses : List (NodeRef × Object)) → (trees : List FileTree) → (rows : List (Vec (Option NodeRef))) → (names w v : World) → (one two : List Needed) → IsPackage uses trees rows names w → IsPackage uses trees rows names v → IsNeedOrder (NeedsOf w) (IsNamed (declared trees rows)) one → IsNeedOrder (NeedsOf v) (IsNamed (declared trees rows)) two → MarkTheSame one two }
+{}
