@@ -1,0 +1,3 @@
+pub mod AnnotationLaws
+pub mod UniverseLaws
+mod SpecificationFacts
