@@ -4,7 +4,7 @@ use Rattle.go_tree.specs.declared.tree.Node.{Node}
 use Rattle.object_order.specs.declared.spot.Entry.{Entry}
 use Rattle.package_objects.specs.Declares.{gather, source_after, source_with, const_at, const_spec}
 
-next_is : (n : ℕ) → suc n ≡ n + 1
+pub next_is : (n : ℕ) → suc n ≡ n + 1
 next_is n = omega arith
 
 pub gather_next : {A : Type 0} (g : ℕ → List A) (n : ℕ) → gather g n ++ g n ≡ gather g (n + 1)

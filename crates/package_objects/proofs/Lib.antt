@@ -1,1 +1,1 @@
-mod GatherLemmas
+pub mod GatherLemmas

@@ -52,7 +52,8 @@ fn list_in(spec: &Node) -> Valued
     }
 }
 
-fn list_at(nodes: &[Node], source: Option<u32>) -> Valued
+/// What the specification of a node says of type and values; nothing where there is none.
+pub fn list_at(nodes: &[Node], source: Option<u32>) -> Valued
     ensures { result ≡ list_of nodes.now source }
 {
     match source {
@@ -74,7 +75,7 @@ fn newer_source(nodes: &[Node], source: Option<u32>, n: u32) -> Option<u32>
 }
 
 /// The specification whose list counts from the next one on.
-fn next_source(nodes: &[Node], source: Option<u32>, spec: Option<u32>) -> Option<u32>
+pub fn next_source(nodes: &[Node], source: Option<u32>, spec: Option<u32>) -> Option<u32>
     ensures { result ≡ source_with nodes.now source spec }
 {
     match spec {

@@ -11,5 +11,7 @@ mod switch;
 mod tests;
 mod valued;
 
+pub use constants::{list_at, next_source};
 pub use files::entries_of;
+pub use nodes::{count, item, kind_of, node_of, part_count, part_of};
 pub use valued::Valued;

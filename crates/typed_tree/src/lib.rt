@@ -30,7 +30,9 @@ pub use literal::{judge_int, judge_rune, judge_text};
 pub use mark::{Facts, Mark, Mode};
 pub use place::{Want, judge_place};
 pub use predeclare::universe_table;
-pub use rule::{Limit, Rule};
+pub use rule::{
+    BAD_INIT, BLANK_USED_AS_VALUE, DECLARATION_CYCLE, Limit, REDECLARED, Rule, UNUSED_IMPORT,
+};
 pub use selection::{judge_blank, judge_selector, judge_use};
 pub use unary::judge_unary;
 pub use universe::judge_predeclared;

@@ -9,6 +9,9 @@ pub struct Rule(pub u8);
 /// E1 redeclared
 pub const REDECLARED: Rule = Rule(1);
 
+/// E2 bad init
+pub const BAD_INIT: Rule = Rule(2);
+
 /// E3 undefined
 pub const UNDEFINED: Rule = Rule(3);
 

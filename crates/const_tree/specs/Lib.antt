@@ -1,0 +1,4 @@
+pub mod Operators
+pub mod Form
+pub mod Constants
+pub mod Places
