@@ -106,7 +106,8 @@ pub fn bind(
     requires spelled { AreSpelled files.now sources.now }
     requires fit { AreSmall files.now }
     requires few { length files.now < 2 ^ 32 }
-    ensures { IfOk result (λ uses. (p : Sources) → p.named ≡ named.now → AreFiles files.now sources.now p.files → AreBindings p uses) }
+    ensures ordered { IfOk result (λ uses. AreInOrder uses) }
+    ensures bound { IfOk result (λ uses. (p : Sources) → p.named ≡ named.now → AreFiles files.now sources.now p.files → AreBindings p uses) }
 {
     let read = read_files(alloc, files, sources)?;
     let uses = bind_read(alloc, &read, named)?;

@@ -1,4 +1,5 @@
 use Rattle.std.proofs.Common.{List, length, sym, ap, subst, arith}
+use Rattle.go_tree.specs.Bindings.{AreInOrder}
 use Rattle.go_tree.specs.declared.bindings.Object.{Object}
 use Rattle.go_tree.specs.declared.tree.NodeRef.{NodeRef}
 use Rattle.bind.specs.Answers.{AreFit, AreRead}
@@ -13,6 +14,9 @@ pub bind_read-requires-clause-fit : goal.bind_read-requires-clause-fit
 bind_read-requires-clause-fit c = subst (λ (l : List File). AreFit l) (sym c.deref.ensures.value) c.in_ok-read.ensures.fit
 
 pub returns : goal.returns
-returns c = λ p same files.
-    subst (λ (l : List (NodeRef × Object)). AreBindings p l) (sym c.of.ensures)
-    (c.in_ok-uses.ensures.bound p same (subst (λ (l : List File). AreRead l p.files) (sym c.deref.ensures.value) (c.in_ok-read.ensures.read p.files files)))
+returns c = record {
+  ordered = subst (λ (l : List (NodeRef × Object)). AreInOrder l) (sym c.of.ensures) c.in_ok-uses.ensures.ordered;
+  bound = λ p same files.
+      subst (λ (l : List (NodeRef × Object)). AreBindings p l) (sym c.of.ensures)
+      (c.in_ok-uses.ensures.bound p same (subst (λ (l : List File). AreRead l p.files) (sym c.deref.ensures.value) (c.in_ok-read.ensures.read p.files files)));
+}

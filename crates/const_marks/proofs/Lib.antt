@@ -1,0 +1,16 @@
+pub mod IndexLemmas
+pub mod UseLemmas
+pub mod RowLemmas
+pub mod NumberLemmas
+pub mod ReadLemmas
+pub mod NameLemmas
+pub mod EnvironmentLemmas
+pub mod MarkLemmas
+pub mod JudgeLemmas
+pub mod AttributeLemmas
+pub mod ItemLemmas
+pub mod SetLemmas
+pub mod WalkLemmas
+pub mod WaitLemmas
+pub mod OrderLemmas
+pub mod DoneLemmas

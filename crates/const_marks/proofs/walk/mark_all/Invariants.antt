@@ -1,0 +1,10 @@
+use Rattle.const_marks.specs.Annotations.{Goes}
+use Rattle.const_marks.specs.Subjects.{shown}
+use Rattle.const_marks.specs.Visits.{AreMarked}
+use Rattle.const_marks.proofs.walk.mark_all.Given as goal
+
+abbrev pub invariant-loop-i : goal.invariant-loop-i
+invariant-loop-i l = record {
+  goes : Goes (shown l.s) l.t l.fn.marks l.marks;
+  done : AreMarked l.marks l.list l.i;
+}

@@ -1,0 +1,14 @@
+pub mod Attributes
+pub mod Units
+pub mod Imports
+pub mod Items
+pub mod Rules
+pub mod Annotations
+pub mod Subjects
+pub mod Rows
+pub mod Index
+pub mod Environments
+pub mod Exports
+pub mod Judged
+pub mod Visits
+pub mod Done

@@ -1,0 +1,14 @@
+mod ListLemmas
+mod KindLemmas
+mod EntryLemmas
+mod ForestLemmas
+mod ItemLemmas
+mod SpecLemmas
+mod UseLemmas
+mod NameLemmas
+mod WorldLemmas
+mod PlaceLemmas
+mod SourceLemmas
+mod RestLemmas
+mod NeedLemmas
+mod OrderLemmas
