@@ -1,7 +1,7 @@
 -- What a run may know of the rules: there is one finding, and an interface has the path of its package.
 use Rattle.std.proofs.Common.{◌≡◌, ℕ, ◌<◌, ◌⊎◌, inl, inr, List, [], ◌∷◌, get_or, refl, sym, ap, ◌∙◌, subst, arith}
 use Rattle.std.proofs.lemmas.Option.{same_Some}
-use Rattle.go_tree.specs.Names.{Package}
+use Rattle.const_check.specs.Packages.{Package}
 use Rattle.export_data.specs.declared.constants.ConstInterface.{ConstInterface}
 use Rattle.export_data.specs.Spelling.{IsSpelled}
 use Rattle.export_data.proofs.Interfaces.{spelled_is_read}
@@ -12,7 +12,7 @@ use Rattle.action_graph.specs.Nodes.{Named}
 use Rattle.action_graph.specs.Marks.{AreSpelled}
 use Rattle.action_graph.specs.Judging.{Judged, Env, Judges, Finds, AreInterfaces, IsOutcome, IsOutcomeOf, Tells, accepted_text, refused_text}
 use Rattle.action_graph.specs.Judging.Judged.{Accepts, Refuses}
-use Rattle.action_graph.proofs.OneFinding.{finds-once, one-package}
+use Rattle.action_graph.proofs.OneFinding.{finds-once, one-package, package-files}
 use Rattle.action_graph.proofs.NodeLemmas.{one_load}
 use Rattle.action_graph.proofs.Lines.{spelled_is_read as marks_are_read}
 
@@ -20,7 +20,7 @@ use Rattle.action_graph.proofs.Lines.{spelled_is_read as marks_are_read}
 pub judges_once : (path : List ℕ) (files : List Named) (env : Env) (a b : Judged) → Judges path files env a → Judges path files env b → a ≡ b
 unfolding Judges
 judges_once path files env a b (p, (of, finds)) (q, (of2, finds2)) =
-    finds-once path q env a b (subst (λ (x : Package). Finds path x env a) (one-package files p q of of2) finds) finds2
+    finds-once path q env a b (package-files files q of2) (subst (λ (x : Package). Finds path x env a) (one-package files p q of of2) finds) finds2
 
 face_or : ConstInterface → Judged → ConstInterface
 face_or d (Accepts i) = i

@@ -1,6 +1,6 @@
 pub mod Lines
 pub mod OneList
-mod OneFinding
+pub mod OneFinding
 mod Standing
 pub mod JudgingLaws
 pub mod NodeLemmas

@@ -1,25 +1,33 @@
 -- A package has one finding: its refusals and its exports are lists in a strict order.
-use Rattle.std.proofs.Common.{◌≡◌, ℕ, zero, suc, ◌+◌, ◌<◌, inl, inr, Bool, true, false, List, [], ◌∷◌, Some, slice_get, map, Contains, refl, sym, ap, ◌∙◌, subst, arith, if◌then◌else◌}
+use Rattle.std.proofs.Common.{◌≡◌, ℕ, zero, suc, ◌+◌, ◌<◌, ◌↔◌, inl, inr, Bool, true, false, List, [], ◌∷◌, length, Some, slice_get, map, Contains, refl, sym, ap, ◌∙◌, subst, arith, if◌then◌else◌}
 use Rattle.std.specs.declared.cmp.Ordering.{Ordering}
 use Rattle.std.specs.declared.cmp.Ordering.TheVariants.{Less, Equal, Greater}
 use Rattle.std.specs.Ordering.{nat_cmp, is_lt}
 use Rattle.std.specs.Cmp.Lexicographic.{slice_cmp}
 use Rattle.std.proofs.lemmas.Bool.Decides.{nat_tests}
 use Rattle.std.proofs.lemmas.Cmp.{same_from_slice_cmp, nat_list_cmp_total, tied_itself}
-use Rattle.std.proofs.lemmas.Option.{slice_get_within}
+use Rattle.std.proofs.lemmas.Option.{same_Some, slice_get_within}
 use Rattle.export_data.specs.declared.constants.ConstOut.{ConstOut}
 use Rattle.export_data.specs.declared.constants.ConstInterface.{ConstInterface}
 use Rattle.export_data.specs.Order.{comes_before, rises_from, names_rise}
+use Rattle.go_tree.specs.declared.token.Token.{Token}
 use Rattle.go_tree.specs.declared.tree.FileTree.{FileTree}
-use Rattle.go_tree.specs.Names.{Package}
+use Rattle.go_tree.specs.Pieces.{Spelled}
 use Rattle.parse_file.specs.declared.verdict.FileVerdict.TheVariants.{Parsed}
 use Rattle.parse_file.specs.Verdict.{IsParsed}
 use Rattle.parse_file.proofs.VerdictLaws.{one_verdict}
-use Rattle.const_check.specs.declared.mark.Refusal.{Refusal}
+use Rattle.bind.specs.Answers.{AreSpelled}
+use Rattle.typed_tree.specs.declared.annotation.Marked.{Marked}
+use Rattle.typed_tree.specs.Meanings.{Meaning}
+use Rattle.const_marks.specs.Rules.{IsAnnotation}
+use Rattle.const_marks.specs.Units.{Unit}
+use Rattle.const_check.specs.declared.refusal.Refusal.{Refusal}
+use Rattle.const_check.specs.Packages.{Package, AreConstantFiles}
 use Rattle.const_check.specs.Refusals.{Precedes, IsOrdered, AreMarks, IsRefused}
 use Rattle.const_check.specs.Interfaces.{AreExports, IsExported}
+use Rattle.const_check.proofs.Uniqueness.{one_unit}
 use Rattle.action_graph.specs.Nodes.{Named}
-use Rattle.action_graph.specs.Judging.{Judged, Env, AreParsed, IsPackageOf, Finds, line_of}
+use Rattle.action_graph.specs.Judging.{Judged, Env, AreParsed, IsPackageOf, Finds, line_of, text_of}
 use Rattle.action_graph.specs.Judging.Judged.{Accepts, Refuses}
 use Rattle.action_graph.proofs.OneList.{IsStrict, InOrder, same-list}
 
@@ -45,18 +53,22 @@ precedes : IsStrict Precedes
 precedes = record { trans = precedes-trans; itself = precedes-itself }
 
 -- a package has one list of marks in order
-one-refused : (p : Package) (env : Env) (a b : List Refusal) → AreMarks p env a → AreMarks p env b → IsOrdered a → IsOrdered b → a ≡ b
-one-refused p env a b one other in_order ordered =
-    same-list Precedes precedes (IsRefused env p one.marks) a b in_order ordered (one.each one.marks one.annotated) (other.each one.marks one.annotated)
+one-refused : (p : Package) (env : Env) (a b : List Refusal) → AreConstantFiles p → AreMarks p env a → AreMarks p env b → IsOrdered a → IsOrdered b → a ≡ b
+one-refused p env a b files one other in_order ordered =
+    let e : one.unit ≡ other.unit = one_unit p env one.unit other.unit one.is_unit other.is_unit files in
+    let each = subst (λ (u : Unit). (m : Marked → Meaning) → IsAnnotation u m → (x : Refusal) → Contains a x ↔ IsRefused u m x) e one.each in
+    same-list Precedes precedes (IsRefused other.unit other.marks) a b in_order ordered (each other.marks other.annotated) (other.each other.marks other.annotated)
 
 nothing-there : {X : Type 0} (x : X) → Contains [] x → ⊥
 nothing-there x (k, lt, e) = omega (arith, lt)
 
 -- what has no marks has none
-unrefused : (p : Package) (env : Env) (list : List Refusal) → AreMarks p env [] → AreMarks p env list → (list ≡ [] → ⊥) → ⊥
-unrefused p env [] nothing marks some = some refl
-unrefused p env (x ∷ xs) nothing marks some =
-    nothing-there x ((nothing.each nothing.marks nothing.annotated x).1 ((marks.each nothing.marks nothing.annotated x).0 (0, omega arith, refl)))
+unrefused : (p : Package) (env : Env) (list : List Refusal) → AreConstantFiles p → AreMarks p env [] → AreMarks p env list → (list ≡ [] → ⊥) → ⊥
+unrefused p env [] files nothing marks some = some refl
+unrefused p env (x ∷ xs) files nothing marks some =
+    let e : marks.unit ≡ nothing.unit = one_unit p env marks.unit nothing.unit marks.is_unit nothing.is_unit files in
+    let each = subst (λ (u : Unit). (m : Marked → Meaning) → IsAnnotation u m → (y : Refusal) → Contains (x ∷ xs) y ↔ IsRefused u m y) e marks.each in
+    nothing-there x ((nothing.each nothing.marks nothing.annotated x).1 ((each nothing.marks nothing.annotated x).0 (0, omega arith, refl)))
 
 -- byte order of names
 is-before : (xs ys : List ℕ) → is_lt (slice_cmp nat_cmp xs ys) ≡ comes_before xs ys
@@ -107,9 +119,11 @@ rise-in-order [] h k a b at next = absurd (let lt : k < 0 = slice_get_within [] 
 rise-in-order (c ∷ rest) h k a b at next = rises-in-order c rest h k a b at next
 
 -- a package has one list of exports
-one-exports : (p : Package) (env : Env) (a b : List ConstOut) → AreExports p env a → AreExports p env b → a ≡ b
-one-exports p env a b one other =
-    same-list NameBefore names (IsExported p one.marks) a b (rise-in-order a one.rise) (rise-in-order b other.rise) (one.each one.marks one.annotated) (other.each one.marks one.annotated)
+one-exports : (p : Package) (env : Env) (a b : List ConstOut) → AreConstantFiles p → AreExports p env a → AreExports p env b → a ≡ b
+one-exports p env a b files one other =
+    let e : one.unit ≡ other.unit = one_unit p env one.unit other.unit one.is_unit other.is_unit files in
+    let each = subst (λ (u : Unit). (m : Marked → Meaning) → IsAnnotation u m → (x : ConstOut) → Contains a x ↔ IsExported u m x) e one.each in
+    same-list NameBefore names (IsExported other.unit other.marks) a b (rise-in-order a one.rise) (rise-in-order b other.rise) (each other.marks other.annotated) (other.each other.marks other.annotated)
 
 same-parts : (i k : ConstInterface) → i.path ≡ k.path → i.name ≡ k.name → i.list ≡ k.list → i ≡ k
 same-parts i k path name list =
@@ -118,13 +132,13 @@ same-parts i k path name list =
     ∙ ap (λ (x : List ConstOut). record { path = k.path; name = k.name; list = x }) list)
 
 -- there is one finding of a package
-pub finds-once : (path : List ℕ) (p : Package) (env : Env) (a b : Judged) → Finds path p env a → Finds path p env b → a ≡ b
-finds-once path p env (Accepts i) (Accepts k) (marks, (exports, (at, name))) (marks2, (exports2, (at2, name2))) =
-    ap Accepts (same-parts i k (at ∙ sym at2) (name ∙ sym name2) (one-exports p env i.list k.list exports exports2))
-finds-once path p env (Accepts i) (Refuses lines) (marks, (exports, (at, name))) (refused, (marks2, (ordered, (some, are)))) = absurd (unrefused p env refused marks marks2 some)
-finds-once path p env (Refuses lines) (Accepts k) (refused, (marks2, (ordered, (some, are)))) (marks, (exports, (at, name))) = absurd (unrefused p env refused marks marks2 some)
-finds-once path p env (Refuses lines) (Refuses lines2) (refused, (marks, (ordered, (some, are)))) (refused2, (marks2, (ordered2, (some2, are2)))) =
-    ap Refuses (are ∙ (ap (λ (list : List Refusal). map line_of list) (one-refused p env refused refused2 marks marks2 ordered ordered2) ∙ sym are2))
+pub finds-once : (path : List ℕ) (p : Package) (env : Env) (a b : Judged) → AreConstantFiles p → Finds path p env a → Finds path p env b → a ≡ b
+finds-once path p env (Accepts i) (Accepts k) files (marks, (exports, (at, name))) (marks2, (exports2, (at2, name2))) =
+    ap Accepts (same-parts i k (at ∙ sym at2) (name ∙ sym name2) (one-exports p env i.list k.list files exports exports2))
+finds-once path p env (Accepts i) (Refuses lines) files (marks, (exports, (at, name))) (refused, (marks2, (ordered, (some, are)))) = absurd (unrefused p env refused files marks marks2 some)
+finds-once path p env (Refuses lines) (Accepts k) files (refused, (marks2, (ordered, (some, are)))) (marks, (exports, (at, name))) = absurd (unrefused p env refused files marks marks2 some)
+finds-once path p env (Refuses lines) (Refuses lines2) files (refused, (marks, (ordered, (some, are)))) (refused2, (marks2, (ordered2, (some2, are2)))) =
+    ap Refuses (are ∙ (ap (λ (list : List Refusal). map line_of list) (one-refused p env refused refused2 files marks marks2 ordered ordered2) ∙ sym are2))
 
 tree-is : (a b : FileTree) → Parsed a ≡ Parsed b → a ≡ b
 tree-is a b e = cc
@@ -140,9 +154,34 @@ one-trees (x ∷ xs) [] ts h g = absurd h
 one-trees (x ∷ xs) (s ∷ ss) [] h g = absurd g
 one-trees (x ∷ xs) (s ∷ ss) (t ∷ ts) h g = ap (λ f. f ∷ ss) (one-tree x s t h.0 g.0) ∙ ap (λ l. t ∷ l) (one-trees xs ss ts h.1 g.1)
 
+-- a tree that is parsed is spelled by its own tokens
+spelled-itself : (text : List ℕ) (t : FileTree) → IsParsed text t → Spelled t.tokens text t
+spelled-itself text t p = subst (λ (ts : List Token). Spelled ts text t) (ap (λ (u : FileTree). u.tokens) p.spelled.arena) p.spelled
+
+pub as-many : (files : List Named) (trees : List FileTree) → AreParsed (map text_of files) trees → length trees ≡ length files
+as-many [] [] h = refl
+as-many [] (t ∷ ts) h = absurd h
+as-many (x ∷ xs) [] h = absurd h
+as-many (x ∷ xs) (t ∷ ts) h = ap suc (as-many xs ts h.1)
+
+spelled-at : (files : List Named) (trees : List FileTree) (i : ℕ) (t : FileTree) (e : Named) → AreParsed (map text_of files) trees → slice_get trees i ≡ Some t → slice_get files i ≡ Some e → Spelled t.tokens e.1 t
+spelled-at [] trees i t e h at found = absurd (let lt : i < 0 = slice_get_within [] i e found in omega (arith, lt))
+spelled-at (x ∷ xs) [] i t e h at found = absurd h
+spelled-at (x ∷ xs) (s ∷ ss) zero t e h at found =
+    subst (λ (y : Named). Spelled t.tokens y.1 t) (same_Some x e found) (subst (λ (y : FileTree). Spelled y.tokens x.1 y) (same_Some s t at) (spelled-itself x.1 s h.0))
+spelled-at (x ∷ xs) (s ∷ ss) (suc i) t e h at found = spelled-at xs ss i t e h.1 at found
+
+-- parsed trees are spelled
+pub all-spelled : (files : List Named) (trees : List FileTree) → AreParsed (map text_of files) trees → AreSpelled trees files
+all-spelled files trees h = record { size = as-many files trees h; spelled = λ i t e at found. spelled-at files trees i t e h at found }
+
+-- the package of some files is one of constants
+pub package-files : (files : List Named) (p : Package) → IsPackageOf files p → AreConstantFiles p
+package-files files p of = record { spelled = all-spelled p.files p.trees of.trees; form = of.form }
+
 -- files are of one package
 pub one-package : (files : List Named) (p q : Package) → IsPackageOf files p → IsPackageOf files q → p ≡ q
 one-package files p q h g =
-    let texts : p.texts ≡ q.texts = h.texts ∙ sym g.texts in
-    let trees : p.trees ≡ q.trees = one-trees q.texts p.trees q.trees (subst (λ (t : List (List ℕ)). AreParsed t p.trees) texts h.trees) g.trees in
-    ap (λ (t : List (List ℕ)). record { texts = t; trees = p.trees }) texts ∙ ap (λ (t : List FileTree). record { texts = q.texts; trees = t }) trees
+    let same : p.files ≡ q.files = h.files ∙ sym g.files in
+    let trees : p.trees ≡ q.trees = one-trees (map text_of q.files) p.trees q.trees (subst (λ (x : List Named). AreParsed (map text_of x) p.trees) same h.trees) g.trees in
+    ap (λ (x : List Named). record { files = x; trees = p.trees }) same ∙ ap (λ (t : List FileTree). record { files = q.files; trees = t }) trees

@@ -1,18 +1,18 @@
 -- What comes of a package, by its path, its files and the interfaces of the packages that it imports; and what
 -- comes of a load, by its texts alone (Go 1.17, "Packages", "Import declarations"). Nothing here reads a cache.
-use Rattle.std.specs.Prelude.{◌≡◌, ℕ, ◌<◌, ◌≤◌, ◌^◌, ◌++◌, true, false, List, [], ◌∷◌, map, length, get_or, All, Some, slice_get, codes}
+use Rattle.std.specs.Prelude.{◌≡◌, ℕ, ◌<◌, ◌≤◌, ◌^◌, ◌++◌, true, false, List, [], ◌∷◌, map, length, All, Some, slice_get, codes}
 use Rattle.gv_base.specs.declared.place.Place.{Place}
 use Rattle.gv_base.specs.Files.{is_before, AreInOrder}
 use Rattle.export_data.specs.declared.constants.ConstInterface.{ConstInterface}
 use Rattle.export_data.specs.Spelling.{IsSpelled}
 use Rattle.go_tree.specs.declared.tree.FileTree.{FileTree}
-use Rattle.go_tree.specs.Names.{Package, spelled_at}
 use Rattle.parse_file.specs.Verdict.{IsParsed}
-use Rattle.const_check.specs.declared.mark.Fault.{Fault}
-use Rattle.const_check.specs.declared.mark.Fault.TheVariants.{Rule as RuleFault, Limit as LimitFault}
-use Rattle.const_check.specs.declared.mark.Refusal.{Refusal}
-use Rattle.const_check.specs.Form.{AreConstantFiles}
+use Rattle.const_tree.specs.Form.{AreConstantFiles}
+use Rattle.const_check.specs.declared.refusal.Fault.{Fault}
+use Rattle.const_check.specs.declared.refusal.Fault.TheVariants.{Rule as RuleFault, Limit as LimitFault}
+use Rattle.const_check.specs.declared.refusal.Refusal.{Refusal}
 use Rattle.const_check.specs.Interfaces.{AreExports}
+use Rattle.const_check.specs.Packages.{Package, package_name}
 use Rattle.const_check.specs.Refusals.{AreMarks, IsOrdered, limit_number}
 use Rattle.action_graph.specs.declared.kit.LoadInput.{LoadInput}
 use Rattle.action_graph.specs.declared.kit.Load.{Load}
@@ -41,11 +41,11 @@ AreParsed [] (tree ∷ trees) = ⊥
 AreParsed (text ∷ texts) [] = ⊥
 AreParsed (text ∷ texts) (tree ∷ trees) = IsParsed text tree × AreParsed texts trees
 
--- The package of these files: the texts with their trees, all of constants.
-pub record IsPackageOf (files : List Named) (p : Package) : Type 0 where
-  pub texts : p.texts ≡ map text_of files
-  pub trees : AreParsed p.texts p.trees
-  pub form : AreConstantFiles p
+-- The package of these files: each with its tree, all of constants.
+pub record IsPackageOf (named : List Named) (p : Package) : Type 0 where
+  pub files : p.files ≡ named
+  pub trees : AreParsed (map text_of p.files) p.trees
+  pub form : AreConstantFiles p.trees
 
 -- the line of a refusal in the marks text
 abbrev pub fault_line : Place → Fault → MarkLine
@@ -58,7 +58,7 @@ line_of r = fault_line r.place r.fault
 -- What is found of a package by its path, its trees and the interfaces of the packages that it imports: nothing
 -- refuses it, and this is its interface; or these refuse it, in order and each once.
 abbrev pub Finds : List ℕ → Package → Env → Judged → Type 0
-Finds path p env (Judged.Accepts i) = AreMarks p env [] × (AreExports p env i.list × ((i.path ≡ path) × (i.name ≡ spelled_at p 0 0)))
+Finds path p env (Judged.Accepts i) = AreMarks p env [] × (AreExports p env i.list × ((i.path ≡ path) × (i.name ≡ package_name p)))
 Finds path p env (Judged.Refuses lines) =
     (refused : List Refusal) × (AreMarks p env refused × (IsOrdered refused × ((refused ≡ [] → ⊥) × (lines ≡ map line_of refused))))
 
@@ -66,10 +66,6 @@ Finds path p env (Judged.Refuses lines) =
 -- this relation no more than that there is one finding, and that an interface has the path of its package.
 unfoldable pub Judges : List ℕ → List Named → Env → Judged → Type 0
 Judges path files env judged = (p : Package) × (IsPackageOf files p × Finds path p env judged)
-
--- the place is in one of the texts, or at its end
-abbrev pub StandsIn : List (List ℕ) → Place → Type 0
-StandsIn texts at = (at.file < length texts) × (at.offset ≤ length (get_or texts at.file []))
 
 -- What is asked of a package's own texts: a path, some file, and files in the order of their paths, of which none
 -- is empty; few enough and short enough to be counted, and each of constants.

@@ -1,125 +1,349 @@
--- The imports of files, as they have been read.
-use Rattle.std.proofs.Common.{◌≡◌, ℕ, ◌+◌, ◌<◌, List, [], ◌∷◌, ◌++◌, length, slice_get, get_or, Option, Some, None, option_map, option_and_then, Bool, true, false, sym, ap, ◌∙◌, subst, inl, inr, arith}
+-- What imports declare, and what they refuse.
+use Rattle.std.proofs.Common.{◌≡◌, ℕ, ◌+◌, ◌<◌, ◌≤◌, ◌⊎◌, ◌↔◌, ◌==◌, Bool, true, false, cond, if◌then◌else◌, not, IsTrue, nat_le, nat_lt, List, [], ◌∷◌, map, length, slice_get, Option, Some, None, is_some, option_map, option_and_then, below_more, refl, sym, ap, ◌∙◌, subst, inl, inr, arith}
+use Rattle.std.specs.Bool.{Decides}
+use Rattle.std.specs.List.{Contains}
 use Rattle.std.specs.Option.{option_map_or}
 use Rattle.std.specs.Str.{bytes_eq}
-use Rattle.std.proofs.lemmas.List.{length_push, length-map}
-use Rattle.std.proofs.lemmas.Option.{slice_get_within, slice_get-get_or, slice_get-map, get_or_from_slice_get}
+use Rattle.std.proofs.lemmas.Bool.{cases_lt}
+use Rattle.std.proofs.lemmas.Bool.Decides.{nat_tests}
+use Rattle.std.proofs.lemmas.List.{get_or_past}
+use Rattle.std.proofs.lemmas.List.Elements.{Contains-append_cases}
+use Rattle.std.proofs.lemmas.Option.{slice_get_within, slice_get-map, slice_get-get_or}
+use Rattle.std.proofs.lemmas.Slice.Eq.{bytes_eq-Decides}
+use Rattle.gv_base.specs.declared.place.Place.{Place}
+use Rattle.go_tree.specs.Head.{node_at as node_in, import_line, imports_of, is_import}
+use Rattle.go_tree.specs.Spelling.{no_node}
+use Rattle.go_tree.specs.Lexeme.{place_of as first_place}
+use Rattle.go_tree.specs.declared.bindings.Object.{Object}
+use Rattle.go_tree.specs.declared.bindings.Object.TheVariants as o
+use Rattle.go_tree.specs.declared.head.ImportLine.{ImportLine}
 use Rattle.go_tree.specs.declared.tree.FileTree.{FileTree}
-use Rattle.go_tree.specs.Names.{Package}
-use Rattle.go_tree.specs.Lexeme.{place_of}
-use Rattle.const_check.specs.declared.imports.FileImports.{FileImports}
-use Rattle.const_check.specs.declared.imports.ImportLine.{ImportLine}
-use Rattle.const_check.specs.declared.mark.Mark.TheVariants.{Bad}
-use Rattle.const_check.specs.declared.mark.TheConstants.{UNDEFINED, NOT_A_VALUE}
-use Rattle.const_check.specs.Rules.{Env, use_mark, package_mark}
-use Rattle.const_check.specs.Imports.{Import, Known, imports_of, imports, import_names, import_named}
-use Rattle.const_check.specs.ImportRows.{line_of, lines_of, line_names, IsRowOf, AreRows}
-use Rattle.const_check.specs.Index.{found}
-use Rattle.const_check.proofs.Standing.{same_some, there}
-use Rattle.const_check.proofs.IndexLemmas.{first_is}
-use Rattle.const_check.proofs.GraphLemmas.{push_cases}
+use Rattle.go_tree.specs.declared.tree.Node.{Node}
+use Rattle.go_tree.specs.declared.tree.NodeRef.{NodeRef}
+use Rattle.object_order.specs.Spots.{place}
+use Rattle.bind.specs.Imports.{piece_specs, specs_in, line_name}
+use Rattle.bind.specs.Imported.{imported}
+use Rattle.bind.proofs.ImportLemmas.{lines_are, map_size, from_imported, to_imported}
+use Rattle.typed_tree.specs.declared.rule.TheConstants.{REDECLARED, UNUSED_IMPORT}
+use Rattle.const_tree.specs.declared.constant.Constant.{Constant}
+use Rattle.const_tree.specs.Constants.{constants}
+use Rattle.const_tree.specs.Form.{IsConstantFile, AreConstantFiles}
+use Rattle.const_tree.proofs.PlaceLaws.{part_before}
+use Rattle.const_marks.specs.Imports.{import_limit}
+use Rattle.const_marks.specs.Items.{nodes_at}
+use Rattle.const_marks.specs.Rules.{name_of, spelled_names}
+use Rattle.const_marks.specs.Units.{Unit, text_in, tree_at, object_in, object_at}
+use Rattle.const_marks.proofs.IndexLemmas.{first_is, none_is}
+use Rattle.const_check.specs.declared.import_names.Declared.{Declared}
+use Rattle.const_check.specs.declared.refusal.Fault.TheVariants.{Rule as RuleFault}
+use Rattle.const_check.specs.declared.refusal.Refusal.{Refusal}
+use Rattle.const_check.specs.Gains.{Gains, SomeBelow}
+use Rattle.const_check.specs.Imports.{pairs, Names, AreNames, import_in, flag_at, AreUsed, least, IsLeast, IsFirst, is_before, RefusesIf, IsDeclared, ComesLater, IsUnused, RefusesName, RefusesNthName, RefusesImports}
+use Rattle.const_check.specs.Packages.{known_of}
+use Rattle.const_check.specs.Refusals.{IsImport, import_name, IsTaken, IsUsed, place_of}
+use Rattle.const_check.proofs.FaultLemmas.{same_refusal}
+use Rattle.const_check.proofs.GainLemmas.{gains_none, gains_as, gains_then, gains_some}
+use Rattle.const_check.proofs.Lists.{same_some, stands_in, contains_at}
 
--- one more file
-pub rows_more : (known : Known) (texts : List (List ℕ)) (trees : List FileTree) (f : ℕ) (text : List ℕ) (tree : FileTree) (old new : List FileImports) (row : FileImports)
-    → AreRows known texts trees f old → slice_get texts f ≡ Some text → slice_get trees f ≡ Some tree → IsRowOf (imports_of known text tree) row → new ≡ old ++ row ∷ []
-    → AreRows known texts trees (f + 1) new
-rows_more known texts trees f text tree old new row are text_at tree_at is push = record {
-  size = ap length push ∙ (length_push old row ∙ ap (λ n. n + 1) are.size);
-  each = λ g text_g tree_g row_g there_text there_tree stands.
-      elim (push_cases old row row_g g (ap (λ (xs : List FileImports). slice_get xs g) (sym push) ∙ stands)) [
-        | inl before ↦ are.each g text_g tree_g row_g there_text there_tree before
-        | inr (at, same) ↦
-            let here : g ≡ f = at ∙ are.size in
-            let e : text ≡ text_g = same_some (slice_get texts f) text text_g text_at (ap (slice_get texts) (sym here) ∙ there_text) in
-            let k : tree ≡ tree_g = same_some (slice_get trees f) tree tree_g tree_at (ap (slice_get trees) (sym here) ∙ there_tree) in
-            subst (λ (x : FileTree). IsRowOf (imports_of known text_g x) row_g) k
-            (subst (λ (x : List ℕ). IsRowOf (imports_of known x tree) row_g) e
-            (subst (λ (x : FileImports). IsRowOf (imports_of known text tree) x) (sym same) is))
-      ];
-}
+pub same_ref : (at : NodeRef) (f n : ℕ) → at.file ≡ f → at.node ≡ n → at ≡ place f n
+same_ref at f n file node = ap (λ x. place x at.node) file ∙ ap (λ y. place f y) node
 
--- the imports of a file by its number
-pub imports_is : (known : Known) (p : Package) (f : ℕ) (text : List ℕ) (tree : FileTree) → slice_get p.texts f ≡ Some text → slice_get p.trees f ≡ Some tree
-    → imports known p f ≡ imports_of known text tree
-imports_is known p f text tree text_at tree_at =
-    ap (λ (x : List ℕ). option_map_or (imports_of known x) (slice_get p.trees f) []) (get_or_from_slice_get p.texts f text [] text_at)
-    ∙ ap (λ (o : Option FileTree). option_map_or (imports_of known text) o []) tree_at
+-- ---- names
 
--- the row of a file has its imports
-pub row_there : (known : Known) (p : Package) (rows : List FileImports) (f : ℕ) → length p.texts ≡ length p.trees → AreRows known p.texts p.trees (length p.trees) rows
-    → f < length p.trees → (row : FileImports) × (slice_get rows f ≡ Some row) × IsRowOf (imports known p f) row
-row_there known p rows f sized are low =
-    let tree = there p.trees f low in
-    let text = there p.texts f (omega arith) in
-    let size = are.size in
-    let row = there rows f (omega arith) in
-    (row.0, row.1, subst (λ (x : List Import). IsRowOf x row.0) (sym (imports_is known p f text.0 tree.0 text.1 tree.1)) (are.each f text.0 tree.0 row.0 text.1 tree.1 row.1))
+abbrev pair_of : Declared → List ℕ × NodeRef
+pair_of d = (d.name.now, d.at)
 
--- the row that stands at a file's number is that of its imports
-pub row_is : (known : Known) (p : Package) (rows : List FileImports) (f : ℕ) (row : FileImports) → length p.texts ≡ length p.trees → AreRows known p.texts p.trees (length p.trees) rows
-    → f < length p.trees → row ≡ get_or rows f row → IsRowOf (imports known p f) row
-row_is known p rows f row sized are low stands =
-    let r = row_there known p rows f sized are low in
-    let size = are.size in
-    let same : r.0 ≡ row = same_some (slice_get rows f) r.0 row r.1 (slice_get-get_or rows f row (omega arith) ∙ ap Some (sym stands)) in
-    subst (λ (x : FileImports). IsRowOf (imports known p f) x) same r.2
+pub named_at : (u : Unit) (f : ℕ) (names : List Declared) (k : ℕ) (d : Declared) → AreNames u f names → slice_get names k ≡ Some d → Names u f d.at d.name.now
+named_at u f names k d are read =
+    (are.each d.at d.name.now).0 (contains_at (pairs names) k (d.name.now, d.at)
+    (slice_get-map pair_of names k ∙ ap (option_map pair_of) read))
 
--- an import that is found by its name is one of its file
-pub place_within : (names : List (List ℕ)) (q : List ℕ) (j : ℕ) → place_of names q ≡ Some j → j < length names
-place_within names q j h =
-    let first = first_is (λ spelling. bytes_eq spelling q) 0 names j h in
-    let place = first.place in
-    let low = slice_get_within names first.at first.item first.there in
-    omega arith
+pub record Stands (names : List Declared) (q : List ℕ) (at : NodeRef) : Type 0 where
+  pub place : ℕ
+  pub item : Declared
+  pub there : slice_get names place ≡ Some item
+  pub named : item.name.now ≡ q
+  pub node : item.at ≡ at
 
-pub named_within : (known : Known) (p : Package) (f j : ℕ) (q : List ℕ) → place_of (import_names known p f) q ≡ Some j → j < length (imports known p f)
-named_within known p f j q h =
-    let low = place_within (import_names known p f) q j h in
-    let size = length-map (imports known p f) (λ i. i.name) in
-    omega arith
+pub some_is : {X : Type 0} (a b : X) → Some a ≡ Some b → a ≡ b
+some_is a b h = cc
 
-pub named_somewhere : (known : Known) (p : Package) (f j : ℕ) (q : List ℕ) → place_of (import_names known p f) q ≡ Some j
-    → (i : Import) × (import_named known p f q ≡ Some i)
-named_somewhere known p f j q h =
-    let i = there (imports known p f) j (named_within known p f j q h) in
-    (i.0, ap (option_and_then (λ k. slice_get (imports known p f) k)) h ∙ i.1)
+stands_at : (names : List Declared) (i : ℕ) (p : List ℕ × NodeRef) (o : Option Declared) → slice_get names i ≡ o → option_map pair_of o ≡ Some p → Stands names p.0 p.1
+stands_at names i p None e h = absurd cc
+stands_at names i p (Some d) e h =
+    let same : pair_of d ≡ p = some_is (pair_of d) p h in
+    record { place = i; item = d; there = e; named = ap (λ (x : List ℕ × NodeRef). x.0) same; node = ap (λ (x : List ℕ × NodeRef). x.1) same }
 
--- a row has as many lines as its file has imports, and they show them
-pub lines_many : (known : Known) (p : Package) (f : ℕ) (row : FileImports) → IsRowOf (imports known p f) row → length row.list.items ≡ length (imports known p f)
-lines_many known p f row is = sym (length-map row.list.items line_of) ∙ ap length is.lines
+pub from_names : (u : Unit) (f : ℕ) (names : List Declared) (q : List ℕ) (at : NodeRef) → AreNames u f names → Names u f at q → Stands names q at
+from_names u f names q at are named =
+    let found = stands_in (pairs names) (q, at) ((are.each at q).1 named) in
+    stands_at names found.0 (q, at) (slice_get names found.0) refl (sym (slice_get-map pair_of names found.0) ∙ found.1)
 
-pub same_line : (known : Known) (p : Package) (f j : ℕ) (row : FileImports) (line : ImportLine) → IsRowOf (imports known p f) row
-    → slice_get row.list.items j ≡ Some line → slice_get (imports known p f) j ≡ Some (line_of line)
-same_line known p f j row line is read =
-    ap (λ (xs : List Import). slice_get xs j) (sym is.lines) ∙ (slice_get-map line_of row.list.items j ∙ ap (option_map line_of) read)
+pub first_of : (u : Unit) (f : ℕ) (names : List Declared) (q : List ℕ) (o : Option ℕ) → AreNames u f names → IsLeast names (length names) q o → IsFirst u f q o
+first_of u f names q None are none = λ at named.
+    let s = from_names u f names q at are named in none s.place (slice_get_within names s.place s.item s.there) s.item s.there s.named
+first_of u f names q (Some n) are ((j, d, low, read, named, node), all) = (
+  (let has = named_at u f names j d are read in
+      subst (λ (p : List ℕ). Names u f (place f n) p) named (subst (λ (at : NodeRef). Names u f at d.name.now) (same_ref d.at f n has.0 node) has)),
+  λ at other.
+      let s = from_names u f names q at are other in
+      subst (λ (x : NodeRef). n ≤ x.node) s.node (all s.place (slice_get_within names s.place s.item s.there) s.item s.there s.named),
+)
 
--- the names of a row's lines
-pub row_name : (lines : List ImportLine) (j : ℕ) (line : ImportLine) → slice_get lines j ≡ Some line → slice_get (line_names (lines_of lines)) j ≡ Some line.name.now
-row_name lines j line read =
-    slice_get-map (λ (i : Import). i.name) (lines_of lines) j
-    ∙ ap (option_map (λ (i : Import). i.name)) (slice_get-map line_of lines j ∙ ap (option_map line_of) read)
+le_true : (m n : ℕ) → nat_le m n ≡ true → m ≤ n
+le_true m n h = grind (arith, nat_tests)
 
-pub row_names : (list : List Import) (row : FileImports) → IsRowOf list row → (q : List ℕ) → found row.names q ≡ place_of (line_names (lines_of row.list.items)) q
-row_names list row is q = is.names q ∙ ap (λ (xs : List Import). place_of (line_names xs) q) (sym is.lines)
+le_false : (m n : ℕ) → nat_le m n ≡ false → n ≤ m
+le_false m n h = grind (arith, nat_tests)
 
--- the import that a name denotes in its file
-pub line_named : (known : Known) (p : Package) (f j : ℕ) (q : List ℕ) (row : FileImports) (line : ImportLine) → IsRowOf (imports known p f) row
-    → place_of (import_names known p f) q ≡ Some j → slice_get row.list.items j ≡ Some line → import_named known p f q ≡ Some (line_of line)
-line_named known p f j q row line is first read =
-    ap (option_and_then (λ k. slice_get (imports known p f) k)) first
-    ∙ (ap (λ (xs : List Import). slice_get xs j) (sym is.lines)
-    ∙ (slice_get-map line_of row.list.items j ∙ ap (option_map line_of) read))
+-- the import at the end has the name
+here : (list : List Declared) (k : ℕ) (d : Declared) (o : Option ℕ) → slice_get list k ≡ Some d → IsLeast list k d.name.now o → IsLeast list (k + 1) d.name.now (Some (least o d.at.node))
+here list k d None read none = (
+  (k, d, omega arith, read, refl, refl),
+  below_more (λ j. (e : Declared) → slice_get list j ≡ Some e → e.name.now ≡ d.name.now → d.at.node ≤ e.at.node) k (λ j low e r n. absurd (none j low e r n))
+      (λ e r n. subst (λ (x : Declared). d.at.node ≤ x.at.node) (same_some (slice_get list k) d e read r) (omega arith)),
+)
+here list k d (Some m) read ((j, e, low, r, n, node), all) = by (nat_le m d.at.node) refl where
+  by : (b : Bool) → nat_le m d.at.node ≡ b → IsLeast list (k + 1) d.name.now (Some (if b then m else d.at.node))
+  by true le = (
+    (j, e, omega arith, r, n, node),
+    below_more (λ i. (x : Declared) → slice_get list i ≡ Some x → x.name.now ≡ d.name.now → m ≤ x.at.node) k all
+        (λ x s h. subst (λ (y : Declared). m ≤ y.at.node) (same_some (slice_get list k) d x read s) (le_true m d.at.node le)),
+  )
+  by false le = (
+    (k, d, omega arith, read, refl, refl),
+    below_more (λ i. (x : Declared) → slice_get list i ≡ Some x → x.name.now ≡ d.name.now → d.at.node ≤ x.at.node) k
+        (λ i small x s h. let up = all i small x s h in let down = le_false m d.at.node le in omega arith)
+        (λ x s h. subst (λ (y : Declared). d.at.node ≤ y.at.node) (same_some (slice_get list k) d x read s) (omega arith)),
+  )
 
-pub none_named : (known : Known) (p : Package) (f : ℕ) (q : List ℕ) → place_of (import_names known p f) q ≡ None → import_named known p f q ≡ None
-none_named known p f q none = ap (option_and_then (λ k. slice_get (imports known p f) k)) none
+-- it has another
+apart : (list : List Declared) (k : ℕ) (d : Declared) (q : List ℕ) (o : Option ℕ) → slice_get list k ≡ Some d → (d.name.now ≡ q → ⊥) → IsLeast list k q o → IsLeast list (k + 1) q o
+apart list k d q None read differs none =
+    below_more (λ j. (e : Declared) → slice_get list j ≡ Some e → e.name.now ≡ q → ⊥) k none
+    (λ e r n. differs (ap (λ (x : Declared). x.name.now) (same_some (slice_get list k) d e read r) ∙ n))
+apart list k d q (Some m) read differs ((j, e, low, r, n, node), all) = (
+  (j, e, omega arith, r, n, node),
+  below_more (λ i. (x : Declared) → slice_get list i ≡ Some x → x.name.now ≡ q → m ≤ x.at.node) k all
+      (λ x s h. absurd (differs (ap (λ (y : Declared). y.name.now) (same_some (slice_get list k) d x read s) ∙ h))),
+)
 
--- the mark of a name that denotes an import
-pub used_before_dot : (env : Env) (before : Bool) (o : Option Import) (i : Import) → before ≡ true → o ≡ Some i → use_mark env before None o ≡ package_mark env i.path
-used_before_dot env before o i dot is = ap (λ (b : Bool). use_mark env b None o) dot ∙ ap (use_mark env true None) is
+pub least_more : (list : List Declared) (k : ℕ) (d : Declared) (old : List ℕ → Option ℕ) (q : List ℕ) (new : Option ℕ) → slice_get list k ≡ Some d
+    → ((q : List ℕ) → IsLeast list k q (old q)) → (same : Bool) → Decides same (d.name.now ≡ q) → new ≡ (if same then Some (least (old d.name.now) d.at.node) else old q)
+    → IsLeast list (k + 1) q new
+least_more list k d old q new read before true equal is =
+    subst (λ (o : Option ℕ). IsLeast list (k + 1) q o) (sym is)
+    (subst (λ (p : List ℕ). IsLeast list (k + 1) p (Some (least (old d.name.now) d.at.node))) (equal.0 refl) (here list k d (old d.name.now) read (before d.name.now)))
+least_more list k d old q new read before false equal is =
+    subst (λ (o : Option ℕ). IsLeast list (k + 1) q o) (sym is) (apart list k d q (old q) read (λ e. let t = equal.1 e in absurd cc) (before q))
 
-pub used_as_value : (env : Env) (before : Bool) (o : Option Import) (i : Import) → before ≡ false → o ≡ Some i → use_mark env before None o ≡ Bad NOT_A_VALUE
-used_as_value env before o i value is = ap (λ (b : Bool). use_mark env b None o) value ∙ ap (use_mark env false None) is
+-- ---- taken names
 
-pub used_for_nothing : (env : Env) (before : Bool) (o : Option Import) → o ≡ None → use_mark env before None o ≡ Bad UNDEFINED
-used_for_nothing env true o is = ap (use_mark env true None) is
-used_for_nothing env false o is = ap (use_mark env false None) is
+lt_true : (m n : ℕ) → nat_lt m n ≡ true → m < n
+lt_true m n h = grind (arith, nat_tests)
+
+true_lt : (m n : ℕ) → m < n → nat_lt m n ≡ true
+true_lt m n h = grind (arith, nat_tests)
+
+pub later_is : (u : Unit) (at : NodeRef) (q : List ℕ) (o : Option ℕ) (b : Bool) → IsFirst u at.file q o → b ≡ is_before o at.node → IsTrue b ↔ ComesLater u at q
+later_is u at q None b first is = (
+  λ h. absurd (let e : false ≡ true = sym is ∙ h in cc),
+  λ (other, import, file, before, named). absurd (first other (file, import, named)),
+)
+later_is u at q (Some n) b (named, all) is = (
+  λ h. (place at.file n, named.1, refl, inr (refl, lt_true n at.node (sym is ∙ h)), named.2),
+  λ (other, import, file, before, name).
+      let low = all other (file, import, name) in
+      is ∙ true_lt n at.node (elim before [ inl less ↦ absurd (omega arith) | inr (same, less) ↦ omega arith ]),
+)
+
+pub declared_some : (u : Unit) (name : List ℕ) (k : ℕ) → first_place (spelled_names u) name ≡ Some k → IsDeclared u name
+declared_some u name k h =
+    let f = first_is (λ spelling. bytes_eq spelling name) 0 (spelled_names u) k h in
+    by f.at f.item ((bytes_eq-Decides f.item name).0 f.passes) (slice_get (constants u.trees) f.at) refl (sym (slice_get-map (λ (c : Constant). name_of u c.name) (constants u.trees) f.at) ∙ f.there) where
+      by : (i : ℕ) (item : List ℕ) → item ≡ name → (o : Option Constant) → slice_get (constants u.trees) i ≡ o → option_map (λ (c : Constant). name_of u c.name) o ≡ Some item → IsDeclared u name
+      by i item same None e h = absurd cc
+      by i item same (Some c) e h = (c, contains_at (constants u.trees) i c e, let is : name_of u c.name ≡ item = cc in is ∙ same)
+
+pub declared_none : (u : Unit) (name : List ℕ) → first_place (spelled_names u) name ≡ None → IsDeclared u name → ⊥
+declared_none u name h (c, has, named) =
+    let s = stands_in (constants u.trees) c has in
+    let not : bytes_eq (name_of u c.name) name ≡ false =
+    none_is (λ spelling. bytes_eq spelling name) 0 (spelled_names u) h s.0 (name_of u c.name)
+    (slice_get-map (λ (c : Constant). name_of u c.name) (constants u.trees) s.0 ∙ ap (option_map (λ (c : Constant). name_of u c.name)) s.1) in
+    let is : bytes_eq (name_of u c.name) name ≡ true = (bytes_eq-Decides (name_of u c.name) name).1 named in
+    absurd cc
+
+-- ---- used imports
+
+import_back : (f : ℕ) (x : Option Object) (j : ℕ) → import_in f x ≡ Some j → x ≡ Some (o.Import (place f j))
+import_back f None j h = absurd cc
+import_back f (Some (o.Import m)) j h = by (m.file == f) refl h where
+  eq_true : (a b : ℕ) → (a == b) ≡ true → a ≡ b
+  eq_true a b h = grind (arith, nat_tests)
+
+  node_is : (m : NodeRef) → Some m.node ≡ Some j → m.node ≡ j
+  node_is m h = cc
+
+  by : (b : Bool) → (m.file == f) ≡ b → (if b then Some m.node else None) ≡ Some j → Some (o.Import m) ≡ Some (o.Import (place f j))
+  by true e h = ap (λ (x : NodeRef). Some (o.Import x)) (same_ref m f j (eq_true m.file f e) (node_is m h))
+  by false e h = absurd cc
+import_back f (Some (o.Universe i)) j h = absurd cc
+import_back f (Some (o.Local m)) j h = absurd cc
+import_back f (Some (o.Package m)) j h = absurd cc
+
+import_forth : (f j : ℕ) → import_in f (Some (o.Import (place f j))) ≡ Some j
+import_forth f j = by (f == f) (itself f) where
+  itself : (a : ℕ) → (a == a) ≡ true
+  itself a = grind (arith, nat_tests)
+
+  by : (b : Bool) → b ≡ true → (if b then Some j else None) ≡ Some j
+  by true e = refl
+  by false e = absurd cc
+
+node_low : (u : Unit) (at : NodeRef) (x : Object) → object_at u at ≡ Some x → at.node < length (nodes_at u at.file)
+node_low u at x h = by (tree_at u at.file) h where
+  inner : (tree : FileTree) (n : Option Node) → slice_get tree.nodes at.node ≡ n → option_and_then (λ (node : Node). object_in u.uses at) n ≡ Some x → at.node < length tree.nodes
+  inner tree None e h = absurd cc
+  inner tree (Some node) e h = slice_get_within tree.nodes at.node node e
+
+  by : (t : Option FileTree) → option_and_then (λ (node : Node). object_in u.uses at) (option_and_then (λ (tree : FileTree). slice_get tree.nodes at.node) t) ≡ Some x
+      → at.node < length (option_map_or (λ (tree : FileTree). tree.nodes) t [])
+  by None h = absurd cc
+  by (Some tree) h = inner tree (slice_get tree.nodes at.node) refl h
+
+-- the specs of imports are there
+spec_there : (tree : FileTree) → IsConstantFile tree → (tops : List ℕ) (n : ℕ) → Contains (specs_in tree tops) n → n < length tree.nodes
+spec_there tree file [] n (k, low, e) = absurd (omega arith)
+spec_there tree file (t ∷ ts) n has = elim (Contains-append_cases (piece_specs tree t) (specs_in tree ts) n has) [
+  | inl now ↦ by (is_import (node_in tree t).kind) now
+  | inr later ↦ spec_there tree file ts n later
+] where
+  part_there : Contains (node_in tree t).parts n → n < length tree.nodes
+  part_there has = elim (cases_lt t (length tree.nodes)) [
+    | inl low ↦
+        let before = part_before tree file t (node_in tree t) (slice_get-get_or tree.nodes t no_node low) n has in
+        omega arith
+    | inr past ↦
+        let none : Contains [] n = subst (λ (node : Node). Contains node.parts n) (get_or_past tree.nodes t no_node past) has in
+        absurd (let (k, low, e) = none in omega arith)
+  ]
+
+  by : (b : Bool) → Contains (cond b (node_in tree t).parts []) n → n < length tree.nodes
+  by true has = part_there has
+  by false (k, low, e) = absurd (omega arith)
+
+import_low : (u : Unit) (at : NodeRef) → AreConstantFiles u.trees → IsImport u at → at.node < length (nodes_at u at.file)
+import_low u at files (tree, there, has) =
+    subst (λ (o : Option FileTree). at.node < length (option_map_or (λ (tree : FileTree). tree.nodes) o [])) (sym there) (spec_there tree (files.each at.file tree there) tree.tops at.node has)
+
+pub used_flag : (u : Unit) (at : NodeRef) (flags : List Bool) → AreConstantFiles u.trees → AreUsed u at.file (length (nodes_at u at.file)) flags → IsImport u at → flag_at flags at.node ↔ IsUsed u at
+used_flag u at flags files used import = (
+  λ h. let ((k, low, uses), within) = (used.each at.node).0 h in (place at.file k, refl, import_back at.file (object_at u (place at.file k)) at.node uses),
+  λ (n, file, denotes).
+      let same = same_ref n at.file n.node file refl in
+      let low = node_low u n (o.Import at) denotes in
+      (used.each at.node).1 (
+        (
+          n.node,
+          subst (λ g. n.node < length (nodes_at u g)) file low,
+          ap (import_in at.file) (ap (object_at u) (sym same) ∙ denotes) ∙ import_forth at.file at.node,
+        ),
+        import_low u at files import,
+      ),
+)
+
+pub unused_is : (u : Unit) (at : NodeRef) (flags : List Bool) (b : Bool) → AreConstantFiles u.trees → AreUsed u at.file (length (nodes_at u at.file)) flags → IsImport u at
+    → import_limit u at ≡ None → (IsTrue b ↔ flag_at flags at.node) → IsTrue (not b) ↔ IsUnused u at
+unused_is u at flags true files used import none is = (
+  λ h. absurd cc,
+  λ (limit, unused). absurd (unused ((used_flag u at flags files used import).0 (is.0 refl))),
+)
+unused_is u at flags false files used import none is = (
+  λ h. (none, λ uses. let e : false ≡ true = is.1 ((used_flag u at flags files used import).1 uses) in absurd cc),
+  λ unused. refl,
+)
+
+-- ---- faults
+
+pub import_gains : (u : Unit) (at : NodeRef) (name : List ℕ) (taken unused : Bool) (lies : Place) (old mid new : List Refusal) → lies ≡ place_of u at → (IsTrue taken ↔ IsTaken u at name)
+    → (IsTrue unused ↔ IsUnused u at) → Gains (RefusesIf taken lies REDECLARED) old mid → Gains (RefusesIf unused lies UNUSED_IMPORT) mid new → Gains (RefusesName u at name) old new
+import_gains u at name taken unused lies old mid new is is_taken is_unused first second =
+    gains_as (λ x. RefusesIf taken lies REDECLARED x ⊎ RefusesIf unused lies UNUSED_IMPORT x) (RefusesName u at name) old new
+    (gains_then (RefusesIf taken lies REDECLARED) (RefusesIf unused lies UNUSED_IMPORT) old mid new first second) (λ x. (
+      λ h. elim h [
+        | inl (broken, same) ↦ (ap (λ (y : Refusal). y.place) same ∙ is, inl (ap (λ (y : Refusal). y.fault) same, is_taken.0 broken))
+        | inr (broken, same) ↦ (ap (λ (y : Refusal). y.place) same ∙ is, inr (ap (λ (y : Refusal). y.fault) same, (is_unused.0 broken).0, (is_unused.0 broken).1))
+      ],
+      λ (here, fault). elim fault [
+        | inl (redeclared, holds) ↦ inl (is_taken.1 holds, same_refusal x lies (RuleFault REDECLARED) (here ∙ sym is) redeclared)
+        | inr (never, limit, holds) ↦ inr (is_unused.1 (limit, holds), same_refusal x lies (RuleFault UNUSED_IMPORT) (here ∙ sym is) never)
+      ],
+    ))
+
+-- the import at a place of the list
+pub name_gains : (u : Unit) (list : List Declared) (k : ℕ) (d : Declared) (old new : List Refusal) → slice_get list k ≡ Some d → Gains (RefusesName u d.at d.name.now) old new → Gains (RefusesNthName u list k) old new
+name_gains u list k d old new read gains = gains_some (slice_get list k) (λ (e : Declared). RefusesName u e.at e.name.now) d old new read gains
+
+pub names_gain : (u : Unit) (f : ℕ) (names : List Declared) (old new : List Refusal) → AreNames u f names → Gains (SomeBelow (length names) (RefusesNthName u names)) old new → Gains (RefusesImports u f) old new
+names_gain u f names old new are gains =
+    gains_as (SomeBelow (length names) (RefusesNthName u names)) (RefusesImports u f) old new gains (λ x. (
+      λ (k, low, (d, read, refuses)). (d.at, d.name.now, named_at u f names k d are read, refuses),
+      λ (at, name, named, refuses).
+          let s = from_names u f names name at are named in (
+            s.place,
+            slice_get_within names s.place s.item s.there,
+            (
+              s.item,
+              s.there,
+              subst (λ (a : NodeRef). RefusesName u a s.item.name.now x) (sym s.node) (subst (λ (q : List ℕ). RefusesName u at q x) (sym s.named) refuses),
+            ),
+          ),
+    ))
+
+pub no_imports : (u : Unit) (f : ℕ) (list : List Refusal) → tree_at u f ≡ None → Gains (RefusesImports u f) list list
+no_imports u f list none = gains_none (RefusesImports u f) list list refl (λ x (at, name, named, refuses).
+    differ (tree_at u f) named.1.0 none (ap (tree_at u) (sym named.0) ∙ named.1.1)) where
+      differ : (o : Option FileTree) (t : FileTree) → o ≡ None → o ≡ Some t → ⊥
+      differ o t p q = cc
+
+-- ---- the names of a file's imports
+
+pub lines_size : (tree : FileTree) (source : List ℕ) (specs : List ℕ) (lines : List ImportLine) → specs ≡ specs_in tree tree.tops → lines ≡ imports_of tree source tree.tops → length lines ≡ length specs
+lines_size tree source specs lines is_specs is_lines =
+    ap length (is_lines ∙ lines_are tree source tree.tops) ∙ (map_size (import_line tree source) (specs_in tree tree.tops) ∙ ap length (sym is_specs))
+
+name_is : (u : Unit) (at : NodeRef) (tree : FileTree) → tree_at u at.file ≡ Some tree → import_name u at ≡ line_name (known_of u.env) (import_line tree (text_in u at.file) at.node)
+name_is u at tree there = ap (λ (o : Option FileTree). option_map_or (λ (tree : FileTree). line_name (known_of u.env) (import_line tree (text_in u at.file) at.node)) o None) there
+
+pub are_names : (u : Unit) (f : ℕ) (tree : FileTree) (specs : List ℕ) (lines : List ImportLine) (names : List Declared) → tree_at u f ≡ Some tree → specs ≡ specs_in tree tree.tops
+    → lines ≡ imports_of tree (text_in u f) tree.tops → pairs names ≡ imported (known_of u.env) f specs lines → AreNames u f names
+are_names u f tree specs lines names there is_specs is_lines is = record { each = λ at name. (λ has. down at name has, λ named. up at name named) } where
+  text : List ℕ
+  text = text_in u f
+
+  whole : pairs names ≡ imported (known_of u.env) f (specs_in tree tree.tops) (map (import_line tree (text_in u f)) (specs_in tree tree.tops))
+  whole =
+      is ∙ (ap (λ l. imported (known_of u.env) f l lines) is_specs
+      ∙ ap (λ l. imported (known_of u.env) f (specs_in tree tree.tops) l) (is_lines ∙ lines_are tree (text_in u f) tree.tops))
+
+  down : (at : NodeRef) (name : List ℕ) → Contains (pairs names) (name, at) → Names u f at name
+  down at name has =
+      let r = from_imported (known_of u.env) f (import_line tree (text_in u f)) (specs_in tree tree.tops) name at (subst (λ (l : List (List ℕ × NodeRef)). Contains l (name, at)) whole has) in
+      let here : tree_at u at.file ≡ Some tree = ap (tree_at u) r.0 ∙ there in
+      (r.0, (tree, here, r.1), name_is u at tree here ∙ (ap (λ g. line_name (known_of u.env) (import_line tree (text_in u g) at.node)) r.0 ∙ r.2))
+
+  up : (at : NodeRef) (name : List ℕ) → Names u f at name → Contains (pairs names) (name, at)
+  up at name (file, (other, here, has), named) =
+      let same : other ≡ tree = same_some (tree_at u f) other tree (ap (tree_at u) (sym file) ∙ here) there in
+      let among : Contains (specs_in tree tree.tops) at.node = subst (λ (t : FileTree). Contains (specs_in t t.tops) at.node) same has in
+      let line : line_name (known_of u.env) (import_line tree (text_in u f) at.node) ≡ Some name =
+      ap (λ g. line_name (known_of u.env) (import_line tree (text_in u g) at.node)) (sym file) ∙ (sym (name_is u at tree (ap (tree_at u) file ∙ there)) ∙ named) in
+      subst (λ (l : List (List ℕ × NodeRef)). Contains l (name, at)) (sym whole)
+      (subst (λ (a : NodeRef). Contains (imported (known_of u.env) f (specs_in tree tree.tops) (map (import_line tree (text_in u f)) (specs_in tree tree.tops))) (name, a))
+      (sym (same_ref at f at.node file refl))
+      (to_imported (known_of u.env) f (import_line tree (text_in u f)) (specs_in tree tree.tops) name at.node among line))
+
+pub none_of : {X : Type 0} (o : Option X) (b : Bool) → b ≡ is_some o → b ≡ false → o ≡ None
+none_of None b is h = refl
+none_of (Some x) b is h = absurd cc

@@ -6,10 +6,10 @@ use Rattle.std.proofs.lemmas.List.{length_push, get_or_push, take_more, get_or_d
 use Rattle.std.proofs.lemmas.List.Sorted.{All-permutation, Contains-permutation}
 use Rattle.std.proofs.lemmas.List.Elements.{All-contains, Contains-get_or, Contains-append_left, Contains-push, Contains-push_cases}
 use Rattle.std.proofs.lemmas.Option.{slice_get_within, slice_get-get_or}
-use Rattle.const_check.specs.declared.mark.Refusal.{Refusal}
-use Rattle.const_check.specs.Refusals.{Precedes, IsOrdered, AddsLast, rank_of}
-use Rattle.const_check.proofs.Standing.{same_some}
-use Rattle.const_check.proofs.GraphLemmas.{push_cases}
+use Rattle.const_check.specs.declared.refusal.Refusal.{Refusal}
+use Rattle.const_check.specs.Refusals.{Precedes, IsOrdered}
+use Rattle.const_check.specs.Order.{AddsLast, rank_of}
+use Rattle.const_check.proofs.Lists.{same_some, push_cases}
 
 ordered_more : (old : List Refusal) (x : Refusal) → ((last : Refusal) → slice_get old (length old - 1) ≡ Some last → Precedes last x)
     → IsOrdered old → IsOrdered (old ++ x ∷ [])

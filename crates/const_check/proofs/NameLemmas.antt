@@ -1,47 +1,55 @@
--- What names denote, by their first place among the declared names.
-use Rattle.std.proofs.Common.{◌≡◌, ℕ, List, Bool, true, false, if◌then◌else◌, slice_get, Option, Some, None, option_map, unwrap_or, is_some, not, cond, refl, sym, ap, ◌∙◌, arith}
-use Rattle.std.specs.Bool.{Decides}
+-- The names that imports declare.
+use Rattle.std.proofs.Common.{◌≡◌, ℕ, suc, ◌+◌, Bool, true, false, cond, List, [], ◌∷◌, ◌++◌, slice_get, Option, Some, None, option_map, option_and_then, refl, sym, ap, ◌∙◌, arith}
 use Rattle.std.specs.Str.{bytes_eq}
-use Rattle.std.proofs.lemmas.Slice.Eq.{bytes_eq-Decides}
-use Rattle.std.proofs.lemmas.Option.{slice_get-map}
-use Rattle.go_tree.specs.declared.declaration.Declaration.{Declaration}
+use Rattle.std.specs.List.{position_from}
+use Rattle.std.proofs.lemmas.List.{append-nil}
 use Rattle.go_tree.specs.Lexeme.{place_of}
-use Rattle.go_tree.specs.Names.{Package, declared, name_of, Denoted}
-use Rattle.const_check.specs.Packages.{declared_names}
-use Rattle.const_check.proofs.IndexLemmas.{first_is, none_is}
+use Rattle.go_tree.specs.declared.tree.NodeRef.{NodeRef}
+use Rattle.export_data.specs.declared.constants.ConstInterface.{ConstInterface}
+use Rattle.bind.specs.Imports.{package_of}
+use Rattle.bind.specs.Package.{listed}
+use Rattle.bind.proofs.ImportLemmas.{map_join}
+use Rattle.const_marks.specs.Imports.{paths_of}
+use Rattle.const_check.specs.Packages.{known_of}
+use Rattle.const_check.specs.Imports.{pairs}
+use Rattle.const_check.specs.declared.import_names.Declared.{Declared}
 
--- a name that stands for no place yet
-pub new_name : (old : List ℕ → Option ℕ) (name q : List ℕ) (object : ℕ) (new : Option ℕ) (same : Bool) → Decides same (name ≡ q)
-    → old name ≡ None → new ≡ cond same (Some object) (old q) → new ≡ (if same then Some (unwrap_or (old q) object) else old q)
-new_name old name q object new true equal none is =
-    is ∙ ap (λ o. Some (unwrap_or o object)) (sym none ∙ ap old (equal.0 refl))
-new_name old name q object new false equal none is = is
+pub push_listed : (old new : List Declared) (x : Declared) (o : Option (List ℕ)) (at : NodeRef) → new ≡ old ++ x ∷ [] → o ≡ Some x.name.now → x.at ≡ at → pairs new ≡ pairs old ++ listed o at
+push_listed old new x o at is named place =
+    ap pairs is ∙ (map_join (λ (d : Declared). (d.name.now, d.at)) old (x ∷ [])
+    ∙ (ap (λ a. pairs old ++ (x.name.now, a) ∷ []) place ∙ ap (λ n. pairs old ++ listed n at) (sym named)))
 
-pub none_from : (o : Option ℕ) (b : Bool) → is_some o ≡ not b → b ≡ true → o ≡ None
-none_from None b e h = refl
-none_from (Some x) b e h = absurd cc
+pub none_listed : (old : List Declared) (o : Option (List ℕ)) (at : NodeRef) → o ≡ None → pairs old ≡ pairs old ++ listed o at
+none_listed old o at is = sym (append-nil (pairs old)) ∙ ap (λ n. pairs old ++ listed n at) (sym is)
 
-some_mapped : (o : Option Declaration) (f : Declaration → List ℕ) (x : List ℕ) → option_map f o ≡ Some x → (d : Declaration) × (o ≡ Some d) × (f d ≡ x)
-some_mapped None f x h = absurd cc
-some_mapped (Some d) f x h = (d, refl, cc)
+-- ---- the name of the package to which a path leads
 
-name_there : (p : Package) (j : ℕ) (d : Declaration) → slice_get (declared p) j ≡ Some d → slice_get (declared_names p) j ≡ Some (name_of p d)
-name_there p j d read = slice_get-map (name_of p) (declared p) j ∙ ap (option_map (name_of p)) read
+abbrev name_after : List ConstInterface → ℕ → ℕ → Option (List ℕ)
+name_after env i k = option_map (λ (x : ConstInterface). x.name) (slice_get env k)
 
-apart : (x y : List ℕ) → bytes_eq x y ≡ false → ¬ (x ≡ y)
-apart x y not same = let e : bytes_eq x y ≡ true = (bytes_eq-Decides x y).1 same in absurd cc
+-- the name of the interface at a place that is counted from another on
+leads : (env : List ConstInterface) (path : List ℕ) (i : ℕ) (whole : List ConstInterface)
+    → ((k : ℕ) → slice_get whole (i + k) ≡ slice_get env k)
+    → option_and_then (λ k. option_map (λ (x : ConstInterface). x.name) (slice_get whole k)) (position_from (λ spelling. bytes_eq spelling path) i (paths_of env)) ≡ package_of (known_of env) path
+leads [] path i whole same = refl
+leads (e ∷ env) path i whole same =
+    by (bytes_eq e.path path) (leads env path (i + 1) whole (λ k. let up : i + 1 + k ≡ i + suc k = omega arith in ap (slice_get whole) up ∙ same (suc k))) where
+      first : slice_get whole i ≡ Some e
+      first = let zero_more : i ≡ i + 0 = omega arith in ap (slice_get whole) zero_more ∙ same 0
 
--- the first place of a name is what it denotes
-pub denoted_at : (p : Package) (name : List ℕ) (o : Option ℕ) → o ≡ place_of (declared_names p) name → Denoted p name o
-denoted_at p name None is = λ k d read. apart (name_of p d) name
-    (none_is (λ spelling. bytes_eq spelling name) 0 (declared_names p) (sym is) k (name_of p d) (name_there p k d read))
-denoted_at p name (Some k) is =
-    let first = first_is (λ spelling. bytes_eq spelling name) 0 (declared_names p) k (sym is) in
-    let at : first.at ≡ k = let place = first.place in omega arith in
-    let d = some_mapped (slice_get (declared p) first.at) (name_of p) first.item (sym (slice_get-map (name_of p) (declared p) first.at) ∙ first.there) in
-    record {
-      declaration = d.0;
-      «is» = ap (slice_get (declared p)) (sym at) ∙ d.1;
-      named = d.2 ∙ (bytes_eq-Decides first.item name).0 first.passes;
-      first = λ j e low read. apart (name_of p e) name (first.first j (name_of p e) (omega arith) (name_there p j e read));
-    }
+      by : (b : Bool) → option_and_then (λ k. option_map (λ (x : ConstInterface). x.name) (slice_get whole k)) (position_from (λ spelling. bytes_eq spelling path) (i + 1) (paths_of env)) ≡ package_of (known_of env) path
+          → option_and_then (λ k. option_map (λ (x : ConstInterface). x.name) (slice_get whole k)) (cond b (Some i) (position_from (λ spelling. bytes_eq spelling path) (i + 1) (paths_of env)))
+          ≡ cond b (Some e.name) (package_of (known_of env) path)
+      by true rest = ap (option_map (λ (x : ConstInterface). x.name)) first
+      by false rest = rest
+
+pub package_is : (env : List ConstInterface) (path : List ℕ) → option_and_then (λ k. option_map (λ (x : ConstInterface). x.name) (slice_get env k)) (place_of (paths_of env) path) ≡ package_of (known_of env) path
+package_is env path = leads env path 0 env (λ k. let same : 0 + k ≡ k = omega arith in ap (slice_get env) same)
+
+pub leads_some : (env : List ConstInterface) (path : List ℕ) (result : Option ℕ) (place : ℕ) (name : Option (List ℕ)) → result ≡ place_of (paths_of env) path → result ≡ Some place
+    → name ≡ option_map (λ (x : ConstInterface). x.name) (slice_get env place) → name ≡ package_of (known_of env) path
+leads_some env path result place name is there name_is =
+    name_is ∙ (ap (option_and_then (λ k. option_map (λ (x : ConstInterface). x.name) (slice_get env k))) (sym there ∙ is) ∙ package_is env path)
+
+pub leads_none : (env : List ConstInterface) (path : List ℕ) (result : Option ℕ) → result ≡ place_of (paths_of env) path → result ≡ None → None ≡ package_of (known_of env) path
+leads_none env path result is there = ap (option_and_then (λ k. option_map (λ (x : ConstInterface). x.name) (slice_get env k))) (sym there ∙ is) ∙ package_is env path

@@ -15,8 +15,8 @@ use Rattle.std.proofs.lemmas.List.Sorted.{IsPermutation-keeps}
 use Rattle.std.proofs.lemmas.Option.{slice_get_within, slice_get-get_or, get_or_from_slice_get}
 use Rattle.export_data.specs.declared.constants.ConstOut.{ConstOut}
 use Rattle.export_data.specs.Order.{comes_before, rises_from, names_rise}
-use Rattle.const_check.specs.Interfaces.{AreDistinct}
-use Rattle.const_check.proofs.GraphLemmas.{push_cases}
+use Rattle.const_check.specs.Exports.{AreDistinct}
+use Rattle.const_check.proofs.Lists.{push_cases}
 
 abbrev pub before : ConstOut → ConstOut → Bool
 before a b = is_lt (slice_cmp nat_cmp a.name b.name)

@@ -1,25 +1,32 @@
--- A package that has been checked.
-use Rattle.std.specs.Prelude.{◌≡◌}
-use Rattle.go_tree.specs.Names.{Package}
-use Rattle.const_check.specs.declared.mark.Mark.{Mark}
-use Rattle.const_check.specs.declared.check.Checked.{Checked}
-use Rattle.const_check.specs.Rules.{Env}
-use Rattle.const_check.specs.Items.{Item, IsItem, Annotated}
-use Rattle.const_check.specs.Packages.{shown, env_of, IsRead}
-use Rattle.const_check.specs.Annotations.{IsSized, marks_of}
+-- What has been found of a unit.
+use Rattle.std.specs.Prelude.{◌≡◌, ◌⊎◌, ◌↔◌, true, List}
+use Rattle.std.specs.List.{Contains}
+use Rattle.export_data.specs.declared.constants.ConstOut.{ConstOut}
+use Rattle.export_data.specs.Order.{names_rise}
+use Rattle.typed_tree.specs.declared.annotation.Annotation.{Annotation}
+use Rattle.typed_tree.specs.declared.annotation.Marked.{Marked}
+use Rattle.typed_tree.specs.Meanings.{Meaning}
+use Rattle.const_marks.specs.Rules.{IsAnnotation}
+use Rattle.const_marks.specs.Units.{Unit}
+use Rattle.const_check.specs.declared.refusal.Refusal.{Refusal}
+use Rattle.const_check.specs.Faults.{RefusesFiles, RefusesObjects, RefusesCopies}
+use Rattle.const_check.specs.Imports.{RefusesAllImports}
+use Rattle.const_check.specs.Interfaces.{IsExported}
+use Rattle.const_check.specs.Refusals.{IsRefused}
 
--- the package
-abbrev pub package_in : Checked → Package
-package_in checked = shown checked.constants
+-- what is refused, as it is collected: nodes, constants, copies, imports
+abbrev pub IsCollected : Unit → Annotation → Refusal → Type 0
+IsCollected u a x = ((RefusesFiles u a x ⊎ RefusesObjects u a x) ⊎ RefusesCopies u a x) ⊎ RefusesAllImports u x
 
--- its environment
-abbrev pub env_in : Checked → Env
-env_in checked = env_of checked.constants
+-- the list is that of all that refuses the unit, whatever annotation is read
+pub record HasMarks (u : Unit) (list : List Refusal) : Type 0 where
+  pub marks : Marked → Meaning
+  pub annotated : IsAnnotation u marks
+  pub each : (other : Marked → Meaning) → IsAnnotation u other → (x : Refusal) → Contains list x ↔ IsRefused u other x
 
--- It holds the one annotation of the package over its environment.
-pub record IsChecked (checked : Checked) : Type 0 where
-  pub read : IsRead checked.constants
-  pub sized : IsSized (package_in checked) checked.marks
-  pub annotated : Annotated (env_in checked) (package_in checked) (marks_of checked.marks)
-  pub alone : (marks : Item → Mark) → Annotated (env_in checked) (package_in checked) marks
-      → (i : Item) → IsItem (package_in checked) i → marks i ≡ marks_of checked.marks i
+-- the list is what the unit exports
+pub record HasExports (u : Unit) (list : List ConstOut) : Type 0 where
+  pub rise : names_rise list ≡ true
+  pub marks : Marked → Meaning
+  pub annotated : IsAnnotation u marks
+  pub each : (other : Marked → Meaning) → IsAnnotation u other → (out : ConstOut) → Contains list out ↔ IsExported u other out

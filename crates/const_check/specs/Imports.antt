@@ -1,118 +1,115 @@
--- What the imports of a file declare, and what a name denotes beside the constants (Go 1.17, "Import declarations",
--- "Declarations and scope").
-use Rattle.std.specs.Prelude.{◌≡◌, ◌⊎◌, ℕ, ◌+◌, Bool, true, false, ◌||◌, ◌==◌, if◌then◌else◌, List, [], ◌∷◌, map, filter, take, Option, Some, slice_get, slice_index_or, option_and_then}
+-- The imports of a file, as they are read: the names that they declare, and which of them are used.
+use Rattle.std.specs.Prelude.{◌≡◌, ℕ, ◌<◌, ◌≤◌, ◌⊎◌, ◌↔◌, ◌==◌, nat_le, nat_lt, Bool, true, false, if◌then◌else◌, List, map, length, Option, Some, None, slice_get}
 use Rattle.std.specs.List.{Contains}
-use Rattle.std.specs.Option.{option_map_or}
-use Rattle.go_tree.specs.declared.tree.Node.{Node}
-use Rattle.go_tree.specs.declared.tree.NodeKind.{NodeKind}
-use Rattle.go_tree.specs.declared.tree.NodeKind.TheVariants.{ImportPath, ImportNamed, Selector}
-use Rattle.go_tree.specs.declared.tree.FileTree.{FileTree}
-use Rattle.go_tree.specs.Escapes.{inner}
-use Rattle.go_tree.specs.Lexeme.{place_of}
-use Rattle.go_tree.specs.declared.declaration.Declaration.{Declaration}
-use Rattle.go_tree.specs.Names.{Package, node_at, spelled_at, token_text, is_name, declared, IsUndeclared}
-use Rattle.go_tree.specs.Needs.{IsInValue}
+use Rattle.go_tree.specs.declared.bindings.Object.{Object}
+use Rattle.go_tree.specs.declared.bindings.Object.TheVariants as o
+use Rattle.go_tree.specs.declared.tree.NodeRef.{NodeRef}
+use Rattle.object_order.specs.Spots.{place}
+use Rattle.go_tree.specs.Bindings.{IsBefore}
+use Rattle.gv_base.specs.declared.place.Place.{Place}
+use Rattle.typed_tree.specs.declared.rule.Rule.{Rule}
+use Rattle.const_tree.specs.declared.constant.Constant.{Constant}
+use Rattle.const_tree.specs.Constants.{constants}
+use Rattle.const_marks.specs.Imports.{import_limit}
+use Rattle.const_marks.specs.Rules.{name_of}
+use Rattle.const_marks.specs.Units.{Unit, object_at}
+use Rattle.const_marks.specs.Items.{nodes_at}
+use Rattle.const_check.specs.declared.import_names.Declared.{Declared}
+use Rattle.const_check.specs.declared.refusal.Refusal.{Refusal}
+use Rattle.const_check.specs.declared.refusal.Fault.TheVariants.{Rule as RuleFault}
+use Rattle.const_check.specs.Gains.{SomeBelow}
+use Rattle.const_check.specs.Refusals.{IsImport, import_name, place_of, IsUsed, HasImportFault}
 
--- A declared import: its name, the path that it imports, and where it begins.
-pub record Import : Type 0 where
-  pub name : List ℕ
-  pub path : List ℕ
-  pub at : ℕ
+-- ---- names
 
--- the packages to which imports may lead: the path of each, and its name
-abbrev pub Known : Type 0
-Known = List (List ℕ × List ℕ)
+abbrev pub pairs : List Declared → List (List ℕ × NodeRef)
+pairs list = map (λ (d : Declared). (d.name.now, d.at)) list
 
--- an import without a name of its own
-abbrev pub is_path_import : NodeKind → Bool
-is_path_import ImportPath = true
-is_path_import _ = false
+-- the import declares the name
+abbrev pub Names : Unit → ℕ → NodeRef → List ℕ → Type 0
+Names u f at name = (at.file ≡ f) × IsImport u at × (import_name u at ≡ Some name)
 
--- an import with one
-abbrev pub is_named_import : NodeKind → Bool
-is_named_import ImportNamed = true
-is_named_import _ = false
+-- the names that the imports of a file declare
+pub record AreNames (u : Unit) (f : ℕ) (list : List Declared) : Type 0 where
+  pub each : (at : NodeRef) (name : List ℕ) → Contains (pairs list) (name, at) ↔ Names u f at name
 
-abbrev pub is_import : NodeKind → Bool
-is_import kind = is_path_import kind || is_named_import kind
+-- ---- uses
 
-abbrev pub is_slash : ℕ → Bool
-is_slash b = b == 47
+-- the import of this file that an object is
+abbrev pub import_in : ℕ → Option Object → Option ℕ
+import_in f None = None
+import_in f (Some (o.Import at)) = if at.file == f then Some at.node else None
+import_in f (Some (o.Universe i)) = None
+import_in f (Some (o.Local at)) = None
+import_in f (Some (o.Package at)) = None
 
--- what stands behind the last slash of some bytes; what was kept where they have none
-abbrev pub behind_slashes : List ℕ → List ℕ → List ℕ
-behind_slashes kept [] = kept
-behind_slashes kept (b ∷ bs) = behind_slashes (if is_slash b then bs else kept) bs
+-- one of the first few nodes of a file denotes the import at a node
+abbrev pub UsesBelow : Unit → ℕ → ℕ → ℕ → Type 0
+UsesBelow u f n j = (k : ℕ) × (k < n) × (import_in f (object_at u (place f k)) ≡ Some j)
 
--- what stands behind the last slash of a path, or all of it
-abbrev pub last_segment : List ℕ → List ℕ
-last_segment path = behind_slashes path path
+abbrev pub flag_at : List Bool → ℕ → Type 0
+flag_at flags j = slice_get flags j ≡ Some true
 
--- the name of the package of a path; where the path leads to none, its last segment
-abbrev pub package_name : Known → List ℕ → List ℕ
-package_name known path =
-    option_map_or (λ k. (slice_index_or known k ([], [])).1) (place_of (map (λ e. e.0) known) path) (last_segment path)
+-- a flag is set where there is one, and all else stays
+pub record SetsFlag (at : Option ℕ) (old new : List Bool) : Type 0 where
+  pub size : length new ≡ length old
+  pub each : (j : ℕ) → flag_at new j ↔ (flag_at old j ⊎ ((at ≡ Some j) × (j < length old)))
 
--- the bytes of a token by its number
-abbrev pub text_at : List ℕ → FileTree → ℕ → List ℕ
-text_at text tree t = option_map_or (token_text text) (slice_get tree.tokens t) []
+-- the flags say which nodes are denoted as imports by the first few nodes
+pub record AreUsed (u : Unit) (f n : ℕ) (flags : List Bool) : Type 0 where
+  pub size : length flags ≡ length (nodes_at u f)
+  pub each : (j : ℕ) → flag_at flags j ↔ (UsesBelow u f n j × (j < length (nodes_at u f)))
 
--- where a token begins
-abbrev pub start_at : FileTree → ℕ → ℕ
-start_at tree t = option_map_or (λ token. token.start) (slice_get tree.tokens t) 0
+-- ---- the first import by each name
 
--- the path of an import: what its last token quotes
-abbrev pub path_of : List ℕ → FileTree → Node → List ℕ
-path_of text tree node = inner (text_at text tree node.last)
+-- the least of a node that is kept and another
+abbrev pub least : Option ℕ → ℕ → ℕ
+least None n = n
+least (Some k) n = if nat_le k n then k else n
 
--- What an import declares: its own name where it has one, else that of the package to which it leads.
-abbrev pub import_of : Known → List ℕ → FileTree → Node → Import
-import_of known text tree node = record {
-  name = if is_named_import node.kind then text_at text tree node.first else package_name known (path_of text tree node);
-  path = path_of text tree node;
-  at = start_at tree node.first;
-}
+abbrev pub HasNode : List Declared → ℕ → List ℕ → ℕ → Type 0
+HasNode list k q n = (j : ℕ) × (d : Declared) × (j < k) × (slice_get list j ≡ Some d) × (d.name.now ≡ q) × (d.at.node ≡ n)
 
--- the imports of a file, in their order
-abbrev pub imports_of : Known → List ℕ → FileTree → List Import
-imports_of known text tree = map (import_of known text tree) (filter (λ node. is_import node.kind) tree.nodes)
+-- the least node of those of the first few imports that have a name
+abbrev pub IsLeast : List Declared → ℕ → List ℕ → Option ℕ → Type 0
+IsLeast list k q None = (j : ℕ) → j < k → (d : Declared) → slice_get list j ≡ Some d → d.name.now ≡ q → ⊥
+IsLeast list k q (Some n) = HasNode list k q n × ((j : ℕ) → j < k → (d : Declared) → slice_get list j ≡ Some d → d.name.now ≡ q → n ≤ d.at.node)
 
--- those of the file of a number; an import's number is its place among them
-abbrev pub imports : Known → Package → ℕ → List Import
-imports known p f = option_map_or (imports_of known (slice_index_or p.texts f [])) (slice_get p.trees f) []
+-- the least node of the imports of a file that have a name
+abbrev pub IsFirst : Unit → ℕ → List ℕ → Option ℕ → Type 0
+IsFirst u f q None = (at : NodeRef) → Names u f at q → ⊥
+IsFirst u f q (Some n) = Names u f (place f n) q × ((at : NodeRef) → Names u f at q → n ≤ at.node)
 
-abbrev pub import_names : Known → Package → ℕ → List (List ℕ)
-import_names known p f = map (λ i. i.name) (imports known p f)
+abbrev pub is_before : Option ℕ → ℕ → Bool
+is_before None n = false
+is_before (Some k) n = nat_lt k n
 
--- the first import of the file by a name
-abbrev pub import_named : Known → Package → ℕ → List ℕ → Option Import
-import_named known p f name = option_and_then (λ j. slice_get (imports known p f) j) (place_of (import_names known p f) name)
+-- ---- faults
 
--- The name denotes the import of the file: it is the file's first by this name, and no constant of the package has it.
-abbrev pub DenotesImport : Known → Package → ℕ → List ℕ → ℕ → Type 0
-DenotesImport known p f name j = IsUndeclared p name × (place_of (import_names known p f) name ≡ Some j)
+-- a refusal where a rule is broken
+abbrev pub RefusesIf : Bool → Place → Rule → Refusal → Type 0
+RefusesIf broken at rule x = (broken ≡ true) × (x ≡ record { place = at; fault = RuleFault rule })
 
--- An import whose name is taken: a constant of any file has it, or an earlier import of the same file.
-abbrev pub IsTaken : Known → Package → ℕ → ℕ → Import → Type 0
-IsTaken known p f j i = ¬ IsUndeclared p i.name ⊎ Contains (take j (import_names known p f)) i.name
+-- a constant has the name
+abbrev pub IsDeclared : Unit → List ℕ → Type 0
+IsDeclared u name = (c : Constant) × Contains (constants u.trees) c × (name_of u c.name ≡ name)
 
-abbrev pub is_selector : NodeKind → Bool
-is_selector Selector = true
-is_selector _ = false
+-- an earlier import of the file has it
+abbrev pub ComesLater : Unit → NodeRef → List ℕ → Type 0
+ComesLater u at name = (other : NodeRef) × IsImport u other × (other.file ≡ at.file) × IsBefore other at × (import_name u other ≡ Some name)
 
--- the name that a selector selects: its last token
-abbrev pub selected_at : Package → ℕ → ℕ → List ℕ
-selected_at p f n = option_map_or (λ tree. option_map_or (λ node. text_at (slice_index_or p.texts f []) tree node.last) (slice_get tree.nodes n) []) (slice_get p.trees f) []
+-- E7 is broken
+abbrev pub IsUnused : Unit → NodeRef → Type 0
+IsUnused u at = (import_limit u at ≡ None) × (IsUsed u at → ⊥)
 
--- A name before a dot. A node stands directly before the node whose last part it is, so the next node is the selector.
-abbrev pub is_before_dot : Package → ℕ → ℕ → Bool
-is_before_dot p f n = option_map_or (λ node. is_selector node.kind) (node_at p f (n + 1)) false
+abbrev pub RefusesName : Unit → NodeRef → List ℕ → Refusal → Type 0
+RefusesName u at name x = (x.place ≡ place_of u at) × HasImportFault u at name x.fault
 
--- the node is a use that denotes the import of its file
-abbrev pub IsImportUse : Known → Package → ℕ → ℕ → ℕ → Type 0
-IsImportUse known p f n j = (node : Node) × (node_at p f n ≡ Some node) × (is_name node.kind ≡ true) × DenotesImport known p f (spelled_at p f n) j
+abbrev pub RefusesNthName : Unit → List Declared → ℕ → Refusal → Type 0
+RefusesNthName u list k x = (d : Declared) × (slice_get list k ≡ Some d) × RefusesName u d.at d.name.now x
 
--- the value of a constant of the file has such a use
-abbrev pub IsUsed : Known → Package → ℕ → ℕ → Type 0
-IsUsed known p f j =
-    (o : ℕ) × (d : Declaration) × (slice_get (declared p) o ≡ Some d) × (d.name.file ≡ f) × ((n : ℕ) × IsInValue d n × IsImportUse known p f n j)
+abbrev pub RefusesImports : Unit → ℕ → Refusal → Type 0
+RefusesImports u f x = (at : NodeRef) × (name : List ℕ) × Names u f at name × RefusesName u at name x
+
+abbrev pub RefusesAllImports : Unit → Refusal → Type 0
+RefusesAllImports u x = SomeBelow (length u.trees) (RefusesImports u) x

@@ -1,81 +1,138 @@
--- The marks that refuse a package, and their order.
-use Rattle.std.specs.Prelude.{◌≡◌, ℕ, ◌+◌, ◌*◌, ◌-◌, ◌^◌, ◌<◌, ◌⊎◌, ◌↔◌, List, Option, Some, None, slice_get, length, nat_lt, nat_eq, if◌then◌else◌}
+-- All that refuses a package, and its order.
+use Rattle.std.specs.Prelude.{◌≡◌, ℕ, ◌+◌, ◌<◌, ◌⊎◌, ◌↔◌, List, Option, Some, None, slice_get}
 use Rattle.std.specs.List.{Contains}
+use Rattle.std.specs.Option.{option_map_or}
 use Rattle.gv_base.specs.declared.place.Place.{Place}
-use Rattle.go_tree.specs.declared.declaration.Declaration.{Declaration}
-use Rattle.go_tree.specs.Names.{Package, declared, offset_at}
-use Rattle.go_tree.specs.Needs.{IsInValue}
-use Rattle.const_check.specs.Imports.{Import, Known, imports, IsTaken, IsUsed}
-use Rattle.const_check.specs.declared.mark.Mark.{Mark}
-use Rattle.const_check.specs.declared.mark.Mark.TheVariants.{Good, Package as Imported, Bad, Outside, Silent}
-use Rattle.const_check.specs.declared.mark.Fault.{Fault}
-use Rattle.const_check.specs.declared.mark.Fault.TheVariants.{Rule as RuleFault, Limit as LimitFault}
-use Rattle.const_check.specs.declared.mark.Limit.{Limit}
-use Rattle.const_check.specs.declared.mark.Limit.TheVariants.{Float, Complex, Wide, LongText, WideType, Unsafe, Cgo, DotImport, BuildConstraint}
-use Rattle.const_check.specs.declared.mark.Refusal.{Refusal}
-use Rattle.const_check.specs.declared.mark.TheConstants.{REDECLARED, UNUSED_IMPORT}
-use Rattle.const_check.specs.Rules.{Env, known_of}
-use Rattle.const_check.specs.Items.{Item, At, Of, IsItem, Annotated}
+use Rattle.go_tree.specs.Bindings.{IsBefore}
+use Rattle.go_tree.specs.Head.{head_of, import_line}
+use Rattle.go_tree.specs.declared.bindings.Object.TheVariants as o
+use Rattle.go_tree.specs.declared.token.Token.{Token}
+use Rattle.go_tree.specs.declared.tree.FileTree.{FileTree}
+use Rattle.go_tree.specs.declared.tree.Node.{Node}
+use Rattle.go_tree.specs.declared.tree.NodeRef.{NodeRef}
+use Rattle.object_order.specs.Spots.{place}
+use Rattle.bind.specs.Imports.{line_name, specs_in}
+use Rattle.typed_tree.specs.declared.annotation.Marked.{Marked}
+use Rattle.typed_tree.specs.declared.annotation.Marked.TheVariants as m
+use Rattle.typed_tree.specs.declared.rule.Limit.{Limit}
+use Rattle.typed_tree.specs.declared.rule.Limit.TheVariants as l
+use Rattle.typed_tree.specs.declared.rule.TheConstants.{REDECLARED, UNUSED_IMPORT}
+use Rattle.typed_tree.specs.Meanings.{Meaning, Right, Wrong, Beyond, Quiet}
+use Rattle.const_tree.specs.declared.constant.Constant.{Constant}
+use Rattle.const_tree.specs.declared.constant.Spec.{Spec}
+use Rattle.const_tree.specs.Constants.{constants, names_of, values_of}
+use Rattle.const_marks.specs.Units.{Unit, text_in, tree_at, node_at, token_at, object_at}
+use Rattle.const_marks.specs.Imports.{import_limit}
+use Rattle.const_marks.specs.Items.{nodes_at, IsItem, IsRepeating, Under}
+use Rattle.const_marks.specs.Rules.{IsAnnotation, name_of}
+use Rattle.const_check.specs.declared.refusal.Fault.{Fault}
+use Rattle.const_check.specs.declared.refusal.Fault.TheVariants.{Rule as RuleFault, Limit as LimitFault}
+use Rattle.const_check.specs.declared.refusal.Refusal.{Refusal}
+use Rattle.const_check.specs.Packages.{Package, Env, known_of, IsUnit}
 
-abbrev pub fault_in : Mark → Option Fault
-fault_in (Good x) = None
-fault_in (Imported k) = None
-fault_in (Bad rule) = Some (RuleFault rule)
-fault_in (Outside limit) = Some (LimitFault limit)
-fault_in Silent = None
+-- ---- faults
 
-abbrev pub place_at : Package → ℕ → ℕ → Place
-place_at p f n = record { file = f; offset = offset_at p f n }
-
--- The place of a node is its first token, that of an object its name.
-abbrev pub HasPlace : Package → Item → Place → Type 0
-HasPlace p (At f n) place = place ≡ place_at p f n
-HasPlace p (Of o) place = (d : Declaration) × (slice_get (declared p) o ≡ Some d) × (place ≡ place_at p d.name.file d.name.node)
-
--- the mark of some item refuses the package, at this place and for this fault
-abbrev pub IsRefusedItem : Package → (Item → Mark) → Refusal → Type 0
-IsRefusedItem p marks x = (i : Item) × IsItem p i × HasPlace p i x.place × (fault_in (marks i) ≡ Some x.fault)
-
--- E1 of an import whose name is taken; E7 of one that no name in its file denotes
-abbrev pub HasImportFault : Known → Package → ℕ → ℕ → Import → Fault → Type 0
-HasImportFault known p f j i fault =
-    ((fault ≡ RuleFault REDECLARED) × IsTaken known p f j i)
-    ⊎ ((fault ≡ RuleFault UNUSED_IMPORT) × ¬ IsUsed known p f j)
-
--- an import refuses the package, at its first token
-abbrev pub IsRefusedImport : Known → Package → Refusal → Type 0
-IsRefusedImport known p x =
-    (j : ℕ) × (i : Import) × (slice_get (imports known p x.place.file) j ≡ Some i) × (x.place.offset ≡ i.at)
-    × HasImportFault known p x.place.file j i x.fault
-
--- all that refuses the package: marks of nodes and of constants, and faults of imports
-abbrev pub IsRefused : Env → Package → (Item → Mark) → Refusal → Type 0
-IsRefused env p marks x = IsRefusedItem p marks x ⊎ IsRefusedImport (known_of env) p x
+abbrev pub fault_in : Meaning → Option Fault
+fault_in (Right x) = None
+fault_in (Wrong rule) = Some (RuleFault rule)
+fault_in (Beyond limit) = Some (LimitFault limit)
+fault_in Quiet = None
 
 abbrev pub limit_number : Limit → ℕ
-limit_number Float = 0
-limit_number Complex = 1
-limit_number Wide = 2
-limit_number LongText = 3
-limit_number WideType = 4
-limit_number Unsafe = 5
-limit_number Cgo = 6
-limit_number DotImport = 7
-limit_number BuildConstraint = 8
+limit_number l.Float = 0
+limit_number l.Complex = 1
+limit_number l.Wide = 2
+limit_number l.LongText = 3
+limit_number l.WideType = 4
+limit_number l.Unsafe = 5
+limit_number l.Cgo = 6
+limit_number l.DotImport = 7
+limit_number l.BuildConstraint = 8
 
 -- rules by their numbers, and limits after all rules
 abbrev pub fault_number : Fault → ℕ
 fault_number (RuleFault rule) = rule.0
 fault_number (LimitFault limit) = 256 + limit_number limit
 
-abbrev pub limit_numbered : ℕ → Limit
-limit_numbered n =
-    if nat_eq n 0 then Float else (if nat_eq n 1 then Complex else (if nat_eq n 2 then Wide else (if nat_eq n 3 then LongText
-    else (if nat_eq n 4 then WideType else (if nat_eq n 5 then Unsafe else (if nat_eq n 6 then Cgo else (if nat_eq n 7 then DotImport else BuildConstraint)))))))
+-- ---- places
 
--- the fault of a number
-abbrev pub fault_numbered : ℕ → Fault
-fault_numbered n = if nat_lt n 256 then RuleFault (record { 0 = n }) else LimitFault (limit_numbered (n - 256))
+-- where a token begins
+abbrev pub start_of : Unit → ℕ → ℕ → ℕ
+start_of u f i = option_map_or (λ (token : Token). token.start) (token_at u f i) 0
+
+-- the first token of a node
+abbrev pub place_of : Unit → NodeRef → Place
+place_of u at = record { file = at.file; offset = option_map_or (λ (node : Node). start_of u at.file node.first) (node_at u at) 0 }
+
+-- the first build constraint of a file
+abbrev pub constraint_in : List ℕ → FileTree → ℕ
+constraint_in text tree = option_map_or (λ (n : ℕ). n) (head_of tree text).constraint 0
+
+abbrev pub constraint_place : Unit → ℕ → Place
+constraint_place u f = record { file = f; offset = option_map_or (constraint_in (text_in u f)) (tree_at u f) 0 }
+
+-- the first token of what is written, but for a build constraint, which has a place of its own
+abbrev pub written_place : Unit → NodeRef → Meaning → Place
+written_place u at (Beyond l.BuildConstraint) = constraint_place u at.file
+written_place u at _ = place_of u at
+
+-- What is copied has the place of the specification's name beside its value, or of its first name where there is none.
+abbrev pub name_beside : List ℕ → ℕ → ℕ
+name_beside names i = option_map_or (λ (n : ℕ). n) (slice_get names i) (option_map_or (λ (n : ℕ). n) (slice_get names 0) 0)
+
+pub record IsCopyPlace (u : Unit) (at n : NodeRef) (copied : Place) : Type 0 where
+  pub spec : Spec
+  pub i : ℕ
+  pub v : ℕ
+  pub repeats : IsRepeating u at spec
+  pub value : slice_get (values_of (nodes_at u at.file) spec) i ≡ Some v
+  pub under : Under u (place at.file v) n
+  pub is_place : copied ≡ place_of u (place at.file (name_beside (names_of (nodes_at u at.file) spec) i))
+
+abbrev pub HasPlace : Unit → Marked → Meaning → Place → Type 0
+HasPlace u (m.Node at) mark found = found ≡ written_place u at mark
+HasPlace u (m.Copy at n) mark found = IsCopyPlace u at n found
+HasPlace u (m.Object name) mark found = found ≡ place_of u name
+
+-- the mark of some item refuses the package
+abbrev pub IsRefusedItem : Unit → (Marked → Meaning) → Refusal → Type 0
+IsRefusedItem u marks x = (i : Marked) × IsItem u i × HasPlace u i (marks i) x.place × (fault_in (marks i) ≡ Some x.fault)
+
+-- ---- imports
+
+-- the name that an import declares
+abbrev pub import_name : Unit → NodeRef → Option (List ℕ)
+import_name u at = option_map_or (λ (tree : FileTree). line_name (known_of u.env) (import_line tree (text_in u at.file) at.node)) (tree_at u at.file) None
+
+abbrev pub IsImport : Unit → NodeRef → Type 0
+IsImport u at = (tree : FileTree) × (tree_at u at.file ≡ Some tree) × Contains (specs_in tree tree.tops) at.node
+
+-- E1: a constant of any file has the name, or an earlier import of the file
+abbrev pub IsTaken : Unit → NodeRef → List ℕ → Type 0
+IsTaken u at name =
+    ((c : Constant) × Contains (constants u.trees) c × (name_of u c.name ≡ name))
+    ⊎ ((other : NodeRef) × IsImport u other × (other.file ≡ at.file) × IsBefore other at × (import_name u other ≡ Some name))
+
+-- a use in the file denotes the import
+abbrev pub IsUsed : Unit → NodeRef → Type 0
+IsUsed u at = (n : NodeRef) × (n.file ≡ at.file) × (object_at u n ≡ Some (o.Import at))
+
+-- E1 of an import whose name is taken; E7 of one that declares a name, lies in the profile and isn't used
+abbrev pub HasImportFault : Unit → NodeRef → List ℕ → Fault → Type 0
+HasImportFault u at name fault =
+    ((fault ≡ RuleFault REDECLARED) × IsTaken u at name)
+    ⊎ ((fault ≡ RuleFault UNUSED_IMPORT) × (import_limit u at ≡ None) × (IsUsed u at → ⊥))
+
+-- an import refuses the package, at its first token
+abbrev pub IsRefusedImport : Unit → Refusal → Type 0
+IsRefusedImport u x =
+    (at : NodeRef) × (name : List ℕ) × IsImport u at × (import_name u at ≡ Some name) × (x.place ≡ place_of u at) × HasImportFault u at name x.fault
+
+-- All that refuses a unit: marks of its items, and faults of its imports.
+abbrev pub IsRefused : Unit → (Marked → Meaning) → Refusal → Type 0
+IsRefused u marks x = IsRefusedItem u marks x ⊎ IsRefusedImport u x
+
+-- ---- the list
 
 -- by file, then by offset, then by fault
 abbrev pub Precedes : Refusal → Refusal → Type 0
@@ -89,38 +146,10 @@ Precedes a b =
 abbrev pub IsOrdered : List Refusal → Type 0
 IsOrdered list = (k : ℕ) (a b : Refusal) → slice_get list k ≡ Some a → slice_get list (k + 1) ≡ Some b → Precedes a b
 
--- The list is that of the marks that refuse the package over this environment, whatever annotation they are read from.
+-- The list is that of all that refuses the package over this environment, whatever annotation is read.
 pub record AreMarks (p : Package) (env : Env) (list : List Refusal) : Type 0 where
-  pub marks : Item → Mark
-  pub annotated : Annotated env p marks
-  pub each : (other : Item → Mark) → Annotated env p other → (x : Refusal) → Contains list x ↔ IsRefused env p other x
-
--- a number that grows in this order
-abbrev pub rank_of : Refusal → ℕ
-rank_of x = (x.place.file * 2 ^ 32 + x.place.offset) * 2 ^ 16 + fault_number x.fault
-
--- the refusal stands last, behind what stood there; it may have stood there before
-pub record AddsLast (old new : List Refusal) (x : Refusal) : Type 0 where
-  pub keeps : (y : Refusal) → Contains old y → Contains new y
-  pub has : Contains new x
-  pub only : (y : Refusal) → Contains new y → Contains old y ⊎ (y ≡ x)
-  pub once : IsOrdered old → IsOrdered new
-  pub last : slice_get new (length new - 1) ≡ Some x
-
--- the list gains what this mark refuses at this place, and nothing else
-pub record Refuses (old new : List Refusal) (place : Place) (mark : Mark) : Type 0 where
-  pub keeps : (x : Refusal) → Contains old x → Contains new x
-  pub has : (x : Refusal) → x.place ≡ place → fault_in mark ≡ Some x.fault → Contains new x
-  pub only : (x : Refusal) → Contains new x → Contains old x ⊎ ((x.place ≡ place) × (fault_in mark ≡ Some x.fault))
-
-abbrev pub AreRefused : Package → (Item → Mark) → List Refusal → Type 0
-AreRefused p marks list = (x : Refusal) → Contains list x → IsRefusedItem p marks x
-
--- the list has what this item refuses
-abbrev pub Has : Package → (Item → Mark) → List Refusal → Item → Type 0
-Has p marks list i = (x : Refusal) → HasPlace p i x.place → fault_in (marks i) ≡ Some x.fault → Contains list x
-
--- the list has what a constant and its value refuse
-pub record HasConstant (p : Package) (marks : Item → Mark) (list : List Refusal) (o : ℕ) : Type 0 where
-  pub object : Has p marks list (Of o)
-  pub value : (d : Declaration) → slice_get (declared p) o ≡ Some d → (n : ℕ) → IsInValue d n → Has p marks list (At d.name.file n)
+  pub unit : Unit
+  pub is_unit : IsUnit p env unit
+  pub marks : Marked → Meaning
+  pub annotated : IsAnnotation unit marks
+  pub each : (other : Marked → Meaning) → IsAnnotation unit other → (x : Refusal) → Contains list x ↔ IsRefused unit other x

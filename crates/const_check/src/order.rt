@@ -1,11 +1,13 @@
 //! The order of refusals.
 ghost use Rattle.std.specs.Prelude.{◌≡◌, ℕ, ◌<◌, ◌≤◌, ◌+◌, ◌-◌, ◌*◌, ◌↔◌, ◌^◌, IfOk, OnOk, Contains, IsPermutation, length, slice_get, Some, true, false};
 ghost use Rattle.std.specs.List.Sorted.{IsNonDecreasingBy};
-ghost use Rattle.const_check.specs.Refusals.{limit_number, fault_number, fault_numbered, Precedes, IsOrdered, rank_of, AddsLast};
+ghost use Rattle.const_check.specs.Refusals.{limit_number, fault_number, Precedes, IsOrdered};
+ghost use Rattle.const_check.specs.Order.{fault_numbered, rank_of, AddsLast};
 
-use crate::mark::{Fault, Limit, Refusal, Rule};
+use crate::refusal::{Fault, Refusal};
 use gv_base::NoMemory;
 use std::alloc::Global;
+use typed_tree::{Limit, Rule};
 
 fn number_of_limit(limit: Limit) -> u32
     ensures number { result ≡ limit_number limit }

@@ -1,21 +1,19 @@
 -- What comes of a load.
 use Rattle.std.proofs.Common.{◌≡◌, ℕ, zero, suc, ◌<◌, ◌^◌, List, [], ◌∷◌, length, map, Some, slice_get, All, refl, ap, sym, ◌∙◌, subst, arith}
 use Rattle.std.proofs.lemmas.List.{length-map}
-use Rattle.std.proofs.lemmas.Option.{slice_get_within}
-use denote.Ref.{Bor}
+use Rattle.std.proofs.lemmas.Option.{same_Some, slice_get_within}
 use Rattle.go_tree.specs.declared.tree.FileTree.{FileTree}
-use Rattle.go_tree.specs.Names.{Package, spelled_at}
 use Rattle.export_data.specs.declared.constants.ConstOut.{ConstOut}
-use Rattle.const_check.specs.declared.mark.Refusal.{Refusal}
+use Rattle.const_tree.specs.Form.{IsConstantFile}
+use Rattle.const_check.specs.declared.refusal.Refusal.{Refusal}
+use Rattle.const_check.specs.Packages.{Package, package_of, package_name, AreConstantFiles}
 use Rattle.const_check.specs.Refusals.{AreMarks, IsOrdered}
 use Rattle.const_check.specs.Interfaces.{AreExports}
-use Rattle.const_check.specs.Form.{IsConstantFile, AreConstantFiles}
-use Rattle.const_check.specs.Index.{texts_of}
-use Rattle.const_check.specs.Packages.{package_of}
 use Rattle.action_graph.specs.declared.kit.LoadInput.{LoadInput}
 use Rattle.action_graph.specs.Nodes.{Named}
 use Rattle.action_graph.specs.Judging.{Env, Judges, AreParsed, IsPackageOf, AreInterfaces, IsLawful, IsOutcome, Tells, line_of, text_of}
 use Rattle.action_graph.specs.Judging.Judged.{Accepts, Refuses}
+use Rattle.action_graph.proofs.OneFinding.{package-files}
 use Rattle.const_kit.specs.Reading.{AreFilesOf, IsShort, TellsOf}
 
 parsed : (texts : List (List ℕ)) (trees : List FileTree) → AreFilesOf texts trees → AreParsed texts trees
@@ -30,34 +28,35 @@ as-many [] (t ∷ ts) h = absurd h
 as-many (x ∷ xs) [] h = absurd h
 as-many (x ∷ xs) (t ∷ ts) h = ap suc (as-many xs ts h.1)
 
-form-at : (texts : List (List ℕ)) (trees : List FileTree) (f : ℕ) (text : List ℕ) (tree : FileTree) → AreFilesOf texts trees → slice_get texts f ≡ Some text → slice_get trees f ≡ Some tree → IsConstantFile text tree
-form-at [] trees f text tree h at found = absurd (let lt : f < 0 = slice_get_within [] f text at in omega (arith, lt))
-form-at (x ∷ xs) [] f text tree h at found = absurd h
-form-at (x ∷ xs) (t ∷ ts) zero text tree h at found = subst (λ s. IsConstantFile s tree) (some-is at) (subst (IsConstantFile x) (some-is found) h.0.form) where
-  some-is : {X : Type 0} {a b : X} → Some a ≡ Some b → a ≡ b
-  some-is e = cc
-form-at (x ∷ xs) (t ∷ ts) (suc f) text tree h at found = form-at xs ts f text tree h.1 at found
+formed : (texts : List (List ℕ)) (trees : List FileTree) (f : ℕ) (tree : FileTree) → AreFilesOf texts trees → slice_get trees f ≡ Some tree → IsConstantFile tree
+formed texts [] f tree h found = absurd (let lt : f < 0 = slice_get_within [] f tree found in omega (arith, lt))
+formed [] (t ∷ ts) f tree h found = absurd h
+formed (x ∷ xs) (t ∷ ts) zero tree h found = subst IsConstantFile (same_Some t tree found) h.0.form
+formed (x ∷ xs) (t ∷ ts) (suc f) tree h found = formed xs ts f tree h.1 found
 
-pub formed : (p : Package) → AreFilesOf p.texts p.trees → AreConstantFiles p
-formed p h = record { sized = as-many p.texts p.trees h; files = λ f text tree at found. form-at p.texts p.trees f text tree h at found }
+-- the package of some files, by their trees
+pub package-is : (files : List Named) (trees : List FileTree) → AreFilesOf (map text_of files) trees → IsPackageOf files (package_of files trees)
+package-is files trees h = record {
+  files = refl;
+  trees = parsed (map text_of files) trees h;
+  form = record { each = λ f tree found. formed (map text_of files) trees f tree h found };
+}
+
+pub fit-files : (files input : List Named) (trees : List FileTree) → files ≡ input → AreFilesOf (map text_of input) trees → AreConstantFiles (package_of files trees)
+fit-files files input trees same h =
+    package-files files (package_of files trees) (package-is files trees (subst (λ (x : List Named). AreFilesOf (map text_of x) trees) (sym same) h))
 
 -- the files of a lawful load have trees
-gathered : (texts : List (List ℕ)) (trees : List FileTree) → AreParsed texts trees
-    → ((f : ℕ) (text : List ℕ) (tree : FileTree) → slice_get texts f ≡ Some text → slice_get trees f ≡ Some tree → IsConstantFile text tree) → AreFilesOf texts trees
+gathered : (texts : List (List ℕ)) (trees : List FileTree) → AreParsed texts trees → ((f : ℕ) (tree : FileTree) → slice_get trees f ≡ Some tree → IsConstantFile tree) → AreFilesOf texts trees
 gathered [] [] h files = tt
 gathered [] (t ∷ ts) h files = absurd h
 gathered (x ∷ xs) [] h files = absurd h
-gathered (x ∷ xs) (t ∷ ts) h files = (record { parsed = h.0; form = files 0 x t refl refl }, gathered xs ts h.1 (λ f text tree a b. files (suc f) text tree a b))
+gathered (x ∷ xs) (t ∷ ts) h files = (record { parsed = h.0; form = files 0 t refl }, gathered xs ts h.1 (λ f tree a. files (suc f) tree a))
 
 pub lawful-files : (input : LoadInput) (law : IsLawful input) → AreFilesOf (map text_of input.files) law.source.pack.trees
 lawful-files input law =
     let of = law.source.of in
-    subst (λ (t : List (List ℕ)). AreFilesOf t law.source.pack.trees) of.texts (gathered law.source.pack.texts law.source.pack.trees of.trees of.form.files)
-
--- the package of some files, by their texts and trees
-pub package-files : (files : List Named) (sources : List (Bor (List ℕ))) (trees : List FileTree) → texts_of sources ≡ map text_of files → AreFilesOf (map text_of files) trees
-    → AreFilesOf (texts_of sources) trees
-package-files files sources trees is h = subst (λ (t : List (List ℕ)). AreFilesOf t trees) (sym is) h
+    subst (λ (x : List Named). AreFilesOf (map text_of x) law.source.pack.trees) of.files (gathered (map text_of law.source.pack.files) law.source.pack.trees of.trees of.form.each)
 
 pub few-trees : (files : List Named) (trees : List FileTree) → AreFilesOf (map text_of files) trees → length files < 2 ^ 32 → length trees < 2 ^ 32
 few-trees files trees h few =
@@ -65,27 +64,23 @@ few-trees files trees h few =
     let b : length (map text_of files) ≡ length files = length-map files text_of in
     omega (arith, a, b, few)
 
-pub outcome : (input : LoadInput) (sources : List (Bor (List ℕ))) (trees : List FileTree) (env : Env) (text : List ℕ) → texts_of sources ≡ map text_of input.files → AreFilesOf (map text_of input.files) trees
-    → AreInterfaces input.env env → TellsOf input.path (package_of sources trees) env text → IsOutcome input text
+outcome : (input : LoadInput) (trees : List FileTree) (env : Env) (text : List ℕ) → AreFilesOf (map text_of input.files) trees
+    → AreInterfaces input.env env → TellsOf input.path (package_of input.files trees) env text → IsOutcome input text
 unfolding Judges
-outcome input sources trees env text is h faces told =
-    let all : AreFilesOf (texts_of sources) trees = package-files input.files sources trees is h in
-    let package_is : IsPackageOf input.files (package_of sources trees) = record { texts = is; trees = parsed (texts_of sources) trees all; form = formed (package_of sources trees) all } in
-    record {
-      env = env;
-      judged = told.judged;
-      faces = faces;
-      judges = (package_of sources trees, (package_is, told.finds));
-      tells = told.tells;
-    }
+outcome input trees env text h faces told = record {
+  env = env;
+  judged = told.judged;
+  faces = faces;
+  judges = (package_of input.files trees, (package-is input.files trees h, told.finds));
+  tells = told.tells;
+}
 
-pub outcome-of : (input : LoadInput) (sources : List (Bor (List ℕ))) (trees : List FileTree) (env faces : Env) (texts : List Named) (path text : List ℕ)
-    → texts_of sources ≡ map text_of input.files → AreFilesOf (map text_of input.files) trees
-    → texts ≡ input.env → faces ≡ env → AreInterfaces texts env → path ≡ input.path → TellsOf path (package_of sources trees) faces text → IsOutcome input text
-outcome-of input sources trees env faces texts path text is h here same read at told =
-    outcome input sources trees faces text is h
-    (subst (λ (xs : List Named). AreInterfaces xs faces) here (subst (λ (e : Env). AreInterfaces texts e) (sym same) read))
-    (subst (λ (q : List ℕ). TellsOf q (package_of sources trees) faces text) at told)
+pub outcome-of : (input : LoadInput) (files : List Named) (trees : List FileTree) (env faces : Env) (texts : List Named) (path text : List ℕ) → AreFilesOf (map text_of input.files) trees
+    → texts ≡ input.env → faces ≡ env → AreInterfaces texts env → files ≡ input.files → path ≡ input.path → TellsOf path (package_of files trees) faces text → IsOutcome input text
+outcome-of input files trees env faces texts path text here same is read at its told =
+    outcome input trees faces text here
+    (subst (λ (xs : List Named). AreInterfaces xs faces) same (subst (λ (e : Env). AreInterfaces texts e) (sym is) read))
+    (subst (λ (xs : List Named). TellsOf input.path (package_of xs trees) faces text) at (subst (λ (q : List ℕ). TellsOf q (package_of files trees) faces text) its told))
 
 pub unread : (input : LoadInput) (files : List Named) (text : List ℕ) → files ≡ input.files
     → ((trees : List FileTree) → All IsShort (map text_of files) → AreFilesOf (map text_of files) trees → ⊥) → IsLawful input → IsOutcome input text
@@ -103,13 +98,13 @@ refused-told path p env list shown text marks ordered is some tells = record {
   tells = subst (λ (l : List Refusal). Tells (Refuses (map line_of l)) text) is tells;
 }
 
-pub accepted-told : (path : List ℕ) (p q : Package) (env other : Env) (list shown : List Refusal) (name text : List ℕ) → AreMarks p env list → shown ≡ list → shown ≡ [] → q ≡ p → other ≡ env
-    → name ≡ spelled_at p 0 0 → (exports : List ConstOut) × AreExports q other exports × Tells (Accepts (record { path = path; name = name; list = exports })) text → TellsOf path p env text
-accepted-told path p q env other list shown name text marks is none of over named (exports, are, tells) = record {
-  judged = Accepts (record { path = path; name = name; list = exports });
+pub accepted-told : (path : List ℕ) (p : Package) (env : Env) (list shown : List Refusal) (exports given : List ConstOut) (name text : List ℕ) → AreMarks p env list → (list ≡ [] → AreExports p env exports)
+    → shown ≡ list → shown ≡ [] → given ≡ exports → name ≡ package_name p → Tells (Accepts (record { path = path; name = name; list = given })) text → TellsOf path p env text
+accepted-told path p env list shown exports given name text marks are is none passed named tells = record {
+  judged = Accepts (record { path = path; name = name; list = given });
   finds = (
     subst (λ (l : List Refusal). AreMarks p env l) (sym is ∙ none) marks,
-    (subst (λ (e : Env). AreExports p e exports) over (subst (λ (x : Package). AreExports x other exports) of are), (refl, named)),
+    (subst (λ (l : List ConstOut). AreExports p env l) (sym passed) (are (sym is ∙ none)), (refl, named)),
   );
   tells = tells;
 }

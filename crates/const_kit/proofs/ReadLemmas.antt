@@ -9,7 +9,7 @@ use Rattle.parse_file.specs.declared.verdict.FileVerdict.{FileVerdict}
 use Rattle.parse_file.specs.declared.verdict.FileVerdict.TheVariants.{Parsed, Lexical, Syntax, TooDeep}
 use Rattle.parse_file.specs.Verdict.{IsParsed, IsVerdict}
 use Rattle.parse_file.proofs.VerdictLaws.{one_verdict}
-use Rattle.const_check.specs.Form.{IsConstantFile}
+use Rattle.const_tree.specs.Form.{IsConstantFile}
 use Rattle.action_graph.specs.Nodes.{Named}
 use Rattle.action_graph.specs.Judging.{Env, AreInterfaces, text_of}
 use Rattle.const_kit.specs.Reading.{IsFileOf, AreFilesOf, IsShort, IsFaceOf}
@@ -18,14 +18,14 @@ tree-is : (a b : FileTree) → Parsed a ≡ Parsed b → a ≡ b
 tree-is a b e = cc
 
 -- a text that parses has one tree, which is kept where it is of constants
-pub kept-answer : (text : List ℕ) (tree : FileTree) (r : Option FileTree) → IsParsed text tree → IfSome r (λ kept. (kept ≡ tree) × IsConstantFile text tree)
-    → (r ≡ None → IsConstantFile text tree → ⊥) → MatchOption r ((t : FileTree) → IsFileOf text t → ⊥) (λ t. IsFileOf text t)
+pub kept-answer : (text : List ℕ) (tree : FileTree) (r : Option FileTree) → IsParsed text tree → IfSome r (λ kept. (kept ≡ tree) × IsConstantFile tree)
+    → (r ≡ None → IsConstantFile tree → ⊥) → MatchOption r ((t : FileTree) → IsFileOf text t → ⊥) (λ t. IsFileOf text t)
 kept-answer text tree (Some kept) parsed some none = record {
   parsed = subst (λ (t : FileTree). IsParsed text t) (sym some.0) parsed;
-  form = subst (λ (t : FileTree). IsConstantFile text t) (sym some.0) some.1;
+  form = subst (λ (t : FileTree). IsConstantFile t) (sym some.0) some.1;
 }
 kept-answer text tree None parsed some none = λ t h.
-    none refl (subst (λ (s : FileTree). IsConstantFile text s) (tree-is t tree (one_verdict text (Parsed t) (Parsed tree) h.parsed parsed)) h.form)
+    none refl (subst (λ (s : FileTree). IsConstantFile s) (tree-is t tree (one_verdict text (Parsed t) (Parsed tree) h.parsed parsed)) h.form)
 
 -- another verdict is of a text that has no tree
 other-verdict : (text : List ℕ) (v : FileVerdict) → IsVerdict text v → ((t : FileTree) → v ≡ Parsed t → ⊥) → (t : FileTree) → IsFileOf text t → ⊥

@@ -3,16 +3,16 @@ use Rattle.std.specs.Prelude.{◌≡◌, ℕ, ◌≤◌, ◌^◌, List, [], ◌�
 use Rattle.export_data.specs.declared.constants.ConstInterface.{ConstInterface}
 use Rattle.export_data.specs.Spelling.{IsSpelled}
 use Rattle.go_tree.specs.declared.tree.FileTree.{FileTree}
-use Rattle.go_tree.specs.Names.{Package}
 use Rattle.parse_file.specs.Verdict.{IsParsed}
-use Rattle.const_check.specs.Form.{IsConstantFile}
+use Rattle.const_tree.specs.Form.{IsConstantFile}
+use Rattle.const_check.specs.Packages.{Package}
 use Rattle.action_graph.specs.Nodes.{Named}
 use Rattle.action_graph.specs.Judging.{Env, Judged, Finds, Tells}
 
 -- the tree is that of the text, which is a file of constants
 pub record IsFileOf (text : List ℕ) (tree : FileTree) : Type 0 where
   pub parsed : IsParsed text tree
-  pub form : IsConstantFile text tree
+  pub form : IsConstantFile tree
 
 -- so is each
 abbrev pub AreFilesOf : List (List ℕ) → List FileTree → Type 0

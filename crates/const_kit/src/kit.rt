@@ -1,17 +1,17 @@
-//! The kit of integer constants.
+//! The kit of constants.
 ghost use Rattle.std.specs.Prelude.{◌≡◌, ◌+◌, ◌<◌, ◌≤◌, ◌^◌, List, ℕ, map, length, IfOk, OnOk, OnErr};
 ghost use Rattle.action_graph.specs.Judging.{IsLawful, IsOutcome, load_text, text_of};
 ghost use Rattle.const_kit.specs.Reading.{AreFilesOf};
 
 use crate::env::read_env;
-use crate::read::{read_files, texts_of};
+use crate::read::read_files;
 use crate::tell::{judge, refuse};
 use action_graph::{Kit, Load, LoadInput};
 use go_tree::FileTree;
 use gv_base::NoMemory;
 use std::alloc::Global;
 
-/// Loads packages of integer constants, and counts its loads. It takes any texts. Where a file is too long,
+/// Loads packages of constants, and counts its loads. It takes any texts. Where a file is too long,
 /// doesn't parse or isn't one of constants, where there are 2^32 files or more, or where an export text spells
 /// no interface of the path beside it, the package is refused with no mark.
 #[derive(Drop)]
@@ -45,8 +45,8 @@ fn load_trees(alloc: Global, input: &LoadInput, trees: &[FileTree]) -> Result<Lo
     let read = read_env(alloc, input.env.as_slice())?;
     match read {
         Some(env) => {
-            let sources = texts_of(alloc, input.files.as_slice())?;
-            let load = judge(alloc, input.path.as_str(), &sources, trees, &env)?;
+            let files = input.files.as_slice();
+            let load = judge(alloc, input.path.as_str(), files, trees, &env)?;
             Ok(load)
         }
         None => {

@@ -1,4 +1,4 @@
-//! Loads packages of integer constants.
+//! Loads packages of constants.
 #![tactic(auto)]
 
 mod env;

@@ -2,23 +2,22 @@
 ghost use Rattle.std.specs.Prelude.{◌≡◌, List, ℕ, All, map, IfOk, IfSome, MatchOption, Some, None};
 ghost use Rattle.go_tree.specs.declared.tree.FileTree.{FileTree};
 ghost use Rattle.parse_file.specs.Verdict.{IsVerdict};
-ghost use Rattle.const_check.specs.Form.{IsConstantFile};
-ghost use Rattle.const_check.specs.Index.{texts_of};
+ghost use Rattle.const_tree.specs.Form.{IsConstantFile};
 ghost use Rattle.action_graph.specs.Judging.{text_of};
 ghost use Rattle.const_kit.specs.Reading.{IsFileOf, AreFilesOf, IsShort};
 
-use const_check::is_constant_file;
+use const_tree::is_constant_file;
 use go_tree::FileTree;
 use gv_base::{Bytes, NoMemory, Text};
 use parse_file::{FileVerdict, parse_file};
 use std::alloc::Global;
 
 /// The tree, if it is that of a file of constants.
-fn keep_constants(text: &[u8], tree: FileTree) -> Option<FileTree>
-    ensures kept { IfSome result (λ kept. (kept ≡ tree) × IsConstantFile text.now tree) }
-    ensures none { result ≡ None → IsConstantFile text.now tree → ⊥ }
+fn keep_constants(tree: FileTree) -> Option<FileTree>
+    ensures kept { IfSome result (λ kept. (kept ≡ tree) × IsConstantFile tree) }
+    ensures none { result ≡ None → IsConstantFile tree → ⊥ }
 {
-    if is_constant_file(text, &tree) {
+    if is_constant_file(&tree) {
         return Some(tree);
     }
     None
@@ -30,7 +29,7 @@ fn constant_tree(text: &[u8], verdict: FileVerdict) -> Option<FileTree>
     ensures { MatchOption result ((tree : FileTree) → IsFileOf text.now tree → ⊥) (λ tree. IsFileOf text.now tree) }
 {
     match verdict {
-        FileVerdict::Parsed(tree) => keep_constants(text, tree),
+        FileVerdict::Parsed(tree) => keep_constants(tree),
         FileVerdict::Lexical { offset: _, why: _ } => None,
         FileVerdict::Syntax { offset: _ } => None,
         FileVerdict::TooDeep { offset: _ } => None,
@@ -66,15 +65,4 @@ pub(crate) fn read_files(
         }
     }
     Ok(Some(trees))
-}
-
-/// The texts of some files.
-pub(crate) fn texts_of(alloc: Global, files: &[(Text, Bytes)]) -> Result<Vec<&[u8]>, NoMemory>
-    ensures { IfOk result (λ texts. texts_of texts.items ≡ map text_of files.now) }
-{
-    let mut texts = Vec::new(alloc);
-    for file in files {
-        texts.push(file.1.as_slice())?;
-    }
-    Ok(texts)
 }

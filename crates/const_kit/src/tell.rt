@@ -1,23 +1,19 @@
 //! What a load answers of a package.
-ghost use Rattle.std.specs.Prelude.{◌≡◌, ◌<◌, ◌^◌, true, false, List, ℕ, [], map, length, IfOk, IsTrue};
-ghost use Rattle.go_tree.specs.Names.{spelled_at};
+ghost use Rattle.std.specs.Prelude.{◌≡◌, ◌<◌, ◌^◌, true, false, [], map, length, slice_index_or, IfOk, IsTrue};
 ghost use Rattle.export_data.specs.Order.{names_rise};
-ghost use Rattle.const_check.specs.Form.{AreConstantFiles};
-ghost use Rattle.const_check.specs.Packages.{package_of};
+ghost use Rattle.const_check.specs.Packages.{package_of, package_name, text_of, AreConstantFiles};
 ghost use Rattle.const_check.specs.Refusals.{limit_number};
-ghost use Rattle.const_check.specs.Interfaces.{AreExports};
-ghost use Rattle.const_check.specs.Checks.{package_in, env_in, IsChecked};
-ghost use Rattle.export_data.specs.declared.constants.ConstOut.{ConstOut};
-ghost use Rattle.action_graph.specs.Judging.{Judged, Tells, fault_line, line_of, load_text};
+ghost use Rattle.action_graph.specs.Judging.{Tells, fault_line, line_of, load_text};
 ghost use Rattle.action_graph.specs.Judging.Judged.{Accepts, Refuses};
 ghost use Rattle.const_kit.specs.Reading.{TellsOf};
 
 use action_graph::{Load, MarkLine, write_marks};
-use const_check::{Checked, Fault, Limit, Refusal, check_constants, interface_of};
+use const_check::{Fault, Refusal, check_constants};
 use export_data::{ConstInterface, ConstOut, export_consts};
 use go_tree::{FileTree, token_text};
-use gv_base::{Bytes, NoMemory, Place};
+use gv_base::{Bytes, NoMemory, Place, Text};
 use std::alloc::Global;
+use typed_tree::Limit;
 
 fn limit_number(limit: Limit) -> u8
     ensures { result ≡ limit_number limit }
@@ -75,13 +71,20 @@ pub(crate) fn refuse(alloc: Global, refused: &[Refusal]) -> Result<Load<()>, NoM
     })
 }
 
-/// The name of the package: the first token of its first file's first node.
-fn package_name<'a>(sources: &[&'a [u8]], trees: &[FileTree]) -> &'a [u8]
-    ensures { result.now ≡ spelled_at (package_of sources.now trees.now) 0 0 }
+/// The bytes of the first file.
+fn first_text<'a>(files: &'a [(Text, Bytes)]) -> &'a [u8]
+    ensures { result.now ≡ slice_index_or (map text_of files.now) 0 [] }
 {
-    let Some(source) = sources.first() else {
-        return b"";
-    };
+    match files {
+        [] => b"",
+        [file, ..] => file.1.as_slice(),
+    }
+}
+
+/// The name of the package: the first token of its first file's first node.
+fn package_name<'a>(files: &'a [(Text, Bytes)], trees: &[FileTree]) -> &'a [u8]
+    ensures { result.now ≡ package_name (package_of files.now trees.now) }
+{
     let Some(tree) = trees.first() else {
         return b"";
     };
@@ -91,11 +94,11 @@ fn package_name<'a>(sources: &[&'a [u8]], trees: &[FileTree]) -> &'a [u8]
     let Some(token) = tree.tokens.as_slice().get(node.first as usize) else {
         return b"";
     };
-    token_text(source, token)
+    token_text(first_text(files), token)
 }
 
-/// The answer that accepts a package, with what it exports. A name of a file of constants is ASCII, and so it
-/// is a text; a name that is none would be answered as want of memory.
+/// The answer that accepts a package, with what it exports. A file that parses is UTF-8, and its name is a token
+/// of it, and so a text; a name that is none would be answered as want of memory.
 fn accept(alloc: Global, path: &str, name: &[u8], list: &[ConstOut]) -> Result<Load<()>, NoMemory>
     requires { IsTrue (names_rise list.now) }
     ensures { IfOk result (λ load. Tells (Accepts (record { path = path.now; name = name.now; list = list.now })) (load_text load)) }
@@ -110,22 +113,6 @@ fn accept(alloc: Global, path: &str, name: &[u8], list: &[ConstOut]) -> Result<L
     })
 }
 
-/// The answer for a package that nothing refuses.
-fn accept_checked(
-    alloc: Global,
-    path: &str,
-    name: &[u8],
-    checked: &Checked<'_>,
-) -> Result<Load<()>, NoMemory>
-    requires checked { IsChecked checked.now }
-    ensures { IfOk result (λ load. (list : List ConstOut) × AreExports (package_in checked.now) (env_in checked.now) list
-        × Tells (Accepts (record { path = path.now; name = name.now; list = list })) (load_text load)) }
-{
-    let list = interface_of(alloc, checked)?;
-    let load = accept(alloc, path, name, &list)?;
-    Ok(load)
-}
-
 fn are_none(refused: &[Refusal]) -> bool
     ensures none { result ≡ true → refused.now ≡ [] }
     ensures some { result ≡ false → refused.now ≡ [] → ⊥ }
@@ -136,23 +123,23 @@ fn are_none(refused: &[Refusal]) -> bool
     }
 }
 
-/// The answer for a package of this path, by its trees and the interfaces of the packages that it imports.
+/// The answer for a package of this path, by its files, their trees and the interfaces of the packages that it imports.
 pub(crate) fn judge(
     alloc: Global,
     path: &str,
-    sources: &[&[u8]],
+    files: &[(Text, Bytes)],
     trees: &[FileTree],
     env: &[ConstInterface],
 ) -> Result<Load<()>, NoMemory>
-    requires files { AreConstantFiles (package_of sources.now trees.now) }
+    requires files { AreConstantFiles (package_of files.now trees.now) }
     requires few { length trees.now < 2 ^ 32 }
-    ensures { IfOk result (λ load. TellsOf path.now (package_of sources.now trees.now) env.now (load_text load)) }
+    ensures { IfOk result (λ load. TellsOf path.now (package_of files.now trees.now) env.now (load_text load)) }
 {
-    let checked = check_constants(alloc, sources, trees, env)?;
+    let checked = check_constants(alloc, files, trees, env)?;
     if !are_none(&checked.refused) {
         let load = refuse(alloc, &checked.refused)?;
         return Ok(load);
     }
-    let load = accept_checked(alloc, path, package_name(sources, trees), &checked)?;
+    let load = accept(alloc, path, package_name(files, trees), &checked.exports)?;
     Ok(load)
 }

@@ -52,7 +52,7 @@ fn shown(load: &Load<()>) -> (u8, &[u8]) {
 fn packages(rt: HostRuntime) -> Result<(), Fail> {
     let alloc = rt.alloc();
     // the path, two files, the path of a package that may be imported and its export text, and the answer
-    let rows: [(&str, &[u8], &[u8], &str, &[u8], u8, &[u8]); 11] = [
+    let rows: [(&str, &[u8], &[u8], &str, &[u8], u8, &[u8]); 29] = [
         ("m/q", b"package q\n\nconst N = 2\n", b"", "", b"", b'a', b"3;m/q1;q1;1;Nkb14;n2;0;"),
         // the name of the package isn't that of the path
         ("m/q", b"package two\n", b"", "", b"", b'a', b"3;m/q3;two0;0;"),
@@ -60,6 +60,27 @@ fn packages(rt: HostRuntime) -> Result<(), Fail> {
         // E3 and E7
         ("m/p", b"package p\n\nconst M = K\n", b"", "", b"", b'r', b"1;0;21;0;3;"),
         ("m/p", b"package p\n", b"package p\n\nimport \"m/q\"\n", "m/q", b"3;m/q1;q1;1;Nkb14;n2;0;", b'r', b"1;1;18;0;7;"),
+        // a typed constant, a string, a truth, a rune, of a type that is imported; names that aren't exported
+        ("m/p", b"package p\n\nconst T uint8 = 3\n", b"", "", b"", b'a', b"3;m/p1;p1;1;Tkb7;n3;0;"),
+        ("m/p", b"package p\n\nconst S = \"ab\"\n", b"", "", b"", b'a', b"3;m/p1;p1;1;Skb16;x2;ab0;"),
+        ("m/p", b"package p\n\nconst B = 1 < 2\n", b"", "", b"", b'a', b"3;m/p1;p1;1;Bkb13;q1;0;"),
+        ("m/p", b"package p\n\nconst R = 'a'\n", b"", "", b"", b'a', b"3;m/p1;p1;1;Rkb15;n97;0;"),
+        ("m/p", b"package p\n\nconst S string = \"\"\nconst N int8 = -128\nconst _, n = 1, 2\n", b"", "", b"", b'a', b"3;m/p1;p2;1;Nkb2;n-128;1;Skb12;x0;0;"),
+        ("m/p", b"package p\n\nimport \"m/q\"\n\nconst M = q.N + 1\n", b"", "m/q", b"3;m/q1;q1;1;Nkb7;n2;0;", b'a', b"3;m/p1;p1;1;Mkb7;n3;0;"),
+        // E32, E30, E31, E33, E10, E99
+        ("m/p", b"package p\n\nconst T uint8 = 256\n", b"", "", b"", b'r', b"1;0;27;0;32;"),
+        ("m/p", b"package p\n\nconst A uint8 = 255\nconst B = A + 1\n", b"", "", b"", b'r', b"1;0;41;0;30;"),
+        ("m/p", b"package p\n\nconst A = 1 / 0\n", b"", "", b"", b'r', b"1;0;21;0;31;"),
+        ("m/p", b"package p\n\nconst A = 1 + \"a\"\n", b"", "", b"", b'r', b"1;0;21;0;33;"),
+        ("m/p", b"package p\n\nconst A B = 1\nconst B = 2\n", b"", "", b"", b'r', b"1;0;19;0;10;"),
+        ("m/p", b"package p\n\nconst A, B = 1\n", b"", "", b"", b'r', b"1;0;17;0;99;"),
+        // the limits: a float, a complex number, `unsafe`, `C`, all names of a package, a build constraint
+        ("m/p", b"package p\n\nconst A = 1.5\n", b"", "", b"", b'r', b"1;0;21;1;0;"),
+        ("m/p", b"package p\n\nconst A = 1i\n", b"", "", b"", b'r', b"1;0;21;1;1;"),
+        ("m/p", b"package p\n\nimport \"unsafe\"\n", b"", "", b"", b'r', b"1;0;18;1;5;"),
+        ("m/p", b"package p\n\nimport \"C\"\n", b"", "", b"", b'r', b"1;0;18;1;6;"),
+        ("m/p", b"package p\n\nimport . \"m/q\"\n", b"", "", b"", b'r', b"1;0;18;1;7;"),
+        ("m/p", b"//go:build linux\n\npackage p\n", b"", "", b"", b'r', b"1;0;0;1;8;"),
         // a sum that isn't of 128 bits
         ("m/p", b"package p\n\nconst A = 170141183460469231731687303715884105727 + 1\n", b"", "", b"", b'r', b"1;0;21;1;2;"),
         // no Go, no file of constants

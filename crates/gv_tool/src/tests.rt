@@ -67,9 +67,24 @@ const TREES: [(&[u8], &[u8], u8); 14] = [
     (b"put a/a.go 11\npackage a\n\n\nput b/a.go 11\npackage a\n\n\ncheck\n", b"packages 2, errors 0\n", 0),
     (b"put go.mod 9\nmodule m\n\ncheck\n", b"not built at 23\n", 11),
     (b"put std/a 1\nx\ncheck\n", b"not built at 14\n", 11),
-    (b"put a/a.go 25\npackage a\n\nconst int = 1\n\ncheck\n", b"not built at 40\n", 11),
-    (b"put a/a.go 24\npackage a\n\nconst A = 01\n\ncheck\n", b"not built at 39\n", 11),
+    (b"put a/a.go 25\npackage a\n\nconst int = 1\n\ncheck\n", b"packages 1, errors 0\n", 0),
+    (b"put a/a.go 24\npackage a\n\nconst A = 01\n\ncheck\n", b"packages 1, errors 0\n", 0),
     (b"put a/a.go 39\npackage a\n\nconst A = B + 1\nconst B = A\n\ncheck\ndel a/a.go\ncheck\n", b"a/a.go:3:7: E4 declaration cycle\na/a.go:4:7: E4 declaration cycle\npackages 1, errors 2\npackages 0, errors 0\n", 0),
+];
+
+/// Trees of constants of all types, and the reply to a check of each.
+#[rattlefmt::skip]
+const CONSTANTS: [(&[u8], &[u8], u8); 10] = [
+    (b"put a/a.go 71\npackage a\n\nconst (\n\tA = iota\n\tB\n\tC uint8 = 200 + iota*100\n\tD = B / A\n)\n\ncheck\n", b"a/a.go:6:12: E32 not assignable\na/a.go:7:6: E31 division by zero\npackages 1, errors 2\n", 1),
+    (b"put a/a.go 46\npackage a\n\nconst (\n\tA uint8 = 255 + iota\n\tB\n)\n\ncheck\n", b"a/a.go:5:2: E32 not assignable\npackages 1, errors 1\n", 1),
+    (b"put a/a.go 94\npackage a\n\nconst (\n\tA, B = iota, -iota\n\t_, _\n\tC, D\n)\nconst S, T = \"a\" + \"b\", C < 3 && D == -2\n\ncheck\n", b"packages 1, errors 0\n", 0),
+    (b"put a/a.go 28\n//go:build linux\n\npackage a\n\ncheck\n", b"a/a.go:1:1: outside profile: build constraint\npackages 1, errors 1\n", 1),
+    (b"put a/a.go 27\npackage a\n\nimport \"unsafe\"\n\ncheck\n", b"a/a.go:3:8: outside profile: unsafe\npackages 1, errors 1\n", 1),
+    (b"put a/a.go 26\npackage a\n\nimport . \"m/q\"\n\nput q/q.go 10\npackage q\n\ncheck\n", b"a/a.go:3:8: outside profile: dot import\npackages 2, errors 1\n", 1),
+    (b"put a/a.go 26\npackage a\n\nimport _ \"m/q\"\n\nput q/q.go 10\npackage q\n\ncheck\n", b"packages 2, errors 0\n", 0),
+    (b"put a/a.go 25\npackage a\n\nconst A = 1.5\n\ncheck\n", b"a/a.go:3:11: outside profile: float\npackages 1, errors 1\n", 1),
+    (b"put q/q.go 31\npackage q\n\nconst N uint8 = 250\n\nput p/p.go 62\npackage p\n\nimport \"m/q\"\n\nconst M = q.N + 10\nconst L = q.N + 5\n\ncheck\n", b"p/p.go:5:11: E30 constant overflow\npackages 2, errors 1\n", 1),
+    (b"put a/a.go 39\npackage a\n\nimport \"m/q\"\n\nconst A = q.N\n\nput a/b.go 23\npackage a\n\nconst q = 1\n\nput q/q.go 23\npackage q\n\nconst N = 2\n\ncheck\n", b"a/a.go:3:8: E1 redeclared\na/a.go:3:8: E7 unused import\na/a.go:5:11: E20 no such field or method\npackages 2, errors 3\n", 1),
 ];
 
 /// Trees of packages that import each other, and the replies to checks and to `stats`.
@@ -119,6 +134,11 @@ fn answers_scripts(rt: HostRuntime) -> Result<(), Fail> {
 #[test]
 fn answers_trees(rt: HostRuntime) -> Result<(), Fail> {
     for (script, due, number) in TREES {
+        let (status, out) = answer(&rt, rt.alloc(), script, &[], &[], &[])?;
+        assert_eq!(rt; out.as_slice(), due);
+        assert_eq!(rt; status, number);
+    }
+    for (script, due, number) in CONSTANTS {
         let (status, out) = answer(&rt, rt.alloc(), script, &[], &[], &[])?;
         assert_eq!(rt; out.as_slice(), due);
         assert_eq!(rt; status, number);

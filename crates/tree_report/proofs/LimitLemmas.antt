@@ -1,5 +1,5 @@
 -- Loops over files and texts.
-use Rattle.std.proofs.Common.{◌≡◌, ℕ, zero, suc, ◌+◌, ◌-◌, ◌<◌, ◌≤◌, ◌⊎◌, inl, inr, List, [], ◌∷◌, ◌++◌, length, take, map, filter, Bool, true, false, cond, Some, slice_get, get_or, slice_index_or, All, sum_by, refl, ap, sym, ◌∙◌, subst, arith, bytes_eq, IsTrue}
+use Rattle.std.proofs.Common.{◌≡◌, ℕ, ◌+◌, ◌<◌, ◌≤◌, inl, inr, List, [], ◌∷◌, ◌++◌, length, take, map, filter, Bool, true, false, cond, Some, slice_get, slice_index_or, All, sum_by, refl, ap, sym, ◌∙◌, subst, arith}
 use denote.Ref.{Bor}
 use Rattle.std.proofs.lemmas.Bool.{cases_lt}
 use Rattle.std.proofs.lemmas.Option.{get_or_from_slice_get}

@@ -1,10 +1,14 @@
 -- Lines of missing imports, and lines package by package.
-use Rattle.std.proofs.Common.{◌≡◌, ℕ, zero, suc, ◌+◌, ◌<◌, Option, Some, List, [], ◌∷◌, ◌++◌, map, drop, length, codes, slice_get, get_or, refl, sym, ap, ◌∙◌, arith, append_assoc}
+use Rattle.std.proofs.Common.{◌≡◌, ℕ, zero, suc, ◌+◌, ◌<◌, true, Option, Some, List, [], ◌∷◌, ◌++◌, map, drop, length, codes, slice_get, get_or, refl, sym, ap, ◌∙◌, arith, append_assoc}
 use Rattle.std.proofs.lemmas.Option.{same_Some, slice_get_within, slice_get-get_or, get_or_from_slice_get}
 use Rattle.std.specs.List.{Contains}
 use Rattle.std.proofs.lemmas.List.{append-nil}
 use Rattle.gv_base.specs.declared.place.Place.{Place}
 use Rattle.go_tree.specs.declared.head.ImportLine.{ImportLine}
+use Rattle.typed_tree.specs.RuleTexts.{limit_text}
+use Rattle.typed_tree.specs.declared.rule.Limit.{Limit}
+use Rattle.typed_tree.specs.declared.rule.Limit.TheVariants as limits
+use Rattle.const_check.specs.Refusals.{limit_number}
 use Rattle.import_graph.proofs.FaultLemmas.{missing-none, missing-one}
 use Rattle.analysis_core.specs.declared.reply.ErrorLine.{ErrorLine}
 use Rattle.go_tree.specs.declared.head.Head.{Head}
@@ -12,7 +16,7 @@ use Rattle.parse_file.specs.declared.verdict.FileVerdict.{FileVerdict}
 use Rattle.import_graph.specs.declared.pack.Package.{Package}
 use Rattle.gv_driver.specs.declared.reply.Verdict.{Verdict}
 use Rattle.gv_driver.specs.declared.reply.Verdict.TheVariants.{Faulty}
-use Rattle.tree_report.specs.Lines.{line_at, missing_line, missing_lines_at, state_lines, lines_from}
+use Rattle.tree_report.specs.Lines.{line_at, missing_line, missing_lines_at, mark_text, state_lines, lines_from}
 
 -- an import that leads to a package has no line
 pub nothing-missing : (paths : List (List ℕ)) (path : List ℕ) (n : ℕ) (line : ImportLine) (k : ℕ) (lines : List ErrorLine) → slice_get paths k ≡ Some line.path
@@ -49,3 +53,15 @@ lines-more heads verdicts packages outcomes k p o old new whole l m grown before
     ∙ (append_assoc old (state_lines heads verdicts packages outcomes (get_or packages k p) (get_or outcomes k o) (get_or packages k p).state) next
     ∙ (ap (λ v. old ++ (state_lines heads verdicts packages outcomes (get_or packages k p) v (get_or packages k p).state ++ next)) (sym found)
     ∙ (ap (λ ps. old ++ lines_from heads verdicts packages outcomes k ps) (sym (drop-at packages k (get_or packages k p) at)) ∙ before))))
+
+-- the text of a limit is had by its number
+pub limit-text : (limit : Limit) → mark_text true (limit_number limit) ≡ limit_text limit
+limit-text limits.Float = refl
+limit-text limits.Complex = refl
+limit-text limits.Wide = refl
+limit-text limits.LongText = refl
+limit-text limits.WideType = refl
+limit-text limits.Unsafe = refl
+limit-text limits.Cgo = refl
+limit-text limits.DotImport = refl
+limit-text limits.BuildConstraint = refl

@@ -1,6 +1,6 @@
 -- A tree has one reading, and over one cache one report.
-use Rattle.std.proofs.Common.{◌≡◌, ℕ, ◌<◌, Bool, true, false, Option, Some, None, List, length, map, sum_by, slice_get, refl, sym, ap, ◌∙◌, subst, arith}
-use Rattle.std.proofs.lemmas.Option.{same_Some, slice_get_within}
+use Rattle.std.proofs.Common.{◌≡◌, ◌<◌, Bool, true, false, Option, Some, None, List, length, map, sum_by, refl, sym, ap, ◌∙◌, subst, arith}
+use Rattle.std.proofs.lemmas.Option.{slice_get_within}
 use Rattle.gv_base.specs.Files.{Entry}
 use Rattle.go_tree.specs.declared.head.Head.{Head}
 use Rattle.parse_file.specs.declared.verdict.FileVerdict.{FileVerdict}
@@ -11,20 +11,17 @@ use Rattle.import_graph.proofs.OneLemmas.{one-answer}
 use Rattle.gv_driver.proofs.Places.{element}
 use Rattle.gv_driver.proofs.WholeLaws.{unique-plan}
 use Rattle.gv_driver.proofs.OnceLaws.{report-once, cache-once, honest-after}
-use Rattle.gv_driver.specs.declared.reply.Verdict.{Verdict}
 use Rattle.gv_driver.specs.Caches.{IsCacheAfter, IsHonest, missing_of}
 use Rattle.gv_driver.specs.Loads.{IsPlan}
 use Rattle.gv_driver.specs.Reports.{IsReport}
 use Rattle.import_graph.specs.Packages.{ArePackages}
 use Rattle.gv_driver.specs.Runs.{some_in}
-use Rattle.fact_cache.specs.declared.texts.Input.{Input}
 use Rattle.fact_cache.specs.declared.list.Entry.{Entry as Kept}
 use Rattle.analysis_core.specs.declared.reply.Counts.{Counts}
-use Rattle.analysis_core.specs.declared.reply.ErrorLine.{ErrorLine}
 use Rattle.analysis_core.specs.declared.reply.Reply.{Reply}
 use Rattle.analysis_core.specs.Replies.{is_found, reply_text}
 use Rattle.tree_report.specs.declared.print.TreeReport.{TreeReport}
-use Rattle.tree_report.specs.Form.{IsRead, AreRead, head_in, AreHeads, IsForm}
+use Rattle.tree_report.specs.Form.{IsRead, AreRead, AreHeads, IsForm}
 use Rattle.tree_report.specs.Lines.{error_lines}
 use Rattle.tree_report.specs.Reports.{texts_of, Reports}
 

@@ -1,5 +1,5 @@
 -- Verdicts and heads, file by file.
-use Rattle.std.proofs.Common.{◌≡◌, ℕ, zero, suc, ◌+◌, ◌<◌, ◌≤◌, ◌⊎◌, inl, inr, Bool, true, false, cond, Option, Some, None, List, [], ◌∷◌, ◌++◌, length, map, filter, slice_get, get_or, All, refl, sym, ap, ◌∙◌, subst, arith}
+use Rattle.std.proofs.Common.{◌≡◌, ℕ, zero, suc, ◌+◌, ◌<◌, Bool, true, false, cond, Option, Some, List, [], ◌∷◌, ◌++◌, length, map, filter, slice_get, get_or, All, refl, sym, ap, ◌∙◌, subst, arith}
 use Rattle.std.proofs.lemmas.Option.{same_Some, slice_get_within, slice_get-get_or}
 use Rattle.gv_base.specs.Files.{Entry}
 use Rattle.parse_file.specs.declared.verdict.FileVerdict.{FileVerdict}
@@ -67,3 +67,8 @@ pair-here Q files verdicts n entry verdict at is lt holds e v here there =
     let known : slice_get verdicts n ≡ Some verdict = slice_get-get_or verdicts n verdict lt ∙ ap Some (sym is) in
     let alike : verdict ≡ v = same_Some verdict v (sym known ∙ there) in
     subst (Q e) alike (subst (λ x. Q x verdict) same holds)
+
+-- what holds of what is read at a number holds of the item of that number
+pub item-here : {X : Type 0} (Q : X → Type 0) (xs : List X) (n : ℕ) (item : X) → item ≡ get_or xs n item → n < length xs → Q item → (v : X) → slice_get xs n ≡ Some v → Q v
+item-here Q xs n item is lt holds v there =
+    subst Q (same_Some item v (sym (slice_get-get_or xs n item lt ∙ ap Some (sym is)) ∙ there)) holds

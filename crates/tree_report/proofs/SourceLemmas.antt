@@ -1,8 +1,8 @@
 -- What is asked of the texts of a sound package.
-use Rattle.std.proofs.Common.{◌≡◌, ℕ, zero, suc, ◌+◌, ◌-◌, ◌<◌, ◌≤◌, ◌^◌, ◌&&◌, ◌||◌, ◌==◌, Bool, true, false, cond, not, Option, Some, None, List, [], ◌∷◌, ◌++◌, length, map, filter, take, drop, nat_le, length-drop, codes, slice_get, get_or, bytes_eq, refl, sym, ap, ◌∙◌, subst, arith}
-use Rattle.std.specs.List.{All, AllPairs, Contains, list_any}
+use Rattle.std.proofs.Common.{◌≡◌, ℕ, suc, ◌+◌, ◌-◌, ◌<◌, ◌≤◌, ◌^◌, ◌&&◌, ◌==◌, Bool, true, false, cond, Option, Some, None, List, [], ◌∷◌, ◌++◌, length, map, filter, take, drop, nat_le, length-drop, codes, slice_get, get_or, bytes_eq, refl, sym, ap, ◌∙◌, subst, arith}
+use Rattle.std.specs.List.{All}
 use Rattle.std.proofs.lemmas.Bool.{and_parts, leb-true}
-use Rattle.std.proofs.lemmas.Option.{same_Some, slice_get_within, get_or_from_slice_get, slice_get-get_or}
+use Rattle.std.proofs.lemmas.Option.{get_or_from_slice_get, slice_get-get_or}
 use Rattle.std.proofs.lemmas.List.Kept.{AllPairs-filter}
 use Rattle.std.proofs.lemmas.Slice.Eq.{bytes_eq-Decides}
 use Rattle.gv_base.specs.Files.{Entry, AreInOrder, file_at, is_before}
@@ -14,11 +14,11 @@ use Rattle.std.specs.Str.{is_utf8}
 use Rattle.go_tree.specs.ImportPaths.{are_segments}
 use Rattle.import_graph.specs.Modules.{module_path, module_in, module_line, lines_of, path_named, path_in, is_path, unquoted, second_word, until}
 use Rattle.import_graph.specs.declared.go_mod.Stop.TheVariants.{Comment}
-use Rattle.import_graph.specs.Packages.{home_of, is_of, numbers_from, files_in, files_of, is_stub_path}
-use Rattle.import_graph.proofs.ListLemmas.{Passes, some-numbers, in-mapped}
+use Rattle.import_graph.specs.Packages.{home_of, is_of, numbers_from, files_of, is_stub_path}
+use Rattle.import_graph.proofs.ListLemmas.{some-numbers, in-mapped}
 use Rattle.analysis_core.specs.Replies.{file_numbered}
-use Rattle.action_graph.specs.Nodes.{Named, AreNamed}
-use Rattle.tree_report.specs.Form.{is_early, source_texts}
+use Rattle.action_graph.specs.Nodes.{AreNamed}
+use Rattle.tree_report.specs.Form.{source_texts}
 
 -- the files of numbers that pass a test are the files that pass it
 numbered-from : (tree whole : List Entry) (test : Entry → Bool) (n : ℕ) → ((k : ℕ) (e : Entry) → slice_get tree k ≡ Some e → file_numbered whole (n + k) ≡ e)

@@ -1,23 +1,22 @@
 -- The packages of a tree of the form are a tree as a run takes it.
-use Rattle.std.proofs.Common.{◌≡◌, ℕ, zero, suc, ◌+◌, ◌<◌, ◌≤◌, ◌^◌, Bool, true, false, Option, Some, None, List, [], ◌∷◌, length, map, filter, slice_get, get_or, refl, sym, ap, ◌∙◌, subst, arith}
-use Rattle.std.specs.List.{All, AllPairs, Contains, list_any}
-use Rattle.std.specs.List.Sorted.{IsStrictlyIncreasing}
-use Rattle.std.proofs.lemmas.Option.{same_Some, slice_get_within, get_or_from_slice_get, slice_get-get_or}
+use Rattle.std.proofs.Common.{◌≡◌, ℕ, zero, suc, ◌<◌, ◌≤◌, ◌^◌, Bool, true, false, Option, Some, None, List, [], ◌∷◌, length, map, filter, slice_get, get_or, refl, sym, ap, ◌∙◌, subst, arith}
+use Rattle.std.specs.List.{All, AllPairs, Contains}
+use Rattle.std.proofs.lemmas.Option.{slice_get_within, get_or_from_slice_get}
 use Rattle.std.proofs.lemmas.List.{length-map}
 use Rattle.std.proofs.lemmas.List.Kept.{AllPairs-from_increasing}
 use Rattle.gv_base.specs.Files.{Entry, AreInOrder, is_before}
 use Rattle.go_tree.specs.declared.head.Head.{Head}
 use Rattle.go_tree.specs.declared.tree.FileTree.{FileTree}
-use Rattle.go_tree.specs.Names.{Package as Sources}
 use Rattle.parse_file.specs.Verdict.{IsParsed}
 use Rattle.parse_file.specs.declared.verdict.FileVerdict.{FileVerdict}
 use Rattle.parse_file.specs.declared.verdict.FileVerdict.TheVariants as verdict
-use Rattle.const_check.specs.Form.{IsConstantFile, AreConstantFiles}
+use Rattle.const_tree.specs.Form.{IsConstantFile}
+use Rattle.const_check.specs.Packages.{Package as Sources}
 use Rattle.import_graph.specs.declared.pack.PackState.{PackState}
 use Rattle.import_graph.specs.declared.pack.PackState.TheVariants.{Broken, NameClash, MissingImport, ImportCycle, Sound}
 use Rattle.import_graph.specs.declared.pack.Package.{Package}
 use Rattle.import_graph.specs.Orders.{is_sound}
-use Rattle.import_graph.specs.Packages.{paths_of, files_of, is_broken, head_at, is_missing, IsWhole, IsStateOf, IsPackage, ArePackages}
+use Rattle.import_graph.specs.Packages.{paths_of, is_broken, head_at, is_missing, IsStateOf, IsPackage, ArePackages}
 use Rattle.import_graph.proofs.ListLemmas.{any-get, map-get, get-map}
 use Rattle.import_graph.proofs.LawLemmas.{numbered}
 use Rattle.gv_driver.proofs.Places.{element, at-contained, contains-at}
@@ -25,7 +24,7 @@ use Rattle.analysis_core.specs.Replies.{file_numbered}
 use Rattle.action_graph.specs.Nodes.{Named, AreNamed}
 use Rattle.action_graph.specs.Judging.{text_of, AreParsed, IsPackageOf, IsSource}
 use Rattle.gv_driver.specs.declared.tree.PackageTexts.{PackageTexts}
-use Rattle.gv_driver.specs.Trees.{Imports, IsTree}
+use Rattle.gv_driver.specs.Trees.{IsTree}
 use Rattle.tree_report.specs.Form.{IsForm, AreRead, AreHeads, AreOfForm, head_in, IsRead, IsOfForm}
 use Rattle.tree_report.specs.Reports.{texts_of}
 use Rattle.tree_report.proofs.SourceLemmas.{test_of, files-kept, files-named, files-ordered, files-few, texts-of-files, has-files, has-path}
@@ -51,15 +50,15 @@ tree_in (Some v) = tree_by v
 -- what a sound package's file is
 record IsFine (text : List ℕ) (t : FileTree) : Type 0 where
   parsed : IsParsed text t
-  constants : IsConstantFile text t
+  constants : IsConstantFile t
 
-fine-by : (e : Entry) (v : FileVerdict) (h : Head) → Some h ≡ head_in e (Some v) → IsRead e (Some v) → IsOfForm e (Some v) → IsFine e.1 (tree_by v)
-fine-by e (verdict.Parsed t) h is read form = record { parsed = read.1; constants = form.0 }
+fine-by : (e : Entry) (v : FileVerdict) (h : Head) → Some h ≡ head_in e (Some v) → IsRead e (Some v) → IsOfForm (Some v) → IsFine e.1 (tree_by v)
+fine-by e (verdict.Parsed t) h is read form = record { parsed = read.1; constants = form }
 fine-by e (verdict.Lexical offset why) h is read form = cc
 fine-by e (verdict.Syntax offset) h is read form = cc
 fine-by e (verdict.TooDeep offset) h is read form = cc
 
-fine-in : (e : Entry) (v : Option FileVerdict) (h : Head) → Some h ≡ head_in e v → IsRead e v → IsOfForm e v → IsFine e.1 (tree_in v)
+fine-in : (e : Entry) (v : Option FileVerdict) (h : Head) → Some h ≡ head_in e v → IsRead e v → IsOfForm v → IsFine e.1 (tree_in v)
 fine-in e None h is read form = cc
 fine-in e (Some v) h is read form = fine-by e v h is read form
 
@@ -73,7 +72,7 @@ head-within (x ∷ xs) zero h is = ap Some is
 head-within (x ∷ xs) (suc n) h is = head-within xs n h is
 
 -- a file of a package none of whose files is broken
-fine-at : (tree : List Entry) (verdicts : List (Option FileVerdict)) (heads : List (Option Head)) (files : List ℕ) (n : ℕ) → AreRead tree verdicts → AreHeads tree verdicts heads → AreOfForm tree verdicts
+fine-at : (tree : List Entry) (verdicts : List (Option FileVerdict)) (heads : List (Option Head)) (files : List ℕ) (n : ℕ) → AreRead tree verdicts → AreHeads tree verdicts heads → AreOfForm verdicts
     → is_broken heads files ≡ false → Contains files n → IsFine (file_numbered tree n).1 (tree_in (get_or verdicts n None))
 fine-at tree verdicts heads files n read headed form whole has =
     let some = some-head (head_at heads n) (λ missing. differ (is_broken heads files) (any-get (λ m. is_missing (head_at heads m)) files has.0 n (at-contained files n has) missing) whole) in
@@ -83,7 +82,7 @@ fine-at tree verdicts heads files n read headed form whole has =
     let size_v : length verdicts ≡ length tree = read.size in
     let e = element tree n (omega (arith, l, size_h)) in
     let v = element verdicts n (omega (arith, l, size_h, size_v)) in
-    let fine : IsFine e.0.1 (tree_in v.0) = fine-in e.0 v.0 some.0 (headed.each n e.0 v.0 (Some some.0) e.1 v.1 here) (read.each n e.0 v.0 e.1 v.1) (form n e.0 v.0 e.1 v.1) in
+    let fine : IsFine e.0.1 (tree_in v.0) = fine-in e.0 v.0 some.0 (headed.each n e.0 v.0 (Some some.0) e.1 v.1 here) (read.each n e.0 v.0 e.1 v.1) (form n v.0 v.1) in
     subst (λ o. IsFine (file_numbered tree n).1 (tree_in o)) (sym (get_or_from_slice_get verdicts n v.0 None v.1))
     (subst (λ (x : Entry). IsFine x.1 (tree_in v.0)) (sym (get_or_from_slice_get tree n e.0 ([], []) e.1)) fine)
 
@@ -96,23 +95,20 @@ map-twice f g [] = refl
 map-twice f g (x ∷ xs) = ap (λ l. g (f x) ∷ l) (map-twice f g xs)
 
 -- the package of the files of a package none of which is broken
-pub package-of : (tree : List Entry) (verdicts : List (Option FileVerdict)) (heads : List (Option Head)) (files : List ℕ) → AreRead tree verdicts → AreHeads tree verdicts heads → AreOfForm tree verdicts
+pub package-of : (tree : List Entry) (verdicts : List (Option FileVerdict)) (heads : List (Option Head)) (files : List ℕ) → AreRead tree verdicts → AreHeads tree verdicts heads → AreOfForm verdicts
     → is_broken heads files ≡ false → (p : Sources) × IsPackageOf (map (file_numbered tree) files) p
 package-of tree verdicts heads files read headed form whole =
     let text : ℕ → List ℕ = λ n. (file_numbered tree n).1 in
     let t : ℕ → FileTree = λ n. tree_in (get_or verdicts n None) in
     let fine : (n : ℕ) → Contains files n → IsFine (text n) (t n) = (λ n has. fine-at tree verdicts heads files n read headed form whole has) in (
-      record { texts = map text files; trees = map t files },
+      record { files = map (file_numbered tree) files; trees = map t files },
       record {
-        texts = sym (map-twice (file_numbered tree) text_of files);
-        trees = all-parsed text t files (λ n has. (fine n has).parsed);
+        files = refl;
+        trees = subst (λ (x : List (List ℕ)). AreParsed x (map t files)) (sym (map-twice (file_numbered tree) text_of files)) (all-parsed text t files (λ n has. (fine n has).parsed));
         form = record {
-          sized = length-map files text ∙ sym (length-map files t);
-          files = λ f x y here there.
-              let a = map-get text files f x here in
+          each = λ f y there.
               let b = map-get t files f y there in
-              let same : a.0 ≡ b.0 = same_Some a.0 b.0 (sym a.1 ∙ b.1) in
-              subst (λ z. IsConstantFile x z) b.2 (subst (λ m. IsConstantFile x (t m)) same (subst (λ z. IsConstantFile z (t a.0)) a.2 (fine a.0 (contains-at files f a.0 a.1)).constants));
+              subst IsConstantFile b.2 (fine b.0 (contains-at files f b.0 b.1)).constants;
         };
       },
     )

@@ -1,6 +1,6 @@
 -- The trees that are built: those of whose source files each is refused by the scanner or the parser, or is a file of
--- integer constants with imports.
-use Rattle.std.specs.Prelude.{◌≡◌, ℕ, ◌≤◌, ◌||◌, Bool, true, false, Option, Some, None, List, [], ◌∷◌, length, map, slice_get, codes, sum_by, bytes_eq, nat_eq}
+-- imports and constants.
+use Rattle.std.specs.Prelude.{◌≡◌, ℕ, ◌≤◌, ◌||◌, Bool, true, false, Option, Some, None, List, length, map, slice_get, codes, sum_by, bytes_eq, nat_eq}
 use Rattle.std.specs.List.{All, filter, starts_with}
 use Rattle.gv_base.specs.Files.{Entry}
 use Rattle.go_tree.specs.Head.{head_of}
@@ -8,7 +8,7 @@ use Rattle.go_tree.specs.declared.head.Head.{Head}
 use Rattle.parse_file.specs.Verdict.{IsVerdict}
 use Rattle.parse_file.specs.declared.verdict.FileVerdict.{FileVerdict}
 use Rattle.parse_file.specs.declared.verdict.FileVerdict.TheVariants as file
-use Rattle.const_check.specs.Form.{IsConstantFile}
+use Rattle.const_tree.specs.Form.{IsConstantFile}
 use Rattle.import_graph.specs.Sources.{is_source}
 use Rattle.import_graph.specs.Packages.{ArePackages}
 use Rattle.import_graph.specs.declared.pack.Package.{Package}
@@ -66,27 +66,27 @@ pub record AreHeads (tree : List Entry) (verdicts : List (Option FileVerdict)) (
   pub size : length heads ≡ length tree
   pub each : (n : ℕ) (entry : Entry) (verdict : Option FileVerdict) (head : Option Head) → slice_get tree n ≡ Some entry → slice_get verdicts n ≡ Some verdict → slice_get heads n ≡ Some head → head ≡ head_in entry verdict
 
--- A file that isn't refused is of constants, and no build constraint stands before its package clause.
-abbrev pub FitsForm : List ℕ → FileVerdict → Type 0
-FitsForm text (file.Parsed tree) = IsConstantFile text tree × ((head_of tree text).constraint ≡ None)
-FitsForm text (file.Lexical offset why) = Unit {0}
-FitsForm text (file.Syntax offset) = Unit {0}
-FitsForm text (file.TooDeep offset) = Unit {0}
+-- a file that isn't refused is of imports and constants
+abbrev pub FitsForm : FileVerdict → Type 0
+FitsForm (file.Parsed tree) = IsConstantFile tree
+FitsForm (file.Lexical offset why) = Unit {0}
+FitsForm (file.Syntax offset) = Unit {0}
+FitsForm (file.TooDeep offset) = Unit {0}
 
-abbrev pub IsOfForm : Entry → Option FileVerdict → Type 0
-IsOfForm entry None = Unit {0}
-IsOfForm entry (Some verdict) = FitsForm entry.1 verdict
+abbrev pub IsOfForm : Option FileVerdict → Type 0
+IsOfForm None = Unit {0}
+IsOfForm (Some verdict) = FitsForm verdict
 
 -- the same of each file
-abbrev pub AreOfForm : List Entry → List (Option FileVerdict) → Type 0
-AreOfForm tree verdicts = (n : ℕ) (entry : Entry) (verdict : Option FileVerdict) → slice_get tree n ≡ Some entry → slice_get verdicts n ≡ Some verdict → IsOfForm entry verdict
+abbrev pub AreOfForm : List (Option FileVerdict) → Type 0
+AreOfForm verdicts = (n : ℕ) (verdict : Option FileVerdict) → slice_get verdicts n ≡ Some verdict → IsOfForm verdict
 
 -- The tree is of the form; its files have these verdicts and heads, and these are its packages.
 pub record IsForm (tree : List Entry) (verdicts : List (Option FileVerdict)) (heads : List (Option Head)) (packages : List Package) : Type 0 where
   pub plain : All (λ entry. is_early entry.0 ≡ false) tree
   pub within : AreWithinLimits (source_texts tree)
   pub read : AreRead tree verdicts
-  pub form : AreOfForm tree verdicts
+  pub form : AreOfForm verdicts
   pub headed : AreHeads tree verdicts heads
   pub packed : ArePackages tree heads packages
   pub few : length packages ≤ most_packages

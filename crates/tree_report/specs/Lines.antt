@@ -1,5 +1,6 @@
 -- The error lines of a run: why a package isn't accepted.
-use Rattle.std.specs.Prelude.{ℕ, suc, Bool, true, false, cond, Option, Some, None, List, [], ◌∷◌, ◌++◌, map, flat_map, get_or, codes, nat_eq, if◌then◌else◌}
+use Rattle.std.specs.Prelude.{ℕ, suc, Bool, true, false, cond, Option, Some, None, List, [], ◌∷◌, ◌++◌, map, flat_map, get_or, slice_index_or, codes, nat_eq, if◌then◌else◌}
+use Rattle.std.specs.Option.{option_map_or}
 use Rattle.gv_base.specs.declared.place.Place.{Place}
 use Rattle.go_tree.specs.declared.token.Why.{Why}
 use Rattle.go_tree.specs.declared.token.Why.TheVariants.{NotUtf8, Nul, StrayMark, BadLexeme, Unclosed}
@@ -11,6 +12,9 @@ use Rattle.import_graph.specs.Packages.{head_at, lines_in, missing_at, paths_of}
 use Rattle.import_graph.specs.declared.pack.PackState.{PackState}
 use Rattle.import_graph.specs.declared.pack.PackState.TheVariants.{Broken, NameClash, MissingImport, ImportCycle, Sound}
 use Rattle.import_graph.specs.declared.pack.Package.{Package}
+use Rattle.typed_tree.specs.RuleTexts.{rule_texts, limit_text}
+use Rattle.typed_tree.specs.declared.rule.Limit.{Limit}
+use Rattle.typed_tree.specs.declared.rule.Limit.TheVariants as limits
 use Rattle.action_graph.specs.declared.marks.MarkLine.{MarkLine}
 use Rattle.gv_driver.specs.declared.reply.Verdict.{Verdict}
 use Rattle.gv_driver.specs.declared.reply.Verdict.TheVariants.{Faulty, Blocked, Refused, Accepted}
@@ -77,33 +81,24 @@ blocked_lines_at packages outcomes path q = cond (is_accepted (get_or outcomes q
 abbrev pub blocked_lines : List Package → List Verdict → List ℕ → List ℕ → List ErrorLine
 blocked_lines packages outcomes path imports = flat_map (blocked_lines_at packages outcomes path) imports
 
--- the texts of the rules that stand, by number
-abbrev pub rule_text : ℕ → List ℕ
-rule_text number =
-    if nat_eq number 1 then codes "E1 redeclared"
-    else (if nat_eq number 3 then codes "E3 undefined"
-    else (if nat_eq number 4 then codes "E4 declaration cycle"
-    else (if nat_eq number 7 then codes "E7 unused import"
-    else (if nat_eq number 9 then codes "E9 not exported by package"
-    else (if nat_eq number 20 then codes "E20 no such field or method"
-    else codes "E24 not a value")))))
+-- the limit of a number, if one has it
+abbrev pub limit_of : ℕ → Option Limit
+limit_of number =
+    if nat_eq number 0 then Some limits.Float
+    else (if nat_eq number 1 then Some limits.Complex
+    else (if nat_eq number 2 then Some limits.Wide
+    else (if nat_eq number 3 then Some limits.LongText
+    else (if nat_eq number 4 then Some limits.WideType
+    else (if nat_eq number 5 then Some limits.Unsafe
+    else (if nat_eq number 6 then Some limits.Cgo
+    else (if nat_eq number 7 then Some limits.DotImport
+    else (if nat_eq number 8 then Some limits.BuildConstraint
+    else None))))))))
 
--- what lies outside the profile, by its place in the list of limits
-abbrev pub limit_text : ℕ → List ℕ
-limit_text number =
-    if nat_eq number 0 then codes "outside profile: float"
-    else (if nat_eq number 1 then codes "outside profile: complex"
-    else (if nat_eq number 2 then codes "outside profile: wide"
-    else (if nat_eq number 3 then codes "outside profile: long text"
-    else (if nat_eq number 4 then codes "outside profile: wide type"
-    else (if nat_eq number 5 then codes "outside profile: unsafe"
-    else (if nat_eq number 6 then codes "outside profile: cgo"
-    else (if nat_eq number 7 then codes "outside profile: dot import"
-    else codes "outside profile: build constraint")))))))
-
+-- The text of the rule or of the limit that has the number, which is empty where none has it.
 abbrev pub mark_text : Bool → ℕ → List ℕ
-mark_text true number = limit_text number
-mark_text false number = rule_text number
+mark_text true number = option_map_or limit_text (limit_of number) []
+mark_text false number = slice_index_or rule_texts number []
 
 -- a mark's file counts the files of its package
 abbrev pub mark_line : List ℕ → List ℕ → MarkLine → ErrorLine

@@ -31,7 +31,7 @@ fn packed(
     requires plain { All (λ entry. is_early entry.0 ≡ false) files.now }
     requires within { AreWithinLimits (source_texts files.now) }
     requires read { AreRead files.now verdicts.items }
-    requires form { AreOfForm files.now verdicts.items }
+    requires form { AreOfForm verdicts.items }
     ensures { IfOk result (λ formed. IsFormed files.now formed) }
 {
     let heads = heads(alloc, files, &verdicts)?;
@@ -53,7 +53,7 @@ fn read_form(alloc: Global, files: &Files) -> Result<Option<Formed>, NoMemory>
     ensures { IfOk result (λ formed. IsFormed files.now formed) }
 {
     let verdicts = read_all(alloc, files)?;
-    if !are_of_form(alloc, files, &verdicts)? {
+    if !are_of_form(&verdicts) {
         return Ok(None);
     }
     let formed = packed(alloc, files, verdicts)?;

@@ -1,8 +1,13 @@
 //! What follows from the definitions alone. The bodies are empty: the contracts are the laws.
-ghost use Rattle.std.specs.Prelude.{◌≡◌, List, []};
+ghost use Rattle.std.specs.Prelude.{◌≡◌, List, [], true, false};
 ghost use Rattle.gv_base.specs.Files.{Entry};
+ghost use Rattle.typed_tree.specs.RuleTexts.{rule_text, limit_text};
+ghost use Rattle.typed_tree.specs.declared.rule.Limit.{Limit};
+ghost use Rattle.typed_tree.specs.declared.rule.Rule.{Rule};
+ghost use Rattle.const_check.specs.Refusals.{limit_number};
 ghost use Rattle.fact_cache.specs.declared.list.Entry.{Entry as Kept};
 ghost use Rattle.tree_report.specs.Form.{IsBuilt};
+ghost use Rattle.tree_report.specs.Lines.{mark_text};
 ghost use Rattle.tree_report.specs.Reports.{IsHonest, Reports};
 ghost use Rattle.tree_report.specs.declared.print.TreeReport.{TreeReport};
 
@@ -14,4 +19,10 @@ pub fn one_report_of_a_tree()
     ensures built { (tree : List Entry) (before after : List Kept) (a : TreeReport) → Reports tree before after a → IsBuilt tree }
     ensures fresh { IsHonest [] }
     ensures honest { (tree : List Entry) (before after : List Kept) (a : TreeReport) → IsHonest before → Reports tree before after a → IsHonest after }
+{}
+
+/// The line of a mark says the text of the rule or of the limit that has its number.
+pub fn each_mark_has_its_text()
+    ensures rule { (rule : Rule) → mark_text false rule.0 ≡ rule_text rule }
+    ensures limit { (limit : Limit) → mark_text true (limit_number limit) ≡ limit_text limit }
 {}

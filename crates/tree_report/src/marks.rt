@@ -1,64 +1,61 @@
 //! What the lines of marks say.
-ghost use Rattle.std.specs.Prelude.{◌≡◌};
-ghost use Rattle.tree_report.specs.Lines.{rule_text, limit_text, mark_text};
+ghost use Rattle.std.specs.Prelude.{◌≡◌, true, false};
+ghost use Rattle.tree_report.specs.Lines.{limit_of, mark_text};
 
-/// The number and the text of a rule that stands.
-fn rule_text(number: u8) -> &'static [u8]
-    ensures { result.now ≡ rule_text number }
-{
-    if number == 1 {
-        return b"E1 redeclared";
-    }
-    if number == 3 {
-        return b"E3 undefined";
-    }
-    if number == 4 {
-        return b"E4 declaration cycle";
-    }
-    if number == 7 {
-        return b"E7 unused import";
-    }
-    if number == 9 {
-        return b"E9 not exported by package";
-    }
-    if number == 20 {
-        return b"E20 no such field or method";
-    }
-    b"E24 not a value"
-}
+use typed_tree::{Limit, Rule};
 
-/// What a limit says, by its place in the list of limits.
-fn limit_text(number: u8) -> &'static [u8]
-    ensures { result.now ≡ limit_text number }
+/// The limit of a number.
+fn limit_of(number: u8) -> Option<Limit>
+    ensures { result ≡ limit_of number }
 {
     if number == 0 {
-        return b"outside profile: float";
+        return Some(Limit::Float);
     }
     if number == 1 {
-        return b"outside profile: complex";
+        return Some(Limit::Complex);
     }
     if number == 2 {
-        return b"outside profile: wide";
+        return Some(Limit::Wide);
     }
     if number == 3 {
-        return b"outside profile: long text";
+        return Some(Limit::LongText);
     }
     if number == 4 {
-        return b"outside profile: wide type";
+        return Some(Limit::WideType);
     }
     if number == 5 {
-        return b"outside profile: unsafe";
+        return Some(Limit::Unsafe);
     }
     if number == 6 {
-        return b"outside profile: cgo";
+        return Some(Limit::Cgo);
     }
     if number == 7 {
-        return b"outside profile: dot import";
+        return Some(Limit::DotImport);
     }
-    b"outside profile: build constraint"
+    if number == 8 {
+        return Some(Limit::BuildConstraint);
+    }
+    None
 }
 
-/// What the line of a mark says.
+/// What the line of a limit says.
+fn limit_text(number: u8) -> &'static [u8]
+    ensures { result.now ≡ mark_text true number }
+{
+    match limit_of(number) {
+        Some(limit) => limit.text(),
+        None => b"",
+    }
+}
+
+/// What the line of a rule says.
+fn rule_text(number: u8) -> &'static [u8]
+    ensures { result.now ≡ mark_text false number }
+{
+    Rule(number).text()
+}
+
+/// What the line of a mark says: nothing where no rule or limit has the number.
 pub fn mark_text(limit: bool, number: u8) -> &'static [u8]
     ensures { result.now ≡ mark_text limit number }
 {

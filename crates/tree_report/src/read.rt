@@ -1,11 +1,10 @@
 //! The verdict of each file of a tree, and its head.
-ghost use Rattle.std.specs.Prelude.{◌≡◌, ◌≤◌, ◌↔◌, ◌^◌, ℕ, List, None, true, length, All, IsTrue, IfOk};
-ghost use Rattle.go_tree.specs.Head.{head_of};
+ghost use Rattle.std.specs.Prelude.{◌≡◌, ◌≤◌, ◌↔◌, ◌^◌, true, length, All, IsTrue, IfOk};
 ghost use Rattle.import_graph.specs.Sources.{is_source};
 ghost use Rattle.tree_report.specs.Form.{source_texts, IsRead, AreRead, head_by, head_in, AreHeads, FitsForm, IsOfForm, AreOfForm};
 
-use const_check::is_constant_file;
-use go_tree::{FileTree, Head};
+use const_tree::is_constant_file;
+use go_tree::Head;
 use gv_base::{Files, NoMemory};
 use import_graph::is_source;
 use parse_file::{FileVerdict, parse_file};
@@ -88,60 +87,35 @@ pub fn heads(
     Ok(heads)
 }
 
-/// Whether no build constraint stands before the package clause.
-fn is_unconstrained(alloc: Global, text: &[u8], tree: &FileTree) -> Result<bool, NoMemory>
-    ensures { IfOk result (λ free. IsTrue free ↔ ((head_of tree.now text.now).constraint ≡ None)) }
-{
-    let head = tree.head(alloc, text)?;
-    Ok(head.constraint.is_none())
-}
-
 /// Whether a file that isn't refused is of the form.
-fn fits(alloc: Global, text: &[u8], verdict: &FileVerdict) -> Result<bool, NoMemory>
-    ensures { IfOk result (λ fit. IsTrue fit ↔ FitsForm text.now verdict.now) }
+fn fits(verdict: &FileVerdict) -> bool
+    ensures { IsTrue result ↔ FitsForm verdict.now }
 {
     match verdict {
-        FileVerdict::Parsed(tree) => {
-            let free = is_unconstrained(alloc, text, tree)?;
-            Ok(free && is_constant_file(text, tree))
-        }
-        FileVerdict::Lexical { .. } => Ok(true),
-        FileVerdict::Syntax { .. } => Ok(true),
-        FileVerdict::TooDeep { .. } => Ok(true),
+        FileVerdict::Parsed(tree) => is_constant_file(tree),
+        FileVerdict::Lexical { .. } => true,
+        FileVerdict::Syntax { .. } => true,
+        FileVerdict::TooDeep { .. } => true,
     }
 }
 
-fn is_of_form(
-    alloc: Global,
-    path: &str,
-    text: &[u8],
-    verdict: &Option<FileVerdict>,
-) -> Result<bool, NoMemory>
-    ensures { IfOk result (λ fit. IsTrue fit ↔ IsOfForm (path.now, text.now) verdict.now) }
+fn is_of_form(verdict: &Option<FileVerdict>) -> bool
+    ensures { IsTrue result ↔ IsOfForm verdict.now }
 {
     match verdict {
-        None => Ok(true),
-        Some(verdict) => {
-            let fit = fits(alloc, text, verdict)?;
-            Ok(fit)
-        }
+        None => true,
+        Some(verdict) => fits(verdict),
     }
 }
 
 /// Whether each file that isn't refused is of the form.
-pub fn are_of_form(
-    alloc: Global,
-    files: &Files,
-    verdicts: &[Option<FileVerdict>],
-) -> Result<bool, NoMemory>
-    requires { length verdicts.now ≡ length files.now }
-    ensures { IfOk result (λ fit. IsTrue fit ↔ AreOfForm files.now verdicts.now) }
+pub fn are_of_form(verdicts: &[Option<FileVerdict>]) -> bool
+    ensures { IsTrue result ↔ AreOfForm verdicts.now }
 {
-    for file in 0..files.count() {
-        let (path, text) = files.at(file);
-        if !is_of_form(alloc, path, text, &verdicts[file as usize])? {
-            return Ok(false);
+    for verdict in verdicts {
+        if !is_of_form(verdict) {
+            return false;
         }
     }
-    Ok(true)
+    true
 }

@@ -1,15 +1,17 @@
-use Rattle.std.proofs.Common.{subst}
-use Rattle.go_tree.specs.Names.{Package}
-use Rattle.const_check.specs.Annotations.{marks_of}
-use Rattle.const_check.specs.Packages.{package_of, shown, env_of}
-use Rattle.const_check.specs.Rules.{Env}
-use Rattle.const_check.specs.Refusals.{AreMarks}
-use Rattle.const_check.proofs.RefusalLemmas.{are_marks}
+use Rattle.std.proofs.Common.{map, ◌∙◌}
+use Rattle.const_marks.specs.Subjects.{package_unit}
+use Rattle.const_check.specs.Packages.{text_of}
+use Rattle.const_check.proofs.PackageLemmas.{is_unit, are_marks, are_exports}
 use Rattle.const_check.proofs.check.check_constants.Goals as goal
 
 pub returns-clause-marks : goal.returns-clause-marks
 returns-clause-marks c =
-    subst (λ (env : Env). AreMarks (package_of c.args.sources.now c.args.trees.now) env c.in_ok-refused.refused.items) c.in_ok-constants.ensures.over
-    (subst (λ (p : Package). AreMarks p (env_of c.in_ok-constants.constants) c.in_ok-refused.refused.items) c.in_ok-constants.ensures.of
-    (are_marks (env_of c.in_ok-constants.constants) (shown c.in_ok-constants.constants) c.in_ok-refused.refused.items (marks_of c.in_ok-marks.marks)
-    c.in_ok-marks.ensures.annotated c.in_ok-marks.ensures.alone c.in_ok-refused.ensures.all))
+    are_marks c.args.files.now c.args.trees.now c.args.env.now (package_unit (map text_of c.args.files.now) c.args.trees.now c.in_ok-uses.uses c.args.env.now) c.in_ok-checked.checked.refused.items
+    (is_unit c.args.files.now c.args.trees.now c.args.env.now c.deref.result.now c.in_ok-uses.uses (c.deref.ensures.value ∙ c.in_ok-named.ensures) c.in_ok-uses.ensures.ordered c.in_ok-uses.ensures.bound)
+    c.in_ok-checked.ensures.marks
+
+pub returns-clause-exports : goal.returns-clause-exports
+returns-clause-exports c = λ empty.
+    are_exports c.args.files.now c.args.trees.now c.args.env.now (package_unit (map text_of c.args.files.now) c.args.trees.now c.in_ok-uses.uses c.args.env.now) c.in_ok-checked.checked.exports.items
+    (is_unit c.args.files.now c.args.trees.now c.args.env.now c.deref.result.now c.in_ok-uses.uses (c.deref.ensures.value ∙ c.in_ok-named.ensures) c.in_ok-uses.ensures.ordered c.in_ok-uses.ensures.bound)
+    (c.in_ok-checked.ensures.exports empty)

@@ -1,10 +1,10 @@
 use Rattle.std.proofs.Common.{◌↔◌, List, subst, sym}
 use Rattle.std.specs.List.{Contains}
 use Rattle.std.specs.List.Sorted.{IsNonDecreasingBy}
-use Rattle.const_check.specs.declared.mark.Refusal.{Refusal}
-use Rattle.const_check.specs.Packages.{shown, env_of}
-use Rattle.const_check.specs.Annotations.{marks_of}
-use Rattle.const_check.specs.Refusals.{IsRefused, rank_of}
+use Rattle.const_marks.specs.Subjects.{shown}
+use Rattle.const_check.specs.declared.refusal.Refusal.{Refusal}
+use Rattle.const_check.specs.Checks.{IsCollected}
+use Rattle.const_check.specs.Order.{rank_of}
 use Rattle.const_check.proofs.ListLemmas.{same_permuted, same_through}
 use Rattle.const_check.proofs.check.refusals.Goals as goal
 
@@ -13,7 +13,7 @@ distinct-requires c = subst (λ (xs : List Refusal). IsNonDecreasingBy rank_of x
 
 pub returns-clause-all : goal.returns-clause-all
 returns-clause-all c =
-    let P = IsRefused (env_of c.args.constants.now) (shown c.args.constants.now) (marks_of c.args.marks.now) in
+    let P = IsCollected (shown c.args.s.now) c.args.marks.now in
     same_through P c.deref.result.now c.in_ok-sorted.sorted.items c.in_ok-sorted.ensures.same
     (subst (λ (xs : List Refusal). (x : Refusal) → Contains xs x ↔ P x) (sym c.deref.ensures.value)
     (same_permuted P c.in_ok-list.list.items c.sort.new.list.items c.in_ok-sort.ensures.same c.in_ok-list.ensures))

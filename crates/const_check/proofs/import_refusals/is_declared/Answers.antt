@@ -1,10 +1,16 @@
-use Rattle.const_check.specs.Index.{found}
-use Rattle.const_check.specs.Packages.{shown}
-use Rattle.std.proofs.Common.{◌∙◌, ap, is_some}
-use Rattle.const_check.proofs.ImportRefusalLemmas.{declared_found}
+use Rattle.std.proofs.Common.{refl, sym, ◌∙◌}
+use Rattle.const_marks.specs.Subjects.{shown}
+use Rattle.const_check.proofs.ImportLemmas.{declared_some, declared_none}
 use Rattle.const_check.proofs.import_refusals.is_declared.Goals as goal
 
-pub returns : goal.returns
-returns c =
-    declared_found (shown c.args.constants.now) c.args.name.now (found c.args.constants.now.names c.args.name.now) c.is_some.result
-    (c.requires.names c.args.name.now) (c.is_some.ensures ∙ ap is_some c.find.ensures)
+pub returns-in-Some : goal.returns-in-Some
+returns-in-Some c = (
+  λ h. declared_some (shown c.args.s.now) c.args.name.now c.in-Some.field-0 (sym (c.requires.firsts c.args.name.now) ∙ (sym c.has_name.ensures ∙ c.in-Some.is)),
+  λ h. refl,
+)
+
+pub returns-in-None : goal.returns-in-None
+returns-in-None c = (
+  λ h. absurd cc,
+  λ h. absurd (declared_none (shown c.args.s.now) c.args.name.now (sym (c.requires.firsts c.args.name.now) ∙ (sym c.has_name.ensures ∙ c.in-None.is)) h),
+)

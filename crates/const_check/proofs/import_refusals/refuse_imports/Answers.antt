@@ -1,9 +1,15 @@
-use Rattle.const_check.specs.Rules.{known_of}
-use Rattle.const_check.specs.Packages.{shown, env_of}
-use Rattle.const_check.proofs.ImportRefusalLemmas.{one_more_file}
+use Rattle.std.proofs.Common.{length, arith}
+use Rattle.const_marks.specs.Subjects.{shown}
+use Rattle.const_check.specs.Imports.{RefusesImports}
+use Rattle.const_check.proofs.GainLemmas.{below_none, below_more, below_all}
 use Rattle.const_check.proofs.import_refusals.refuse_imports.Goals as goal
+
+pub loop-file-init : goal.loop-file-init
+loop-file-init c = below_none (RefusesImports (shown c.args.s.now)) c.args.list.now.items
 
 pub loop-file-preserved : goal.loop-file-preserved
 loop-file-preserved c =
-    one_more_file (known_of (env_of c.args.constants.now)) (shown c.args.constants.now) c.loop-file.file c.args.list.now.items c.loop-file.list.items c.refuse_file.new.list.items
-    c.loop-file.invariant c.in_ok-refuse_file.ensures
+    below_more (RefusesImports (shown c.args.s.now)) c.loop-file.file c.args.list.now.items c.loop-file.list.items c.refuse_file.new.list.items c.loop-file.invariant c.in_ok-refuse_file.ensures
+
+pub returns : goal.returns
+returns c = below_all (RefusesImports (shown c.args.s.now)) c.loop-file.file (length c.args.s.now.trees.now) c.args.list.now.items c.loop-file.list.items (omega arith) c.loop-file.invariant

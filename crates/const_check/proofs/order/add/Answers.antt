@@ -1,7 +1,7 @@
 use Rattle.std.proofs.Common.{◌≡◌, ◌-◌, List, length, slice_get, None, sym, ap, ◌∙◌, subst}
-use Rattle.const_check.specs.declared.mark.Refusal.{Refusal}
+use Rattle.const_check.specs.declared.refusal.Refusal.{Refusal}
 use Rattle.const_check.specs.Refusals.{Precedes}
-use Rattle.const_check.proofs.Standing.{same_some}
+use Rattle.const_check.proofs.Lists.{same_some}
 use Rattle.const_check.proofs.ListLemmas.{adds_push}
 use Rattle.const_check.proofs.order.add.Goals.{in-Some, in-None}
 use Rattle.const_check.proofs.order.add.Goals as goal

@@ -1,7 +1,7 @@
 use Rattle.std.proofs.Common.{List, arith, subst, ◌↔◌}
 use Rattle.std.specs.List.{Contains}
 use Rattle.std.proofs.lemmas.List.{take_all}
-use Rattle.const_check.specs.declared.mark.Refusal.{Refusal}
+use Rattle.const_check.specs.declared.refusal.Refusal.{Refusal}
 use Rattle.const_check.proofs.ListLemmas.{none_distinct, distinct_more}
 use Rattle.const_check.proofs.order.distinct.Goals as goal
 

@@ -1,6 +1,6 @@
 use Rattle.std.proofs.Common.{rules}
 use Rattle.std.proofs.lemmas.List.Sorted.{IsNonDecreasingBy-from_sort_by_key}
-use Rattle.const_check.specs.Refusals.{rank_of}
+use Rattle.const_check.specs.Order.{rank_of}
 use Rattle.const_check.proofs.order.sort.Goals as goal
 
 pub returns-clause-sorted : goal.returns-clause-sorted

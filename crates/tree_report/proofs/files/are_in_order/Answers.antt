@@ -1,4 +1,4 @@
-use Rattle.std.proofs.Common.{◌≡◌, ◌≤◌, ℕ, true, List, sym, ap, ◌∙◌, arith}
+use Rattle.std.proofs.Common.{◌≤◌, ℕ, List, sym, ap, ◌∙◌, arith}
 use Rattle.gv_base.specs.Files.{is_before}
 use Rattle.tree_report.proofs.OrderLemmas.{order-more}
 use Rattle.tree_report.proofs.files.are_in_order.Goals as goal

@@ -1,5 +1,4 @@
-use Rattle.std.proofs.Common.{◌≡◌, ◌≤◌, List, length, ap, sym, subst, ◌∙◌, arith}
-use Rattle.go_tree.specs.declared.head.Head.{Head}
+use Rattle.std.proofs.Common.{◌≡◌, ◌≤◌, List, length, ap, subst, ◌∙◌, arith}
 use Rattle.import_graph.specs.Packages.{ArePackages}
 use Rattle.import_graph.specs.declared.pack.Package.{Package}
 use Rattle.import_graph.proofs.OneLemmas.{one-answer}

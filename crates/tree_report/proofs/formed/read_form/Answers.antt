@@ -1,4 +1,4 @@
-use Rattle.std.proofs.Common.{◌≡◌, true, false, Bool, ap, sym, subst, ◌∙◌}
+use Rattle.std.proofs.Common.{◌≡◌, true, false, Bool, sym, subst, ◌∙◌}
 use Rattle.tree_report.specs.Form.{AreOfForm}
 use Rattle.tree_report.proofs.OnceLemmas.{verdicts-once}
 use Rattle.tree_report.proofs.formed.read_form.Goals as goal
@@ -7,8 +7,8 @@ differ : (b : Bool) → b ≡ true → b ≡ false → ⊥
 differ true h k = cc
 differ false h k = cc
 
-pub returns-then-not-branch : goal.returns-then-not-branch
-returns-then-not-branch c = λ built.
+pub returns-then-not-are_of_form : goal.returns-then-not-are_of_form
+returns-then-not-are_of_form c = λ built.
     let form = built.1.1.1 in
     let verdicts = verdicts-once c.args.files.now c.in_ok-verdicts.verdicts.items built.0 c.in_ok-verdicts.ensures form.read in
-    differ c.in_ok-are_of_form.field-0 (c.in_ok-are_of_form.ensures.1 (subst (λ v. AreOfForm c.args.files.now v) (sym verdicts ∙ sym c.deref.ensures.value) form.form)) c.if-not-branch.true
+    differ c.are_of_form.result (c.are_of_form.ensures.1 (subst AreOfForm (sym verdicts ∙ sym c.deref.ensures.value) form.form)) c.if-not-are_of_form.true

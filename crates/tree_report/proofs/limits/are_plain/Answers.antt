@@ -1,4 +1,3 @@
-use Rattle.std.proofs.Common.{◌≡◌}
 use Rattle.tree_report.proofs.LimitLemmas.{early-more}
 use Rattle.tree_report.proofs.limits.are_plain.Goals as goal
 

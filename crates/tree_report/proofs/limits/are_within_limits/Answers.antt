@@ -1,4 +1,4 @@
-use Rattle.std.proofs.Common.{rules, arith, [], IsTrue, true, refl}
+use Rattle.std.proofs.Common.{rules, arith, [], refl}
 use Rattle.tree_report.proofs.LimitLemmas.{limits-more, limits-passed, limits-kept, limits-each}
 use Rattle.tree_report.proofs.limits.are_within_limits.Goals as goal
 

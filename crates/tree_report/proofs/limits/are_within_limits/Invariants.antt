@@ -1,4 +1,4 @@
-use Rattle.std.proofs.Common.{◌≡◌, ◌≤◌, ℕ, All, sum_by, take, length}
+use Rattle.std.proofs.Common.{◌≡◌, ◌≤◌, All, sum_by, take, length}
 use Rattle.tree_report.proofs.limits.are_within_limits.Given as goal
 
 abbrev pub invariant-loop-text : goal.invariant-loop-text

@@ -1,4 +1,4 @@
-use Rattle.std.proofs.Common.{arith, ◌≡◌, ℕ, List, [], ◌∷◌, ◌++◌, ap, ◌∙◌, sym, true, false, Bool, Some, slice_get, ◌<◌, ◌+◌, length, take, map}
+use Rattle.std.proofs.Common.{arith, ◌≡◌, ℕ, List, [], ◌∷◌, ◌++◌, ap, ◌∙◌, sym, true, false, Some, slice_get, ◌<◌, ◌+◌, length, take}
 use denote.Ref.{Bor}
 use Rattle.std.proofs.lemmas.List.{map-append, append-nil}
 use Rattle.gv_base.specs.Files.{Entry}

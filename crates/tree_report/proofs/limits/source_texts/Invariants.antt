@@ -1,4 +1,4 @@
-use Rattle.std.proofs.Common.{◌≡◌, ℕ, take}
+use Rattle.std.proofs.Common.{◌≡◌, take}
 use Rattle.tree_report.specs.Form.{source_texts}
 use Rattle.tree_report.specs.Shown.{texts_shown}
 use Rattle.tree_report.proofs.limits.source_texts.Given as goal

@@ -1,6 +1,5 @@
-use Rattle.std.proofs.Common.{◌≡◌, ℕ, ◌<◌, Option, Some, length, slice_get, arith}
+use Rattle.std.proofs.Common.{◌≡◌, ◌<◌, Option, Some, length, slice_get, arith}
 use Rattle.gv_base.specs.Files.{Entry}
-use Rattle.go_tree.specs.declared.head.Head.{Head}
 use Rattle.parse_file.specs.declared.verdict.FileVerdict.{FileVerdict}
 use Rattle.tree_report.specs.Form.{head_in}
 use Rattle.tree_report.proofs.ReadLemmas.{each-pushed, length-pushed, pair-here}

@@ -1,7 +1,6 @@
-use Rattle.std.proofs.Common.{◌≡◌, ◌≤◌, ℕ, Option, Some, List, length, slice_get, sym, ap, ◌∙◌, subst, arith}
+use Rattle.std.proofs.Common.{◌≡◌, ◌≤◌, ℕ, Some, List, length, slice_get, sym, ap, ◌∙◌, subst, arith}
 use Rattle.std.proofs.lemmas.Option.{same_Some}
 use Rattle.gv_base.specs.Files.{Entry}
-use Rattle.parse_file.specs.declared.verdict.FileVerdict.{FileVerdict}
 use Rattle.import_graph.specs.Sources.{is_source}
 use Rattle.tree_report.specs.Form.{IsRead}
 use Rattle.tree_report.proofs.ReadLemmas.{each-pushed, length-pushed, source-text}

@@ -1,4 +1,4 @@
-use Rattle.std.proofs.Common.{◌≡◌, ℕ, ◌<◌, Option, Some, length, slice_get}
+use Rattle.std.proofs.Common.{◌≡◌, ℕ, Option, Some, length, slice_get}
 use Rattle.gv_base.specs.Files.{Entry}
 use Rattle.parse_file.specs.declared.verdict.FileVerdict.{FileVerdict}
 use Rattle.tree_report.specs.Form.{IsRead}

@@ -1,4 +1,4 @@
-use Rattle.std.proofs.Common.{◌≡◌, map, sym, ap, ◌∙◌, subst}
+use Rattle.std.proofs.Common.{map, sym, ap, ◌∙◌, subst}
 use Rattle.gv_driver.specs.Trees.{IsTree}
 use Rattle.tree_report.specs.Reports.{texts_of}
 use Rattle.tree_report.proofs.TreeLemmas.{is-tree, paths-rise}

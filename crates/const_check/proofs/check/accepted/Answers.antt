@@ -1,0 +1,8 @@
+use Rattle.const_marks.specs.Annotations.{meanings}
+use Rattle.const_marks.specs.Subjects.{shown}
+use Rattle.const_check.proofs.ItemLemmas.{has_exports}
+use Rattle.const_check.proofs.check.accepted.Goals as goal
+
+pub returns : goal.returns
+returns c = λ empty.
+    has_exports (shown c.args.s.now) (meanings c.args.t.now c.args.marks.now) c.in_ok-list.list.items c.requires.annotated c.requires.alone c.in_ok-list.ensures.rise c.in_ok-list.ensures.all

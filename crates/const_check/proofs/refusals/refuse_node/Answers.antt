@@ -1,0 +1,15 @@
+use Rattle.typed_tree.specs.declared.annotation.Marked.TheVariants.{Node}
+use Rattle.const_marks.specs.Subjects.{shown}
+use Rattle.const_check.specs.Faults.{fault_of, fault_place}
+use Rattle.const_check.proofs.FaultLemmas.{gains_fault, gains_no_fault}
+use Rattle.std.proofs.Common.{sym, ◌∙◌}
+use Rattle.const_check.proofs.refusals.refuse_node.Goals as goal
+
+pub returns-in_ok-push : goal.returns-in_ok-push
+returns-in_ok-push c =
+    gains_fault (fault_of c.args.marks.now (Node c.args.at)) (fault_place (shown c.args.s.now) c.args.at) c.in-Some.fault c.in_ok-place.place c.args.list.now.items c.push.new.self.items
+    (sym c.fault_of.ensures ∙ c.in-Some.is) c.in_ok-place.ensures c.in_ok-push.ensures.items
+
+pub returns-in_default : goal.returns-in_default
+returns-in_default c =
+    gains_no_fault (fault_of c.args.marks.now (Node c.args.at)) (fault_place (shown c.args.s.now) c.args.at) c.args.list.now.items (sym c.fault_of.ensures ∙ c.in_default.is)
