@@ -20,7 +20,7 @@ use std::alloc::Global;
 use std::process::Abort;
 use std::test::Fail;
 use type_model::TypeTable;
-use words::{mark, operator, says, want, wanted};
+use words::{kind, mark, operator, says, want, wanted};
 
 /// `x op y = mark`
 fn binary_row(rt: &impl Abort, alloc: Global, t: &TypeTable, row: &str) -> Result<(), Fail>

@@ -44,7 +44,7 @@ const WANTS: [(&str, Want); 7] = [
     ("count", Want::Count), ("type", Want::Type), ("constant", Want::Constant),
 ];
 
-fn kind(rt: &impl Abort, name: &str) -> Kind {
+pub fn kind(rt: &impl Abort, name: &str) -> Kind {
     for (of, kind) in KINDS.iter() {
         if *of == name {
             return *kind;
