@@ -1,0 +1,9 @@
+mod Sums
+mod Keeps
+mod Working
+mod Forking
+mod Placing
+mod Finishing
+mod BoardLaws
+mod ScheduleLaws
+mod ScheduleFacts

@@ -1,0 +1,9 @@
+use Rattle.std.proofs.Common.{◌≡◌}
+use Rattle.wave_run.specs.Turns.{IsWorking}
+use Rattle.wave_run.proofs.wave.work.Given as goal
+
+abbrev pub invariant-loop-turn : goal.invariant-loop-turn
+invariant-loop-turn g l =
+    (l.pass.seat.table_id ≡ l.initial.pass.seat.table_id)
+    × (g.S.Step.rest l.worker ≡ g.S.Step.rest l.initial.worker)
+    × IsWorking (g.S.Step.right l.step) l.jobs.items l.initial.pass.seat.me.0 l.pass.seat.me.0 (g.S.Step.count l.initial.worker) (g.S.Step.count l.worker) l.found.items l._turn

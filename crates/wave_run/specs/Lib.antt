@@ -1,0 +1,10 @@
+pub mod Numbers
+pub mod Views
+pub mod Dealing
+pub mod Passes
+pub mod Waves
+pub mod Turns
+pub mod Both
+pub mod Forks
+pub mod Places
+pub mod Schedules
