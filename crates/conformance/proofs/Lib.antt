@@ -1,0 +1,3 @@
+mod ReadyLemmas
+mod PlainLaws
+pub mod GrowthLaws

@@ -1,0 +1,7 @@
+use Rattle.conformance.proofs.needs.objects_in.Goals as goal
+
+pub bind-requires-clause-spelled : goal.bind-requires-clause-spelled
+bind-requires-clause-spelled c = c.requires.spelled
+
+pub bind-requires-clause-fit : goal.bind-requires-clause-fit
+bind-requires-clause-fit c = c.requires.small

@@ -1,0 +1,4 @@
+pub mod Ready
+pub mod Comparison
+pub mod Cuts
+pub mod Plain

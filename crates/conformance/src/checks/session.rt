@@ -1,0 +1,42 @@
+//! A tree, checked by the tool's session.
+use super::SourceFile;
+use anyhow::{Result, bail};
+use gv_base::{MemSink, SureKeeper, SureSource, SureTree};
+use gv_tool::call::gvet;
+use std::alloc::Global;
+use std::fmt::Write;
+use std::thread::Threads;
+
+/// The script that puts the files and checks the tree.
+pub fn script_of(alloc: Global, files: &[SourceFile<'_>]) -> Result<String> {
+    let mut script = String::new(alloc);
+    for file in files {
+        writeln!(script, "put {} {}", file.path, file.text.len())?;
+        writeln!(script, "{}", file.text)?;
+    }
+    writeln!(script, "check")?;
+    Ok(script)
+}
+
+/// What a session replies to the script, with its status.
+pub fn reply<R: Threads + Sync>(threads: &R, alloc: Global, script: &str) -> Result<(u8, String)> {
+    let mut words = Vec::new(alloc);
+    words.push(String::from_str(alloc, "session")?)?;
+    let mut tree = SureTree::new(alloc);
+    let mut keeper = SureKeeper::new(alloc, None);
+    let mut input = SureSource::new(script.as_bytes().to_vec(alloc)?);
+    let mut output = MemSink::new(Vec::new(alloc), Vec::new(alloc), Vec::new(alloc));
+    let status = gvet(
+        threads,
+        alloc,
+        words.as_slice(),
+        &mut tree,
+        &mut keeper,
+        &mut input,
+        &mut output,
+    );
+    match std::str::from_utf8(output.bytes()) {
+        Ok(text) => Ok((status, String::from_str(alloc, text)?)),
+        Err(_) => bail!("a reply that isn't text"),
+    }
+}

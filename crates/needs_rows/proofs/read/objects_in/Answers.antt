@@ -1,7 +1,0 @@
-use Rattle.needs_rows.proofs.read.objects_in.Goals as goal
-
-pub bind-requires-clause-spelled : goal.bind-requires-clause-spelled
-bind-requires-clause-spelled c = c.requires.spelled
-
-pub bind-requires-clause-fit : goal.bind-requires-clause-fit
-bind-requires-clause-fit c = c.requires.small

@@ -1,6 +1,0 @@
-use Rattle.type_model.specs.GoTypes.{AreBelow}
-use Rattle.type_model.specs.Tables.{count}
-use Rattle.type_rows.proofs.name.find_all.Given as goal
-
-abbrev pub invariant-loop-name : goal.invariant-loop-name
-invariant-loop-name l = AreBelow (count l.t) l.found.items
