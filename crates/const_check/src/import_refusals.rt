@@ -166,7 +166,7 @@ fn is_flagged(used: &[bool], node: u32) -> bool
     }
 }
 
-/// Whether an import lies in the profile and isn't used.
+/// Whether an import lies in the profile and isn't used, which is E7.
 fn is_unused(s: &Subject, used: &[bool], at: NodeRef, name: &[u8]) -> bool
     requires read { IsRead s.now }
     requires used { AreUsed (shown s.now) at.file (length (nodes_at (shown s.now) at.file)) used.now }
@@ -179,7 +179,7 @@ fn is_unused(s: &Subject, used: &[bool], at: NodeRef, name: &[u8]) -> bool
     !is_flagged(used, at.node)
 }
 
-/// Adds the faults of an import.
+/// Adds the faults of an import: E1 where its name is taken, E7 where it isn't used.
 fn refuse_import(
     s: &Subject,
     firsts: &HashMap<&[u8], u32>,
