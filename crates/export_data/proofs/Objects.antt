@@ -12,9 +12,10 @@ use Rattle.gv_bytes.specs.Reading.{◌>>=◌, Reads, natural_at, number_at, text
 use Rattle.gv_bytes.proofs.Options.{bind_some, guard_some, chosen, some_is, just, chain, regroup_four}
 use Rattle.gv_bytes.proofs.Numbers.{naturals, numbers, texts}
 use Rattle.export_data.specs.declared.constants.ConstOut.{ConstOut}
-use Rattle.export_data.specs.Spelling.{kind_numbered, number_of, truth_of, value, basic, object, IsConst, IsName, IsObject}
+use Rattle.gv_base.specs.Kinds.{kind_numbered, kind_number}
+use Rattle.export_data.specs.Spelling.{truth_of, value, basic, object, IsConst, IsName, IsObject}
 use Rattle.export_data.specs.Reading.{utf8_of, name_at, after, basic_at, truth_at, int_at, const_text_at, value_at, object_at}
-use Rattle.export_data.proofs.Numbering.{kind_kept, number_small, number_kept}
+use Rattle.gv_base.proofs.KindNumbers.{kind_kept, number_small, number_kept}
 
 pub utf8_some : (bytes text : List ℕ) → text ≡ bytes → IsUtf8 bytes → utf8_of bytes ≡ Some text
 utf8_some bytes text same good = rw (is_utf8-from_IsUtf8 bytes good, same) refl
@@ -71,7 +72,7 @@ basic_take bytes x e =
 
 basic_again : (k : Kind) (rest : List ℕ) → basic_at (basic k ++ rest) ≡ Some (k, rest)
 unfolding basic_at basic
-basic_again k rest = rw (after_again 98 (natural (number_of k) ++ rest), kinds.again (number_of k) rest (number_small k), kind_kept k) refl
+basic_again k rest = rw (after_again 98 (natural (kind_number k) ++ rest), kinds.again (kind_number k) rest (number_small k), kind_kept k) refl
 
 -- ---- values
 

@@ -2,7 +2,6 @@
 #![tactic(auto)]
 
 mod constants;
-mod kind;
 mod laws;
 mod order;
 mod reading;

@@ -6,7 +6,6 @@ ghost use Rattle.export_data.specs.declared.constants.ConstInterface.{ConstInter
 ghost use Rattle.export_data.specs.Reading.{utf8_of, name_at, after, basic_at, truth_at, int_at, const_text_at, value_at, object_at, interface_at, whole_of};
 
 use crate::constants::{ConstInterface, ConstOut};
-use crate::kind::kind_of_number;
 use crate::order::rise;
 use gv_base::{Const, ConstText, Kind, NoMemory, Row, Text};
 use gv_bytes::{Unread, read_natural, split_num, split_text};
@@ -31,8 +30,8 @@ fn name_of(alloc: Global, bytes: &[u8]) -> Result<(Text, &[u8]), Unread>
         return Err(Unread::Unspelled);
     };
     let text = utf8(spelled)?;
-    let copy = String::from_str(alloc, text)?;
-    Ok((Text::new(copy), rest))
+    let copy = Text::of(alloc, text)?;
+    Ok((copy, rest))
 }
 
 /// The bytes after this one.
@@ -55,7 +54,7 @@ fn basic_of(bytes: &[u8]) -> Result<(Kind, &[u8]), Unread>
 {
     let rest = after_byte(bytes, b'b')?;
     let (number, rest) = read_natural(rest, 17)?;
-    Ok((kind_of_number(number), rest))
+    Ok((Kind::of_number(number as u8), rest))
 }
 
 #[tactic(auto, unfolding(crate::specs::Reading::truth_at))]

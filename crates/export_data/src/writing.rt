@@ -5,7 +5,6 @@ ghost use Rattle.export_data.specs.Order.{names_rise};
 ghost use Rattle.export_data.specs.Spelling.{truth_of, basic, value, object, interface, IsConst, IsObject, IsInterface, IsSpelled};
 
 use crate::constants::ConstOut;
-use crate::kind::number_of_kind;
 use gv_base::{Const, Kind, NoMemory};
 use gv_bytes::{put_num, put_text};
 use std::alloc::Global;
@@ -15,7 +14,7 @@ fn put_basic(out: &mut Vec<u8>, kind: Kind) -> Result<(), NoMemory>
     ensures { OnOk result (out.new.items ≡ out.old.items ++ basic kind) }
 {
     out.push(b'b')?;
-    put_num(out, number_of_kind(kind) as i128)?;
+    put_num(out, kind.number() as i128)?;
     Ok(())
 }
 

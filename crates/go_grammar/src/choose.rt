@@ -1,6 +1,5 @@
 //! The rules of a category, by its name.
-ghost use Rattle.std.specs.Prelude.{◌≡◌, Some, None, MatchOption};
-ghost use Rattle.go_grammar.specs.View.{rule_of};
+ghost use Rattle.go_grammar.specs.View.{AreSymbols, IsRule};
 ghost use Rattle.go_tree.specs.Choice.{pick_inline, pick_node};
 
 use crate::rule::Rule;
@@ -11,7 +10,7 @@ use go_tree::{Category, Shape, Symbol};
 #[rattlefmt::skip]
 #[tactic(auto, unfolding(go_tree::specs::Inlines::inlines))]
 pub fn inline_rule(category: Category, class: u8) -> Option<&'static [Symbol]>
-    ensures { MatchOption result (pick_inline category class ≡ None) (λ r. pick_inline category class ≡ Some r.now) }
+    ensures { AreSymbols (pick_inline category class) result }
 {
     match category {
         Category::ClausePiece => inlines::clause_piece(class),
@@ -58,8 +57,6 @@ pub fn inline_rule(category: Category, class: u8) -> Option<&'static [Symbol]>
         Category::Comm => lists::comm(class),
         Category::Condition => lists::condition(class),
         Category::PostPart => lists::post_part(class),
-        Category::ThinFile => lists::thin_file(class),
-        Category::ThinConsts => lists::thin_consts(class),
         _ => None,
     }
 }
@@ -69,7 +66,7 @@ pub fn inline_rule(category: Category, class: u8) -> Option<&'static [Symbol]>
 #[rattlefmt::skip]
 #[tactic(auto, unfolding(go_tree::specs::Nodes::nodes))]
 pub fn node_rule(category: Category, class: u8, shape: Shape) -> Option<Rule>
-    ensures { MatchOption result (pick_node category class shape ≡ None) (λ r. pick_node category class shape ≡ Some (rule_of r)) }
+    ensures { IsRule (pick_node category class shape) result }
 {
     match category {
         Category::Clause => declarations::clause(class, shape),
@@ -100,8 +97,6 @@ pub fn node_rule(category: Category, class: u8, shape: Shape) -> Option<Rule>
         Category::FuncName => declarations::func_name(class, shape),
         Category::FuncBody => declarations::func_body(class, shape),
         Category::MethodBody => declarations::method_body(class, shape),
-        Category::ThinConst => declarations::thin_const(class, shape),
-        Category::ThinSpec => declarations::thin_spec(class, shape),
         Category::Params => signatures::params(class, shape),
         Category::ParamsEnd => signatures::params_end(class, shape),
         Category::ResultParams => signatures::result_params(class, shape),
@@ -234,7 +229,5 @@ pub fn node_rule(category: Category, class: u8, shape: Shape) -> Option<Rule>
         Category::Comm => None,
         Category::Condition => None,
         Category::PostPart => None,
-        Category::ThinFile => None,
-        Category::ThinConsts => None,
     }
 }

@@ -1,5 +1,7 @@
 //! The alternatives of declarations and operands that make no node.
-ghost use Rattle.std.specs.Prelude.{◌≡◌, Some, None, MatchOption};
+#![tactic(auto, unfolding(go_tree::specs::Inlines::inlines, go_tree::specs::Inlines::greedy, go_tree::specs::First::first, go_tree::specs::First::nullable, go_tree::specs::Follow::follow))]
+
+ghost use Rattle.go_grammar.specs.View.{AreSymbols};
 ghost use Rattle.go_tree.specs.Choice.{pick_inline};
 ghost use Rattle.go_tree.specs.declared.grammar.Category.TheVariants as c;
 
@@ -7,9 +9,8 @@ use go_tree::Symbol::{Inline, Operand, Part, Token};
 use go_tree::{Category as C, Setting, Symbol, Terminal as T};
 
 #[rattlefmt::skip]
-#[tactic(auto, unfolding(go_tree::specs::Inlines::inlines, go_tree::specs::Inlines::greedy, go_tree::specs::First::first, go_tree::specs::First::nullable, go_tree::specs::Follow::follow))]
 pub fn clause_piece(class: u8) -> Option<&'static [Symbol]>
-    ensures { MatchOption result (pick_inline c.ClausePiece class ≡ None) (λ r. pick_inline c.ClausePiece class ≡ Some r.now) }
+    ensures { AreSymbols (pick_inline c.ClausePiece class) result }
 {
     match class {
         23 => Some(&[Part(C::Clause)]),
@@ -18,9 +19,8 @@ pub fn clause_piece(class: u8) -> Option<&'static [Symbol]>
 }
 
 #[rattlefmt::skip]
-#[tactic(auto, unfolding(go_tree::specs::Inlines::inlines, go_tree::specs::Inlines::greedy, go_tree::specs::First::first, go_tree::specs::First::nullable, go_tree::specs::Follow::follow))]
 pub fn top_piece(class: u8) -> Option<&'static [Symbol]>
-    ensures { MatchOption result (pick_inline c.TopPiece class ≡ None) (λ r. pick_inline c.TopPiece class ≡ Some r.now) }
+    ensures { AreSymbols (pick_inline c.TopPiece class) result }
 {
     match class {
         20 => Some(&[Part(C::Import)]),
@@ -30,9 +30,8 @@ pub fn top_piece(class: u8) -> Option<&'static [Symbol]>
 }
 
 #[rattlefmt::skip]
-#[tactic(auto, unfolding(go_tree::specs::Inlines::inlines, go_tree::specs::Inlines::greedy, go_tree::specs::First::first, go_tree::specs::First::nullable, go_tree::specs::Follow::follow))]
 pub fn import_specs(class: u8) -> Option<&'static [Symbol]>
-    ensures { MatchOption result (pick_inline c.ImportSpecs class ≡ None) (λ r. pick_inline c.ImportSpecs class ≡ Some r.now) }
+    ensures { AreSymbols (pick_inline c.ImportSpecs class) result }
 {
     match class {
         37 => Some(&[]),
@@ -42,9 +41,8 @@ pub fn import_specs(class: u8) -> Option<&'static [Symbol]>
 }
 
 #[rattlefmt::skip]
-#[tactic(auto, unfolding(go_tree::specs::Inlines::inlines, go_tree::specs::Inlines::greedy, go_tree::specs::First::first, go_tree::specs::First::nullable, go_tree::specs::Follow::follow))]
 pub fn more_import_specs(class: u8) -> Option<&'static [Symbol]>
-    ensures { MatchOption result (pick_inline c.MoreImportSpecs class ≡ None) (λ r. pick_inline c.MoreImportSpecs class ≡ Some r.now) }
+    ensures { AreSymbols (pick_inline c.MoreImportSpecs class) result }
 {
     match class {
         37 => Some(&[]),
@@ -54,9 +52,8 @@ pub fn more_import_specs(class: u8) -> Option<&'static [Symbol]>
 }
 
 #[rattlefmt::skip]
-#[tactic(auto, unfolding(go_tree::specs::Inlines::inlines, go_tree::specs::Inlines::greedy, go_tree::specs::First::first, go_tree::specs::First::nullable, go_tree::specs::Follow::follow))]
 pub fn declaration(class: u8) -> Option<&'static [Symbol]>
-    ensures { MatchOption result (pick_inline c.Declaration class ≡ None) (λ r. pick_inline c.Declaration class ≡ Some r.now) }
+    ensures { AreSymbols (pick_inline c.Declaration class) result }
 {
     match class {
         9 => Some(&[Part(C::Const)]),
@@ -68,9 +65,8 @@ pub fn declaration(class: u8) -> Option<&'static [Symbol]>
 }
 
 #[rattlefmt::skip]
-#[tactic(auto, unfolding(go_tree::specs::Inlines::inlines, go_tree::specs::Inlines::greedy, go_tree::specs::First::first, go_tree::specs::First::nullable, go_tree::specs::Follow::follow))]
 pub fn const_specs(class: u8) -> Option<&'static [Symbol]>
-    ensures { MatchOption result (pick_inline c.ConstSpecs class ≡ None) (λ r. pick_inline c.ConstSpecs class ≡ Some r.now) }
+    ensures { AreSymbols (pick_inline c.ConstSpecs class) result }
 {
     match class {
         37 => Some(&[]),
@@ -80,9 +76,8 @@ pub fn const_specs(class: u8) -> Option<&'static [Symbol]>
 }
 
 #[rattlefmt::skip]
-#[tactic(auto, unfolding(go_tree::specs::Inlines::inlines, go_tree::specs::Inlines::greedy, go_tree::specs::First::first, go_tree::specs::First::nullable, go_tree::specs::Follow::follow))]
 pub fn more_const_specs(class: u8) -> Option<&'static [Symbol]>
-    ensures { MatchOption result (pick_inline c.MoreConstSpecs class ≡ None) (λ r. pick_inline c.MoreConstSpecs class ≡ Some r.now) }
+    ensures { AreSymbols (pick_inline c.MoreConstSpecs class) result }
 {
     match class {
         37 => Some(&[]),
@@ -92,9 +87,8 @@ pub fn more_const_specs(class: u8) -> Option<&'static [Symbol]>
 }
 
 #[rattlefmt::skip]
-#[tactic(auto, unfolding(go_tree::specs::Inlines::inlines, go_tree::specs::Inlines::greedy, go_tree::specs::First::first, go_tree::specs::First::nullable, go_tree::specs::Follow::follow))]
 pub fn more_names(class: u8) -> Option<&'static [Symbol]>
-    ensures { MatchOption result (pick_inline c.MoreNames class ≡ None) (λ r. pick_inline c.MoreNames class ≡ Some r.now) }
+    ensures { AreSymbols (pick_inline c.MoreNames class) result }
 {
     match class {
         0 | 5 | 7..=8 | 11 | 16 | 21..=22 | 27 | 31 | 34 | 36..=38 | 41..=42 | 46 | 58 | 75..=76 => Some(&[]),
@@ -104,9 +98,8 @@ pub fn more_names(class: u8) -> Option<&'static [Symbol]>
 }
 
 #[rattlefmt::skip]
-#[tactic(auto, unfolding(go_tree::specs::Inlines::inlines, go_tree::specs::Inlines::greedy, go_tree::specs::First::first, go_tree::specs::First::nullable, go_tree::specs::Follow::follow))]
 pub fn more_exprs(class: u8) -> Option<&'static [Symbol]>
-    ensures { MatchOption result (pick_inline c.MoreExprs class ≡ None) (λ r. pick_inline c.MoreExprs class ≡ Some r.now) }
+    ensures { AreSymbols (pick_inline c.MoreExprs class) result }
 {
     match class {
         7 | 11 | 31 | 33 | 35 | 37 | 41..=46 | 67 | 73 | 75 => Some(&[]),
@@ -116,9 +109,8 @@ pub fn more_exprs(class: u8) -> Option<&'static [Symbol]>
 }
 
 #[rattlefmt::skip]
-#[tactic(auto, unfolding(go_tree::specs::Inlines::inlines, go_tree::specs::Inlines::greedy, go_tree::specs::First::first, go_tree::specs::First::nullable, go_tree::specs::Follow::follow))]
 pub fn type_specs(class: u8) -> Option<&'static [Symbol]>
-    ensures { MatchOption result (pick_inline c.TypeSpecs class ≡ None) (λ r. pick_inline c.TypeSpecs class ≡ Some r.now) }
+    ensures { AreSymbols (pick_inline c.TypeSpecs class) result }
 {
     match class {
         37 => Some(&[]),
@@ -128,9 +120,8 @@ pub fn type_specs(class: u8) -> Option<&'static [Symbol]>
 }
 
 #[rattlefmt::skip]
-#[tactic(auto, unfolding(go_tree::specs::Inlines::inlines, go_tree::specs::Inlines::greedy, go_tree::specs::First::first, go_tree::specs::First::nullable, go_tree::specs::Follow::follow))]
 pub fn more_type_specs(class: u8) -> Option<&'static [Symbol]>
-    ensures { MatchOption result (pick_inline c.MoreTypeSpecs class ≡ None) (λ r. pick_inline c.MoreTypeSpecs class ≡ Some r.now) }
+    ensures { AreSymbols (pick_inline c.MoreTypeSpecs class) result }
 {
     match class {
         37 => Some(&[]),
@@ -140,9 +131,8 @@ pub fn more_type_specs(class: u8) -> Option<&'static [Symbol]>
 }
 
 #[rattlefmt::skip]
-#[tactic(auto, unfolding(go_tree::specs::Inlines::inlines, go_tree::specs::Inlines::greedy, go_tree::specs::First::first, go_tree::specs::First::nullable, go_tree::specs::Follow::follow))]
 pub fn var_specs(class: u8) -> Option<&'static [Symbol]>
-    ensures { MatchOption result (pick_inline c.VarSpecs class ≡ None) (λ r. pick_inline c.VarSpecs class ≡ Some r.now) }
+    ensures { AreSymbols (pick_inline c.VarSpecs class) result }
 {
     match class {
         37 => Some(&[]),
@@ -152,9 +142,8 @@ pub fn var_specs(class: u8) -> Option<&'static [Symbol]>
 }
 
 #[rattlefmt::skip]
-#[tactic(auto, unfolding(go_tree::specs::Inlines::inlines, go_tree::specs::Inlines::greedy, go_tree::specs::First::first, go_tree::specs::First::nullable, go_tree::specs::Follow::follow))]
 pub fn more_var_specs(class: u8) -> Option<&'static [Symbol]>
-    ensures { MatchOption result (pick_inline c.MoreVarSpecs class ≡ None) (λ r. pick_inline c.MoreVarSpecs class ≡ Some r.now) }
+    ensures { AreSymbols (pick_inline c.MoreVarSpecs class) result }
 {
     match class {
         37 => Some(&[]),
@@ -164,9 +153,8 @@ pub fn more_var_specs(class: u8) -> Option<&'static [Symbol]>
 }
 
 #[rattlefmt::skip]
-#[tactic(auto, unfolding(go_tree::specs::Inlines::inlines, go_tree::specs::Inlines::greedy, go_tree::specs::First::first, go_tree::specs::First::nullable, go_tree::specs::Follow::follow))]
 pub fn signature(class: u8) -> Option<&'static [Symbol]>
-    ensures { MatchOption result (pick_inline c.Signature class ≡ None) (λ r. pick_inline c.Signature class ≡ Some r.now) }
+    ensures { AreSymbols (pick_inline c.Signature class) result }
 {
     match class {
         36 => Some(&[Part(C::Params), Inline(C::Results)]),
@@ -175,9 +163,8 @@ pub fn signature(class: u8) -> Option<&'static [Symbol]>
 }
 
 #[rattlefmt::skip]
-#[tactic(auto, unfolding(go_tree::specs::Inlines::inlines, go_tree::specs::Inlines::greedy, go_tree::specs::First::first, go_tree::specs::First::nullable, go_tree::specs::Follow::follow))]
 pub fn results(class: u8) -> Option<&'static [Symbol]>
-    ensures { MatchOption result (pick_inline c.Results class ≡ None) (λ r. pick_inline c.Results class ≡ Some r.now) }
+    ensures { AreSymbols (pick_inline c.Results class) result }
 {
     match class {
         36 => Some(&[Part(C::ResultParams)]),
@@ -187,9 +174,8 @@ pub fn results(class: u8) -> Option<&'static [Symbol]>
 }
 
 #[rattlefmt::skip]
-#[tactic(auto, unfolding(go_tree::specs::Inlines::inlines, go_tree::specs::Inlines::greedy, go_tree::specs::First::first, go_tree::specs::First::nullable, go_tree::specs::Follow::follow))]
 pub fn entries(class: u8) -> Option<&'static [Symbol]>
-    ensures { MatchOption result (pick_inline c.Entries class ≡ None) (λ r. pick_inline c.Entries class ≡ Some r.now) }
+    ensures { AreSymbols (pick_inline c.Entries class) result }
 {
     match class {
         37 => Some(&[]),
@@ -199,9 +185,8 @@ pub fn entries(class: u8) -> Option<&'static [Symbol]>
 }
 
 #[rattlefmt::skip]
-#[tactic(auto, unfolding(go_tree::specs::Inlines::inlines, go_tree::specs::Inlines::greedy, go_tree::specs::First::first, go_tree::specs::First::nullable, go_tree::specs::Follow::follow))]
 pub fn more_entries(class: u8) -> Option<&'static [Symbol]>
-    ensures { MatchOption result (pick_inline c.MoreEntries class ≡ None) (λ r. pick_inline c.MoreEntries class ≡ Some r.now) }
+    ensures { AreSymbols (pick_inline c.MoreEntries class) result }
 {
     match class {
         37 | 73 => Some(&[]),
@@ -211,9 +196,8 @@ pub fn more_entries(class: u8) -> Option<&'static [Symbol]>
 }
 
 #[rattlefmt::skip]
-#[tactic(auto, unfolding(go_tree::specs::Inlines::inlines, go_tree::specs::Inlines::greedy, go_tree::specs::First::first, go_tree::specs::First::nullable, go_tree::specs::Follow::follow))]
 pub fn trailing_comma(class: u8) -> Option<&'static [Symbol]>
-    ensures { MatchOption result (pick_inline c.TrailingComma class ≡ None) (λ r. pick_inline c.TrailingComma class ≡ Some r.now) }
+    ensures { AreSymbols (pick_inline c.TrailingComma class) result }
 {
     match class {
         37 => Some(&[]),
@@ -223,9 +207,8 @@ pub fn trailing_comma(class: u8) -> Option<&'static [Symbol]>
 }
 
 #[rattlefmt::skip]
-#[tactic(auto, unfolding(go_tree::specs::Inlines::inlines, go_tree::specs::Inlines::greedy, go_tree::specs::First::first, go_tree::specs::First::nullable, go_tree::specs::Follow::follow))]
 pub fn run_item(class: u8) -> Option<&'static [Symbol]>
-    ensures { MatchOption result (pick_inline c.RunItem class ≡ None) (λ r. pick_inline c.RunItem class ≡ Some r.now) }
+    ensures { AreSymbols (pick_inline c.RunItem class) result }
 {
     match class {
         0 | 8 | 16 | 21..=22 | 27 | 36 | 38 | 46 | 58 | 76 => Some(&[Part(C::Type)]),
@@ -235,9 +218,8 @@ pub fn run_item(class: u8) -> Option<&'static [Symbol]>
 }
 
 #[rattlefmt::skip]
-#[tactic(auto, unfolding(go_tree::specs::Inlines::inlines, go_tree::specs::Inlines::greedy, go_tree::specs::First::first, go_tree::specs::First::nullable, go_tree::specs::Follow::follow))]
 pub fn more_run(class: u8) -> Option<&'static [Symbol]>
-    ensures { MatchOption result (pick_inline c.MoreRun class ≡ None) (λ r. pick_inline c.MoreRun class ≡ Some r.now) }
+    ensures { AreSymbols (pick_inline c.MoreRun class) result }
 {
     match class {
         0 | 8 | 16 | 21..=22 | 27 | 35..=38 | 46 | 58 | 73 | 76 => Some(&[]),
@@ -247,9 +229,8 @@ pub fn more_run(class: u8) -> Option<&'static [Symbol]>
 }
 
 #[rattlefmt::skip]
-#[tactic(auto, unfolding(go_tree::specs::Inlines::inlines, go_tree::specs::Inlines::greedy, go_tree::specs::First::first, go_tree::specs::First::nullable, go_tree::specs::Follow::follow))]
 pub fn fields(class: u8) -> Option<&'static [Symbol]>
-    ensures { MatchOption result (pick_inline c.Fields class ≡ None) (λ r. pick_inline c.Fields class ≡ Some r.now) }
+    ensures { AreSymbols (pick_inline c.Fields class) result }
 {
     match class {
         41 => Some(&[]),
@@ -259,9 +240,8 @@ pub fn fields(class: u8) -> Option<&'static [Symbol]>
 }
 
 #[rattlefmt::skip]
-#[tactic(auto, unfolding(go_tree::specs::Inlines::inlines, go_tree::specs::Inlines::greedy, go_tree::specs::First::first, go_tree::specs::First::nullable, go_tree::specs::Follow::follow))]
 pub fn more_fields(class: u8) -> Option<&'static [Symbol]>
-    ensures { MatchOption result (pick_inline c.MoreFields class ≡ None) (λ r. pick_inline c.MoreFields class ≡ Some r.now) }
+    ensures { AreSymbols (pick_inline c.MoreFields class) result }
 {
     match class {
         41 => Some(&[]),
@@ -271,9 +251,8 @@ pub fn more_fields(class: u8) -> Option<&'static [Symbol]>
 }
 
 #[rattlefmt::skip]
-#[tactic(auto, unfolding(go_tree::specs::Inlines::inlines, go_tree::specs::Inlines::greedy, go_tree::specs::First::first, go_tree::specs::First::nullable, go_tree::specs::Follow::follow))]
 pub fn tag(class: u8) -> Option<&'static [Symbol]>
-    ensures { MatchOption result (pick_inline c.Tag class ≡ None) (λ r. pick_inline c.Tag class ≡ Some r.now) }
+    ensures { AreSymbols (pick_inline c.Tag class) result }
 {
     match class {
         31 | 41 => Some(&[]),
@@ -283,9 +262,8 @@ pub fn tag(class: u8) -> Option<&'static [Symbol]>
 }
 
 #[rattlefmt::skip]
-#[tactic(auto, unfolding(go_tree::specs::Inlines::inlines, go_tree::specs::Inlines::greedy, go_tree::specs::First::first, go_tree::specs::First::nullable, go_tree::specs::Follow::follow))]
 pub fn elems(class: u8) -> Option<&'static [Symbol]>
-    ensures { MatchOption result (pick_inline c.Elems class ≡ None) (λ r. pick_inline c.Elems class ≡ Some r.now) }
+    ensures { AreSymbols (pick_inline c.Elems class) result }
 {
     match class {
         41 => Some(&[]),
@@ -295,9 +273,8 @@ pub fn elems(class: u8) -> Option<&'static [Symbol]>
 }
 
 #[rattlefmt::skip]
-#[tactic(auto, unfolding(go_tree::specs::Inlines::inlines, go_tree::specs::Inlines::greedy, go_tree::specs::First::first, go_tree::specs::First::nullable, go_tree::specs::Follow::follow))]
 pub fn more_elems(class: u8) -> Option<&'static [Symbol]>
-    ensures { MatchOption result (pick_inline c.MoreElems class ≡ None) (λ r. pick_inline c.MoreElems class ≡ Some r.now) }
+    ensures { AreSymbols (pick_inline c.MoreElems class) result }
 {
     match class {
         41 => Some(&[]),
@@ -307,9 +284,8 @@ pub fn more_elems(class: u8) -> Option<&'static [Symbol]>
 }
 
 #[rattlefmt::skip]
-#[tactic(auto, unfolding(go_tree::specs::Inlines::inlines, go_tree::specs::Inlines::greedy, go_tree::specs::First::first, go_tree::specs::First::nullable, go_tree::specs::Follow::follow))]
 pub fn items(class: u8) -> Option<&'static [Symbol]>
-    ensures { MatchOption result (pick_inline c.Items class ≡ None) (λ r. pick_inline c.Items class ≡ Some r.now) }
+    ensures { AreSymbols (pick_inline c.Items class) result }
 {
     match class {
         41 => Some(&[]),
@@ -319,9 +295,8 @@ pub fn items(class: u8) -> Option<&'static [Symbol]>
 }
 
 #[rattlefmt::skip]
-#[tactic(auto, unfolding(go_tree::specs::Inlines::inlines, go_tree::specs::Inlines::greedy, go_tree::specs::First::first, go_tree::specs::First::nullable, go_tree::specs::Follow::follow))]
 pub fn more_items(class: u8) -> Option<&'static [Symbol]>
-    ensures { MatchOption result (pick_inline c.MoreItems class ≡ None) (λ r. pick_inline c.MoreItems class ≡ Some r.now) }
+    ensures { AreSymbols (pick_inline c.MoreItems class) result }
 {
     match class {
         41 => Some(&[]),
@@ -331,9 +306,8 @@ pub fn more_items(class: u8) -> Option<&'static [Symbol]>
 }
 
 #[rattlefmt::skip]
-#[tactic(auto, unfolding(go_tree::specs::Inlines::inlines, go_tree::specs::Inlines::greedy, go_tree::specs::First::first, go_tree::specs::First::nullable, go_tree::specs::Follow::follow))]
 pub fn element(class: u8) -> Option<&'static [Symbol]>
-    ensures { MatchOption result (pick_inline c.Element class ≡ None) (λ r. pick_inline c.Element class ≡ Some r.now) }
+    ensures { AreSymbols (pick_inline c.Element class) result }
 {
     match class {
         0..=5 | 8 | 16 | 21..=22 | 27 | 36 | 38 | 46..=49 | 51 | 58 | 63 | 70 | 76 => Some(&[Operand(2, Setting::Free)]),

@@ -1,5 +1,7 @@
-//! The alternatives of statements and of thin files that make no node.
-ghost use Rattle.std.specs.Prelude.{◌≡◌, Some, None, MatchOption};
+//! The alternatives of statements that make no node.
+#![tactic(auto, unfolding(go_tree::specs::Inlines::inlines, go_tree::specs::Inlines::greedy, go_tree::specs::First::first, go_tree::specs::First::nullable, go_tree::specs::Follow::follow))]
+
+ghost use Rattle.go_grammar.specs.View.{AreSymbols};
 ghost use Rattle.go_tree.specs.Choice.{pick_inline};
 ghost use Rattle.go_tree.specs.declared.grammar.Category.TheVariants as c;
 
@@ -7,9 +9,8 @@ use go_tree::Symbol::{Inline, Operand, Part, Token};
 use go_tree::{Category as C, Setting, Symbol, Terminal as T};
 
 #[rattlefmt::skip]
-#[tactic(auto, unfolding(go_tree::specs::Inlines::inlines, go_tree::specs::Inlines::greedy, go_tree::specs::First::first, go_tree::specs::First::nullable, go_tree::specs::Follow::follow))]
 pub fn statements(class: u8) -> Option<&'static [Symbol]>
-    ensures { MatchOption result (pick_inline c.Statements class ≡ None) (λ r. pick_inline c.Statements class ≡ Some r.now) }
+    ensures { AreSymbols (pick_inline c.Statements class) result }
 {
     match class {
         7 | 11 | 41 => Some(&[]),
@@ -20,9 +21,8 @@ pub fn statements(class: u8) -> Option<&'static [Symbol]>
 }
 
 #[rattlefmt::skip]
-#[tactic(auto, unfolding(go_tree::specs::Inlines::inlines, go_tree::specs::Inlines::greedy, go_tree::specs::First::first, go_tree::specs::First::nullable, go_tree::specs::Follow::follow))]
 pub fn statement(class: u8) -> Option<&'static [Symbol]>
-    ensures { MatchOption result (pick_inline c.Statement class ≡ None) (λ r. pick_inline c.Statement class ≡ Some r.now) }
+    ensures { AreSymbols (pick_inline c.Statement class) result }
 {
     match class {
         9 => Some(&[Part(C::Const)]),
@@ -46,9 +46,8 @@ pub fn statement(class: u8) -> Option<&'static [Symbol]>
 }
 
 #[rattlefmt::skip]
-#[tactic(auto, unfolding(go_tree::specs::Inlines::inlines, go_tree::specs::Inlines::greedy, go_tree::specs::First::first, go_tree::specs::First::nullable, go_tree::specs::Follow::follow))]
 pub fn values(class: u8) -> Option<&'static [Symbol]>
-    ensures { MatchOption result (pick_inline c.Values class ≡ None) (λ r. pick_inline c.Values class ≡ Some r.now) }
+    ensures { AreSymbols (pick_inline c.Values class) result }
 {
     match class {
         7 | 11 | 31 | 41 => Some(&[]),
@@ -58,9 +57,8 @@ pub fn values(class: u8) -> Option<&'static [Symbol]>
 }
 
 #[rattlefmt::skip]
-#[tactic(auto, unfolding(go_tree::specs::Inlines::inlines, go_tree::specs::Inlines::greedy, go_tree::specs::First::first, go_tree::specs::First::nullable, go_tree::specs::Follow::follow))]
 pub fn target(class: u8) -> Option<&'static [Symbol]>
-    ensures { MatchOption result (pick_inline c.Target class ≡ None) (λ r. pick_inline c.Target class ≡ Some r.now) }
+    ensures { AreSymbols (pick_inline c.Target class) result }
 {
     match class {
         7 | 11 | 31 | 41 => Some(&[]),
@@ -70,9 +68,8 @@ pub fn target(class: u8) -> Option<&'static [Symbol]>
 }
 
 #[rattlefmt::skip]
-#[tactic(auto, unfolding(go_tree::specs::Inlines::inlines, go_tree::specs::Inlines::greedy, go_tree::specs::First::first, go_tree::specs::First::nullable, go_tree::specs::Follow::follow))]
 pub fn labeled(class: u8) -> Option<&'static [Symbol]>
-    ensures { MatchOption result (pick_inline c.Labeled class ≡ None) (λ r. pick_inline c.Labeled class ≡ Some r.now) }
+    ensures { AreSymbols (pick_inline c.Labeled class) result }
 {
     match class {
         7 | 11 | 31 | 41 => Some(&[]),
@@ -82,9 +79,8 @@ pub fn labeled(class: u8) -> Option<&'static [Symbol]>
 }
 
 #[rattlefmt::skip]
-#[tactic(auto, unfolding(go_tree::specs::Inlines::inlines, go_tree::specs::Inlines::greedy, go_tree::specs::First::first, go_tree::specs::First::nullable, go_tree::specs::Follow::follow))]
 pub fn more_head_exprs(class: u8) -> Option<&'static [Symbol]>
-    ensures { MatchOption result (pick_inline c.MoreHeadExprs class ≡ None) (λ r. pick_inline c.MoreHeadExprs class ≡ Some r.now) }
+    ensures { AreSymbols (pick_inline c.MoreHeadExprs class) result }
 {
     match class {
         24 | 31 | 40 | 42..=46 | 67 | 71..=72 => Some(&[]),
@@ -94,9 +90,8 @@ pub fn more_head_exprs(class: u8) -> Option<&'static [Symbol]>
 }
 
 #[rattlefmt::skip]
-#[tactic(auto, unfolding(go_tree::specs::Inlines::inlines, go_tree::specs::Inlines::greedy, go_tree::specs::First::first, go_tree::specs::First::nullable, go_tree::specs::Follow::follow))]
 pub fn init(class: u8) -> Option<&'static [Symbol]>
-    ensures { MatchOption result (pick_inline c.Init class ≡ None) (λ r. pick_inline c.Init class ≡ Some r.now) }
+    ensures { AreSymbols (pick_inline c.Init class) result }
 {
     match class {
         24 | 31 | 40 | 71..=72 => Some(&[]),
@@ -106,9 +101,8 @@ pub fn init(class: u8) -> Option<&'static [Symbol]>
 }
 
 #[rattlefmt::skip]
-#[tactic(auto, unfolding(go_tree::specs::Inlines::inlines, go_tree::specs::Inlines::greedy, go_tree::specs::First::first, go_tree::specs::First::nullable, go_tree::specs::Follow::follow))]
 pub fn branch(class: u8) -> Option<&'static [Symbol]>
-    ensures { MatchOption result (pick_inline c.Branch class ≡ None) (λ r. pick_inline c.Branch class ≡ Some r.now) }
+    ensures { AreSymbols (pick_inline c.Branch class) result }
 {
     match class {
         19 => Some(&[Part(C::If)]),
@@ -118,9 +112,8 @@ pub fn branch(class: u8) -> Option<&'static [Symbol]>
 }
 
 #[rattlefmt::skip]
-#[tactic(auto, unfolding(go_tree::specs::Inlines::inlines, go_tree::specs::Inlines::greedy, go_tree::specs::First::first, go_tree::specs::First::nullable, go_tree::specs::Follow::follow))]
 pub fn subject(class: u8) -> Option<&'static [Symbol]>
-    ensures { MatchOption result (pick_inline c.Subject class ≡ None) (λ r. pick_inline c.Subject class ≡ Some r.now) }
+    ensures { AreSymbols (pick_inline c.Subject class) result }
 {
     match class {
         40 => Some(&[]),
@@ -130,9 +123,8 @@ pub fn subject(class: u8) -> Option<&'static [Symbol]>
 }
 
 #[rattlefmt::skip]
-#[tactic(auto, unfolding(go_tree::specs::Inlines::inlines, go_tree::specs::Inlines::greedy, go_tree::specs::First::first, go_tree::specs::First::nullable, go_tree::specs::Follow::follow))]
 pub fn clauses(class: u8) -> Option<&'static [Symbol]>
-    ensures { MatchOption result (pick_inline c.Clauses class ≡ None) (λ r. pick_inline c.Clauses class ≡ Some r.now) }
+    ensures { AreSymbols (pick_inline c.Clauses class) result }
 {
     match class {
         41 => Some(&[]),
@@ -142,9 +134,8 @@ pub fn clauses(class: u8) -> Option<&'static [Symbol]>
 }
 
 #[rattlefmt::skip]
-#[tactic(auto, unfolding(go_tree::specs::Inlines::inlines, go_tree::specs::Inlines::greedy, go_tree::specs::First::first, go_tree::specs::First::nullable, go_tree::specs::Follow::follow))]
 pub fn type_clauses(class: u8) -> Option<&'static [Symbol]>
-    ensures { MatchOption result (pick_inline c.TypeClauses class ≡ None) (λ r. pick_inline c.TypeClauses class ≡ Some r.now) }
+    ensures { AreSymbols (pick_inline c.TypeClauses class) result }
 {
     match class {
         41 => Some(&[]),
@@ -154,9 +145,8 @@ pub fn type_clauses(class: u8) -> Option<&'static [Symbol]>
 }
 
 #[rattlefmt::skip]
-#[tactic(auto, unfolding(go_tree::specs::Inlines::inlines, go_tree::specs::Inlines::greedy, go_tree::specs::First::first, go_tree::specs::First::nullable, go_tree::specs::Follow::follow))]
 pub fn more_types(class: u8) -> Option<&'static [Symbol]>
-    ensures { MatchOption result (pick_inline c.MoreTypes class ≡ None) (λ r. pick_inline c.MoreTypes class ≡ Some r.now) }
+    ensures { AreSymbols (pick_inline c.MoreTypes class) result }
 {
     match class {
         33 => Some(&[]),
@@ -166,9 +156,8 @@ pub fn more_types(class: u8) -> Option<&'static [Symbol]>
 }
 
 #[rattlefmt::skip]
-#[tactic(auto, unfolding(go_tree::specs::Inlines::inlines, go_tree::specs::Inlines::greedy, go_tree::specs::First::first, go_tree::specs::First::nullable, go_tree::specs::Follow::follow))]
 pub fn comm_clauses(class: u8) -> Option<&'static [Symbol]>
-    ensures { MatchOption result (pick_inline c.CommClauses class ≡ None) (λ r. pick_inline c.CommClauses class ≡ Some r.now) }
+    ensures { AreSymbols (pick_inline c.CommClauses class) result }
 {
     match class {
         41 => Some(&[]),
@@ -178,9 +167,8 @@ pub fn comm_clauses(class: u8) -> Option<&'static [Symbol]>
 }
 
 #[rattlefmt::skip]
-#[tactic(auto, unfolding(go_tree::specs::Inlines::inlines, go_tree::specs::Inlines::greedy, go_tree::specs::First::first, go_tree::specs::First::nullable, go_tree::specs::Follow::follow))]
 pub fn comm(class: u8) -> Option<&'static [Symbol]>
-    ensures { MatchOption result (pick_inline c.Comm class ≡ None) (λ r. pick_inline c.Comm class ≡ Some r.now) }
+    ensures { AreSymbols (pick_inline c.Comm class) result }
 {
     match class {
         33 => Some(&[]),
@@ -190,9 +178,8 @@ pub fn comm(class: u8) -> Option<&'static [Symbol]>
 }
 
 #[rattlefmt::skip]
-#[tactic(auto, unfolding(go_tree::specs::Inlines::inlines, go_tree::specs::Inlines::greedy, go_tree::specs::First::first, go_tree::specs::First::nullable, go_tree::specs::Follow::follow))]
 pub fn condition(class: u8) -> Option<&'static [Symbol]>
-    ensures { MatchOption result (pick_inline c.Condition class ≡ None) (λ r. pick_inline c.Condition class ≡ Some r.now) }
+    ensures { AreSymbols (pick_inline c.Condition class) result }
 {
     match class {
         31 => Some(&[]),
@@ -202,36 +189,12 @@ pub fn condition(class: u8) -> Option<&'static [Symbol]>
 }
 
 #[rattlefmt::skip]
-#[tactic(auto, unfolding(go_tree::specs::Inlines::inlines, go_tree::specs::Inlines::greedy, go_tree::specs::First::first, go_tree::specs::First::nullable, go_tree::specs::Follow::follow))]
 pub fn post_part(class: u8) -> Option<&'static [Symbol]>
-    ensures { MatchOption result (pick_inline c.PostPart class ≡ None) (λ r. pick_inline c.PostPart class ≡ Some r.now) }
+    ensures { AreSymbols (pick_inline c.PostPart class) result }
 {
     match class {
         40 => Some(&[]),
         0..=5 | 8 | 16 | 21..=22 | 27 | 36 | 38 | 46..=49 | 51 | 58 | 63 | 70 | 76 => Some(&[Part(C::Post)]),
-        _ => None,
-    }
-}
-
-#[rattlefmt::skip]
-#[tactic(auto, unfolding(go_tree::specs::Inlines::inlines, go_tree::specs::Inlines::greedy, go_tree::specs::First::first, go_tree::specs::First::nullable, go_tree::specs::Follow::follow))]
-pub fn thin_file(class: u8) -> Option<&'static [Symbol]>
-    ensures { MatchOption result (pick_inline c.ThinFile class ≡ None) (λ r. pick_inline c.ThinFile class ≡ Some r.now) }
-{
-    match class {
-        23 => Some(&[Part(C::Clause), Token(T::Semi), Inline(C::ThinConsts)]),
-        _ => None,
-    }
-}
-
-#[rattlefmt::skip]
-#[tactic(auto, unfolding(go_tree::specs::Inlines::inlines, go_tree::specs::Inlines::greedy, go_tree::specs::First::first, go_tree::specs::First::nullable, go_tree::specs::Follow::follow))]
-pub fn thin_consts(class: u8) -> Option<&'static [Symbol]>
-    ensures { MatchOption result (pick_inline c.ThinConsts class ≡ None) (λ r. pick_inline c.ThinConsts class ≡ Some r.now) }
-{
-    match class {
-        75 => Some(&[]),
-        9 => Some(&[Part(C::ThinConst), Token(T::Semi), Inline(C::ThinConsts)]),
         _ => None,
     }
 }

@@ -57,7 +57,6 @@ pub fn admits(terminal: Terminal, class: u8) -> bool
         Terminal::Increment => matches!(class, 44),
         Terminal::Decrement => matches!(class, 45),
         Terminal::Arrow => matches!(class, 46),
-        Terminal::Plus => matches!(class, 48),
         Terminal::Star => matches!(class, 58),
         Terminal::OpAssign => matches!(class, 67),
         Terminal::DotParen => matches!(class, 68),

@@ -57,8 +57,6 @@ inlines_are_fine c.CommClauses = refl
 inlines_are_fine c.Comm = refl
 inlines_are_fine c.Condition = refl
 inlines_are_fine c.PostPart = refl
-inlines_are_fine c.ThinFile = refl
-inlines_are_fine c.ThinConsts = refl
 inlines_are_fine _ = refl
 
 pub nodes_are_fine : (x : Category) → fine_nodes x ≡ true
@@ -171,8 +169,6 @@ nodes_are_fine c.CommClause = refl
 nodes_are_fine c.For = refl
 nodes_are_fine c.ForTail = refl
 nodes_are_fine c.Cond = refl
-nodes_are_fine c.ThinConst = refl
-nodes_are_fine c.ThinSpec = refl
 nodes_are_fine c.IndexTail = refl
 nodes_are_fine c.IndexEnd = refl
 nodes_are_fine c.SliceLow = refl
@@ -187,10 +183,8 @@ pub prefixes_are_fine : (l : Setting) → fine_prefixes l ≡ true
 unfolding prefixes first nullable follow
 prefixes_are_fine m.Free = refl
 prefixes_are_fine m.Header = refl
-prefixes_are_fine m.Thin = refl
 
 pub suffixes_are_fine : (l : Setting) → fine_suffixes l ≡ true
 unfolding suffixes first nullable follow
 suffixes_are_fine m.Free = refl
 suffixes_are_fine m.Header = refl
-suffixes_are_fine m.Thin = refl

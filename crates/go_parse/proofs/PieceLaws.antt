@@ -8,8 +8,7 @@ use Rattle.go_tree.specs.declared.grammar.Stage.TheVariants.{Clause, Imports, De
 use Rattle.go_tree.specs.Arena.{depth, heights, highest}
 use Rattle.go_tree.specs.Follow.{follow}
 use Rattle.go_tree.specs.Forest.{Forest, Empty, Grow, ◌⊕◌}
-use Rattle.go_tree.specs.Pieces.{deeper, onto, pieces, wanted, after, IsEnough, SpellsPiece, SpellsPieces, SpellsFile, Finding, Fine, Syntax, TooDeep, Finds, Unspelled}
-use Rattle.go_tree.specs.Tree.{depth_limit}
+use Rattle.go_tree.specs.Pieces.{depth_limit, deeper, onto, pieces, wanted, after, IsEnough, SpellsPiece, SpellsPieces, SpellsFile, Finding, Fine, Syntax, TooDeep, Finds, Unspelled}
 use Rattle.go_parse.specs.State.{State}
 use Rattle.go_parse.specs.Machine.{Built, Ended, SpellsTo}
 use Rattle.go_parse.specs.Machine as machine

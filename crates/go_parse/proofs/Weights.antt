@@ -62,8 +62,6 @@ weight c.CommClauses = 5
 weight c.Comm = 67
 weight c.Condition = 64
 weight c.PostPart = 70
-weight c.ThinFile = 5
-weight c.ThinConsts = 5
 weight c.Clause = 2
 weight c.NamedIdent = 2
 weight c.BlankIdent = 2
@@ -172,8 +170,6 @@ weight c.CommClause = 2
 weight c.For = 2
 weight c.ForTail = 5
 weight c.Cond = 61
-weight c.ThinConst = 2
-weight c.ThinSpec = 5
 weight c.IndexTail = 61
 weight c.IndexEnd = 2
 weight c.SliceLow = 61
@@ -257,8 +253,6 @@ inlines_light c.CommClauses = refl
 inlines_light c.Comm = refl
 inlines_light c.Condition = refl
 inlines_light c.PostPart = refl
-inlines_light c.ThinFile = refl
-inlines_light c.ThinConsts = refl
 inlines_light _ = refl
 
 pub nodes_light : (x : Category) → light_nodes x ≡ true
@@ -371,8 +365,6 @@ nodes_light c.CommClause = refl
 nodes_light c.For = refl
 nodes_light c.ForTail = refl
 nodes_light c.Cond = refl
-nodes_light c.ThinConst = refl
-nodes_light c.ThinSpec = refl
 nodes_light c.IndexTail = refl
 nodes_light c.IndexEnd = refl
 nodes_light c.SliceLow = refl
@@ -387,10 +379,8 @@ pub prefixes_light : (l : Setting) → all (λ (r : Rule). nat_lt (rule_turns r 
 unfolding prefixes nullable weight
 prefixes_light m.Free = refl
 prefixes_light m.Header = refl
-prefixes_light m.Thin = refl
 
 pub suffixes_light : (l : Setting) → all (λ (r : Rule). nat_lt (rule_turns r 0) 60 && full (whole r)) (suffixes l) ≡ true
 unfolding suffixes nullable weight
 suffixes_light m.Free = refl
 suffixes_light m.Header = refl
-suffixes_light m.Thin = refl

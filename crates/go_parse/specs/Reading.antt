@@ -4,8 +4,7 @@ use Rattle.go_tree.specs.declared.grammar.Stage.{Stage}
 use Rattle.go_tree.specs.declared.grammar.Stage.TheVariants.{Clause}
 use Rattle.go_tree.specs.Arena.{depth}
 use Rattle.go_tree.specs.Forest.{Forest, ◌⊕◌}
-use Rattle.go_tree.specs.Pieces.{deeper, pieces, SpellsPieces, SpellsFile, Finding, Fine, Syntax, TooDeep, Finds}
-use Rattle.go_tree.specs.Tree.{depth_limit}
+use Rattle.go_tree.specs.Pieces.{depth_limit, deeper, pieces, SpellsPieces, SpellsFile, Finding, Fine, Syntax, TooDeep, Finds}
 use Rattle.go_parse.specs.State.{State}
 use Rattle.go_parse.specs.Machine.{Built, state_of}
 use Rattle.go_parse.specs.declared.pieces.Reader.{Reader}

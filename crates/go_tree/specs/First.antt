@@ -51,8 +51,6 @@ first c.CommClauses c = c == 7 || (c == 11)
 first c.Comm c = (nat_le 0 c && nat_le c 5) || (c == 8 || (c == 16 || ((nat_le 21 c && nat_le c 22) || (c == 27 || (c == 36 || (c == 38 || ((nat_le 46 c && nat_le c 49) || (c == 51 || (c == 58 || (c == 63 || (c == 70 || (c == 76))))))))))))
 first c.Condition c = (nat_le 0 c && nat_le c 5) || (c == 8 || (c == 16 || ((nat_le 21 c && nat_le c 22) || (c == 27 || (c == 36 || (c == 38 || ((nat_le 46 c && nat_le c 49) || (c == 51 || (c == 58 || (c == 63 || (c == 70 || (c == 76))))))))))))
 first c.PostPart c = (nat_le 0 c && nat_le c 5) || (c == 8 || (c == 16 || ((nat_le 21 c && nat_le c 22) || (c == 27 || (c == 36 || (c == 38 || ((nat_le 46 c && nat_le c 49) || (c == 51 || (c == 58 || (c == 63 || (c == 70 || (c == 76))))))))))))
-first c.ThinFile c = c == 23
-first c.ThinConsts c = c == 9
 first c.Clause c = c == 23
 first c.NamedIdent c = c == 0
 first c.BlankIdent c = c == 76
@@ -161,8 +159,6 @@ first c.CommClause c = c == 7 || (c == 11)
 first c.For c = c == 15
 first c.ForTail c = c == 24 || (c == 31 || (c == 40 || ((nat_le 71 c && nat_le c 72))))
 first c.Cond c = (nat_le 0 c && nat_le c 5) || (c == 8 || (c == 16 || ((nat_le 21 c && nat_le c 22) || (c == 27 || (c == 36 || (c == 38 || ((nat_le 46 c && nat_le c 49) || (c == 51 || (c == 58 || (c == 63 || (c == 70 || (c == 76))))))))))))
-first c.ThinConst c = c == 9
-first c.ThinSpec c = c == 0 || (c == 76)
 first c.IndexTail c = (nat_le 0 c && nat_le c 5) || (c == 8 || (c == 16 || ((nat_le 21 c && nat_le c 22) || (c == 27 || (c == 33 || (c == 36 || (c == 38 || ((nat_le 46 c && nat_le c 49) || (c == 51 || (c == 58 || (c == 63 || (c == 70 || (c == 76)))))))))))))
 first c.IndexEnd c = c == 33 || (c == 39)
 first c.SliceLow c = (nat_le 0 c && nat_le c 5) || (c == 8 || (c == 16 || ((nat_le 21 c && nat_le c 22) || (c == 27 || (c == 36 || ((nat_le 38 c && nat_le c 39) || ((nat_le 46 c && nat_le c 49) || (c == 51 || (c == 58 || (c == 63 || (c == 70 || (c == 76))))))))))))
@@ -209,7 +205,6 @@ nullable c.CommClauses = true
 nullable c.Comm = true
 nullable c.Condition = true
 nullable c.PostPart = true
-nullable c.ThinConsts = true
 nullable c.ConstSpecTail = true
 nullable c.NamesEnd = true
 nullable c.ExprsEnd = true

@@ -48,8 +48,6 @@ follow c.CommClauses c = c == 41
 follow c.Comm c = c == 33
 follow c.Condition c = c == 31
 follow c.PostPart c = c == 40
-follow c.ThinFile c = c == 75
-follow c.ThinConsts c = c == 75
 follow c.Clause c = c == 31 || (c == 75)
 follow c.NamedIdent c = c == 31 || (c == 34 || (c == 36 || (c == 41 || (c == 75))))
 follow c.BlankIdent c = c == 31 || (c == 34 || (c == 41))
@@ -158,8 +156,6 @@ follow c.CommClause c = c == 7 || (c == 11 || (c == 41))
 follow c.For c = c == 7 || (c == 11 || (c == 31 || (c == 41)))
 follow c.ForTail c = c == 7 || (c == 11 || (c == 31 || (c == 41)))
 follow c.Cond c = c == 31
-follow c.ThinConst c = c == 31
-follow c.ThinSpec c = c == 31
 follow c.IndexTail c = true
 follow c.IndexEnd c = true
 follow c.SliceLow c = true

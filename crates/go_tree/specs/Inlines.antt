@@ -52,8 +52,6 @@ inlines c.CommClauses = [] ∷ (Part c.CommClause ∷ Inline c.CommClauses ∷ [
 inlines c.Comm = [] ∷ (Part c.CommSimple ∷ []) ∷ []
 inlines c.Condition = [] ∷ (Part c.Cond ∷ []) ∷ []
 inlines c.PostPart = [] ∷ (Part c.Post ∷ []) ∷ []
-inlines c.ThinFile = (Part c.Clause ∷ Token t.Semi ∷ Inline c.ThinConsts ∷ []) ∷ []
-inlines c.ThinConsts = [] ∷ (Part c.ThinConst ∷ Token t.Semi ∷ Inline c.ThinConsts ∷ []) ∷ []
 inlines _ = []
 
 -- the categories of which an empty alternative is none where another could begin

@@ -2,7 +2,6 @@ pub mod Lexeme
 pub mod Lexed
 pub mod Word
 pub mod Escapes
-pub mod Thin
 pub mod Numbers
 pub mod Values
 pub mod Forest
@@ -18,13 +17,9 @@ pub mod First
 pub mod Follow
 pub mod Choice
 pub mod Spells
-pub mod Tree
-pub mod ThinTree
 pub mod Spelling
-pub mod ThinNames
 pub mod Pieces
 pub mod Names
-pub mod Needs
 pub mod ImportPaths
 pub mod Constraints
 pub mod Head

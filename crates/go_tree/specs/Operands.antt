@@ -46,10 +46,6 @@ prefixes m.Header =
     ∷ rule (Tail c.ChanTail) 8 0 (Token t.Chan ∷ [])
     ∷ rule (Tail c.FuncTail) 8 0 (Token t.Func ∷ Inline c.Signature ∷ [])
     ∷ []
-prefixes m.Thin =
-    rule (Is k.Name) 8 0 (Token t.Name ∷ [])
-    ∷ rule (Is k.Int) 8 0 (Token t.Int ∷ [])
-    ∷ []
 
 unfoldable pub suffixes : Setting → List Rule
 suffixes m.Free =
@@ -75,7 +71,4 @@ suffixes m.Header =
     ∷ rule (Is k.TypeGuard) 1 8 (Token t.DotType ∷ Token t.LeftParen ∷ Token t.Type ∷ Token t.RightParen ∷ [])
     ∷ rule (Tail c.IndexTail) 8 8 (Token t.LeftBracket ∷ [])
     ∷ rule (Tail c.CallTail) 8 8 (Token t.LeftParen ∷ [])
-    ∷ []
-suffixes m.Thin =
-    rule (Is k.Binary) 5 5 (Token t.Plus ∷ Operand 6 m.Thin ∷ [])
     ∷ []

@@ -11,7 +11,10 @@ use Rattle.go_tree.specs.Arena.{arena_of, depth}
 use Rattle.go_tree.specs.Classes.{classes}
 use Rattle.go_tree.specs.Forest.{Forest, Empty, ◌⊕◌}
 use Rattle.go_tree.specs.Spells.{Spells}
-use Rattle.go_tree.specs.Tree.{depth_limit}
+
+-- The most that a tree nests.
+abbrev pub depth_limit : ℕ
+depth_limit = 250
 
 -- the bracket depth after a token of a class: `(`, `[` and `{` raise it, `)`, `]` and `}` lower it, and zero stays zero
 abbrev pub deeper : ℕ → ℕ → ℕ

@@ -52,7 +52,6 @@ admits t.Define c = c == 43
 admits t.Increment c = c == 44
 admits t.Decrement c = c == 45
 admits t.Arrow c = c == 46
-admits t.Plus c = c == 48
 admits t.Star c = c == 58
 admits t.OpAssign c = c == 67
 admits t.DotParen c = c == 68

@@ -48,8 +48,6 @@ pub enum Category {
     Comm,
     Condition,
     PostPart,
-    ThinFile,
-    ThinConsts,
     Clause,
     NamedIdent,
     BlankIdent,
@@ -158,8 +156,6 @@ pub enum Category {
     For,
     ForTail,
     Cond,
-    ThinConst,
-    ThinSpec,
     IndexTail,
     IndexEnd,
     SliceLow,
@@ -220,7 +216,6 @@ pub enum Terminal {
     Increment,
     Decrement,
     Arrow,
-    Plus,
     Star,
     OpAssign,
     DotParen,
@@ -318,8 +313,6 @@ pub enum Setting {
     Free,
     /// Between `if`, `for` or `switch` and its block, where it may not.
     Header,
-    /// In a thin file: names and numbers alone, joined by `+`.
-    Thin,
 }
 
 /// What a rule is made of: a token, a node, trees that stand among those of the rule, or an operand

@@ -1,12 +1,11 @@
 //! The head of a file: its package, its imports, and its first build constraint (Go 1.17, "Package
 //! clause" and "Import declarations").
 ghost use Rattle.std.specs.Prelude.{◌≡◌, ◌++◌, map, get_or, IfOk, OnOk, bytes_eq, codes};
-ghost use Rattle.go_tree.specs.Head.{node_at, token_at, named, local_of, import_line, is_import, piece_imports, imports_of, head_of};
+ghost use Rattle.go_tree.specs.Head.{node_at, named, local_of, import_line, is_import, piece_imports, imports_of, head_of};
 
 use crate::constraint::{constraint_in, front};
 use crate::import_path::path_of;
 use crate::spelling::token_text;
-use crate::token::{Token, TokenKind};
 use crate::tree::{FileTree, NodeKind};
 use gv_base::{Bytes, NoMemory, Row};
 use std::alloc::Global;
@@ -47,13 +46,6 @@ pub struct Head {
     pub constraint: Option<u32>,
 }
 
-fn copied(alloc: Global, text: &[u8]) -> Result<Bytes, NoMemory>
-    ensures { IfOk result (λ copy. copy ≡ text.now) }
-{
-    let bytes = text.to_vec(alloc)?;
-    Ok(Bytes::new(bytes))
-}
-
 fn is_blank(name: &[u8]) -> bool
     ensures { result ≡ bytes_eq name.now (codes "_") }
 {
@@ -66,7 +58,7 @@ fn named(alloc: Global, name: &[u8]) -> Result<LocalName, NoMemory>
     if is_blank(name) {
         return Ok(LocalName::Blank);
     }
-    let name = copied(alloc, name)?;
+    let name = Bytes::of(alloc, name)?;
     Ok(LocalName::Named(name))
 }
 
@@ -83,83 +75,22 @@ fn local_of(alloc: Global, kind: NodeKind, name: &[u8]) -> Result<LocalName, NoM
     }
 }
 
-fn is_import(kind: NodeKind) -> bool
+/// Whether a piece of this kind declares imports.
+pub fn is_import(kind: NodeKind) -> bool
     ensures { result ≡ is_import kind }
 {
-    match kind {
-        NodeKind::Import | NodeKind::ImportGroup => true,
-        _ => false,
-    }
+    matches!(kind, NodeKind::Import | NodeKind::ImportGroup)
 }
 
 impl FileTree {
-    fn token_at(&self, at: u32) -> Token
-        ensures { result ≡ token_at self.now at }
-    {
-        let tokens = self.tokens.as_slice();
-        if (at as usize) < tokens.len() {
-            tokens[at as usize]
-        } else {
-            Token {
-                kind: TokenKind::Semi,
-                start: 0,
-                end: 0,
-            }
-        }
-    }
-
-    fn kind_at(&self, at: u32) -> NodeKind
-        ensures { result ≡ (node_at self.now at).kind }
-    {
-        let nodes = self.nodes.as_slice();
-        if (at as usize) < nodes.len() {
-            nodes[at as usize].kind
-        } else {
-            NodeKind::Name
-        }
-    }
-
-    fn first_at(&self, at: u32) -> u32
-        ensures { result ≡ (node_at self.now at).first }
-    {
-        let nodes = self.nodes.as_slice();
-        if (at as usize) < nodes.len() {
-            nodes[at as usize].first
-        } else {
-            0
-        }
-    }
-
-    fn last_at(&self, at: u32) -> u32
-        ensures { result ≡ (node_at self.now at).last }
-    {
-        let nodes = self.nodes.as_slice();
-        if (at as usize) < nodes.len() {
-            nodes[at as usize].last
-        } else {
-            0
-        }
-    }
-
-    fn parts_at(&self, at: u32) -> &[u32]
-        ensures { result.now ≡ (node_at self.now at).parts }
-    {
-        let nodes = self.nodes.as_slice();
-        if (at as usize) < nodes.len() {
-            nodes[at as usize].parts.as_slice()
-        } else {
-            &[]
-        }
-    }
-
     /// One import.
     fn import_line(&self, alloc: Global, source: &[u8], at: u32) -> Result<ImportLine, NoMemory>
         ensures { IfOk result (λ line. line ≡ import_line self.now source.now at) }
     {
-        let first = self.token_at(self.first_at(at));
-        let last = self.token_at(self.last_at(at));
+        let first = self.first(at);
+        let last = self.last(at);
         let path = path_of(alloc, token_text(source, &last))?;
-        let local = local_of(alloc, self.kind_at(at), token_text(source, &first))?;
+        let local = local_of(alloc, self.kind(at), token_text(source, &first))?;
         Ok(ImportLine {
             path,
             at: first.start,
@@ -194,8 +125,8 @@ impl FileTree {
     ) -> Result<(), NoMemory>
         ensures { OnOk result (lines.new.items ≡ lines.old.items ++ piece_imports self.now source.now top) }
     {
-        if is_import(self.kind_at(top)) {
-            self.push_lines(alloc, source, self.parts_at(top), lines)?;
+        if is_import(self.kind(top)) {
+            self.push_lines(alloc, source, self.parts(top), lines)?;
         }
         Ok(())
     }
@@ -215,7 +146,7 @@ impl FileTree {
     fn name_node(&self) -> u32
         ensures { result ≡ get_or (node_at self.now (get_or self.now.tops 0 0)).parts 0 0 }
     {
-        number_at(self.parts_at(number_at(self.tops.as_slice())))
+        number_at(self.parts(number_at(self.tops.as_slice())))
     }
 
     /// The head of a file: its package's name with its place, its imports, and the first build
@@ -223,10 +154,10 @@ impl FileTree {
     pub fn head(&self, alloc: Global, source: &[u8]) -> Result<Head, NoMemory>
         ensures { IfOk result (λ head. head ≡ head_of self.now source.now) }
     {
-        let token = self.token_at(self.first_at(self.name_node()));
-        let name = copied(alloc, token_text(source, &token))?;
+        let token = self.first(self.name_node());
+        let name = Bytes::of(alloc, token_text(source, &token))?;
         let imports = self.imports(alloc, source)?;
-        let constraint = constraint_in(front(source, self.token_at(0).start));
+        let constraint = constraint_in(front(source, self.token(0).start));
         Ok(Head {
             name,
             name_at: token.start,

@@ -1,10 +1,10 @@
-//! Tokens and trees of Go source, and the definitions of lexing, spelling and denoting.
+//! Tokens and trees of Go source, and the definitions of lexing and spelling.
 #![tactic(auto)]
 
+mod access;
 mod bindings;
 mod class;
 mod constraint;
-mod declaration;
 mod escape;
 mod grammar;
 mod head;
@@ -17,13 +17,13 @@ mod token;
 mod tree;
 mod value;
 
+pub use access::{node_in, tree_in};
 pub use bindings::{Bindings, Object};
 pub use class::{Class, Digits, Escape, State};
 pub use constraint::{Comment, behind_blanks};
-pub use declaration::Declaration;
 pub use escape::{is_rune, is_text};
 pub use grammar::{Category, Ending, Guard, Setting, Shape, Sort, Stage, Symbol, Terminal};
-pub use head::{Head, ImportLine, LocalName};
+pub use head::{Head, ImportLine, LocalName, is_import};
 pub use import_path::{Segment, are_segments};
 pub use number::number_kind;
 pub use quoted::text_value;

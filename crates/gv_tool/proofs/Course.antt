@@ -1,13 +1,13 @@
 -- The course of a session over its turns.
-use Rattle.std.proofs.Common.{◌≡◌, ℕ, ◌+◌, List, [], ◌++◌, length, refl, arith, Option, Some, None}
+use Rattle.std.proofs.Common.{◌≡◌, ℕ, ◌+◌, List, [], ◌++◌, length, refl, ap, subst, ◌∙◌, arith, Option, Some, None}
 use Rattle.std.proofs.lemmas.List.{length-append}
 use Rattle.gv_base.specs.Counts.{RoseBy}
 use Rattle.gv_base.specs.Sources.{SourceView}
 use Rattle.gv_base.specs.Sinks.{SinkView}
 use Rattle.gv_tool.specs.declared.session.Session.{Session}
 use Rattle.gv_tool.specs.declared.status.Status.{Status}
-use Rattle.gv_tool.specs.declared.status.Status.TheVariants.{Usage}
-use Rattle.gv_tool.specs.Outcome.{Outcome}
+use Rattle.gv_tool.specs.declared.status.Status.TheVariants.{Usage, TooLong}
+use Rattle.gv_tool.specs.Outcome.{Outcome, limit}
 use Rattle.gv_tool.specs.Judging.{IsHonest}
 use Rattle.gv_tool.specs.Replies.{Standing, at_start}
 use Rattle.gv_tool.specs.Desk.{standing_of}
@@ -44,6 +44,12 @@ SoFar-turn {a} {b} {c} {x} {y} {z} h t = record {
   stands = t.goes at_start h.given h.out h.stands;
 }
 
+-- all that was given is answered or pending
+given-length : {a b : SourceView} {x y : SinkView} {session : Session} (h : SoFar a b x y session) → length h.given ≡ session.offset + length session.pending
+given-length {session = session} h =
+    let l : length h.given ≡ length h.stands.read + length session.pending = ap length h.stands.reached.parts ∙ length-append h.stands.read session.pending in
+    let o = h.stands.offset in omega arith
+
 -- a turn that ends the session
 pub Runs-turn : {a b c : SourceView} {x y z : SinkView} {session session' : Session} {status : Status} → SoFar a b x y session → Turns b c y z session session' (Some status) → Runs a c x z status
 Runs-turn {a} {b} {c} {x} {y} {z} h t = record {
@@ -51,6 +57,7 @@ Runs-turn {a} {b} {c} {x} {y} {z} h t = record {
   out = h.out ++ t.said;
   takes = Consumes-trans a.left b.left c.left h.given t.given h.takes t.takes;
   counts = RoseBy-length a.given b.given c.given h.given t.given h.counts t.counts;
+  within = let g = given-length h in let l = length-append h.given t.given in let w = t.within in omega arith;
   says = Appends-trans x.held y.held z.held h.out t.said h.says t.says;
   outcome = t.goes at_start h.given h.out h.stands;
 }
@@ -58,3 +65,16 @@ Runs-turn {a} {b} {c} {x} {y} {z} h t = record {
 -- no session ends as a call with wrong words
 pub never_usage : (start : Standing) (given out : List ℕ) (left : Option (List ℕ)) (status : Status) → Outcome start given out left status → status ≡ Usage → ⊥
 never_usage start given out left status o e = let u : Outcome start given out left Usage = rw e at o in u.ends
+
+-- of a script that is too long one byte more than the limit was taken
+pub given-too_long : {a b : SourceView} {x y : SinkView} → Runs a b x y TooLong → RoseBy (limit + 1) a.given b.given
+given-too_long {a} {b} r =
+    let o = r.outcome in
+    let p = o.ends.1 in
+    let all : length r.given ≡ length o.read + length o.rest = ap length o.reached.parts ∙ length-append o.read o.rest in
+    let rest : length o.rest ≡ length p.first + length p.more = ap length p.parts ∙ length-append p.first p.more in
+    let full : length o.read + length p.first ≡ limit = p.full in
+    let some = p.surplus in
+    let most = r.within in
+    let is : length r.given ≡ limit + 1 = omega arith in
+    subst (λ n. RoseBy n a.given b.given) is r.counts

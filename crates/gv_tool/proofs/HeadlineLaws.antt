@@ -44,6 +44,18 @@ only-not_built TooLong e = absurd (omega arith)
 only-not_built Stuck e = absurd (omega arith)
 only-not_built NotBuilt e = refl
 
+pub only-too_long : (s : Status) → number_of s ≡ 9 → s ≡ TooLong
+only-too_long Done e = absurd (omega arith)
+only-too_long Found e = absurd (omega arith)
+only-too_long Usage e = absurd (omega arith)
+only-too_long SourceFault e = absurd (omega arith)
+only-too_long SinkFault e = absurd (omega arith)
+only-too_long NoMemory e = absurd (omega arith)
+only-too_long Refused e = absurd (omega arith)
+only-too_long TooLong e = refl
+only-too_long Stuck e = absurd (omega arith)
+only-too_long NotBuilt e = absurd (omega arith)
+
 -- the status is that of what is due, or that of an end before it
 pub exact-of : OneReport → (a b : SourceView) (x y : SinkView) (status : Status) (script whole : List ℕ) (due : Status) → Runs a b x y status → a.left ≡ Some script → Due script whole due → (number_of status ≡ number_of due) ⊎ IsCutShort (number_of status)
 exact-of law a b x y status script whole due r e d = go status refl

@@ -1,5 +1,5 @@
 -- What a whole session does.
-use Rattle.std.specs.Prelude.{◌≡◌, ◌⊎◌, ℕ, List, [], ◌∷◌, codes, map, Option, None, Some, String}
+use Rattle.std.specs.Prelude.{◌≡◌, ◌⊎◌, ℕ, List, [], ◌∷◌, codes, map, Option, None, Some, String, slice_index_or}
 use Rattle.std.specs.String.{string_bytes}
 use Rattle.std.specs.Global.{Global}
 use Rattle.gv_base.specs.Counts.{Rose}
@@ -23,6 +23,16 @@ number_of Refused = 8
 number_of TooLong = 9
 number_of Stuck = 10
 number_of NotBuilt = 11
+
+-- the name of each status at the place of its number; the two of a session that was read and answered have none
+abbrev pub names : List (List ℕ)
+names =
+    [] ∷ [] ∷ codes "usage" ∷ codes "source fault" ∷ [] ∷ [] ∷ codes "sink fault" ∷ codes "no memory"
+    ∷ codes "script refused" ∷ codes "input too long" ∷ codes "sink stuck" ∷ codes "not built" ∷ []
+
+-- the name of the status of this number, empty where no status has it
+abbrev pub name_of : ℕ → List ℕ
+name_of number = slice_index_or names number []
 
 -- the statuses with which all that is due has gone out
 abbrev pub IsAllDue : Status → Type 0

@@ -1,5 +1,5 @@
 -- One turn of the session's loop.
-use Rattle.std.specs.Prelude.{◌≡◌, ℕ, ◌+◌, ◌-◌, ◌*◌, ◌<◌, Bool, true, false, drop, List, [], ◌++◌, length, Option, None, Some}
+use Rattle.std.specs.Prelude.{◌≡◌, ℕ, ◌+◌, ◌-◌, ◌*◌, ◌<◌, ◌≤◌, Bool, true, false, drop, List, [], ◌++◌, length, Option, None, Some}
 use Rattle.std.specs.Io.KnownBytes.{Appends, Consumes, IsAtEnd}
 use Rattle.gv_base.specs.Counts.{RoseBy}
 use Rattle.gv_base.specs.Sources.{SourceView}
@@ -26,12 +26,13 @@ abbrev pub StandsOrEnds : Standing → List ℕ → List ℕ → Session → Opt
 StandsOrEnds start given out session left None = Stands start given out session
 StandsOrEnds start given out session left (Some status) = Outcome start given out left status
 
--- a turn takes bytes from the source and gives bytes to the sink
+-- a turn takes bytes from the source, none past the limit but one, and gives bytes to the sink
 pub record Turns (source source' : SourceView) (sink sink' : SinkView) (old new : Session) (result : Option Status) : Type 0 where
   pub given : List ℕ
   pub said : List ℕ
   pub takes : Consumes source.left source'.left given
   pub counts : RoseBy (length given) source.given source'.given
+  pub within : old.offset + length old.pending + length given ≤ limit + 1
   pub says : Appends sink.held sink'.held said
   pub goes : (start : Standing) (before out : List ℕ) → Stands start before out old → StandsOrEnds start (before ++ given) (out ++ said) new source'.left result
 
@@ -39,15 +40,16 @@ pub record Turns (source source' : SourceView) (sink sink' : SinkView) (old new 
 abbrev pub Leaves : Session → Session → List ℕ → Type 0 → Taken → Type 0
 Leaves old new given at_end More = (new.pending ≡ old.pending ++ given) × (0 < length given) × (new.desk ≡ old.desk) × (new.offset ≡ old.offset)
 Leaves old new given at_end AtEnd = (given ≡ []) × at_end × (new.desk ≡ old.desk) × (new.pending ≡ old.pending) × (new.offset ≡ old.offset)
-Leaves old new given at_end Over = (0 < length given) × (old.offset + length old.pending ≡ limit)
+Leaves old new given at_end Over = (length given ≡ 1) × (old.offset + length old.pending ≡ limit)
 Leaves old new given at_end Fault = given ≡ []
 Leaves old new given at_end Full = Unit {0}
 
--- one more piece was taken from the source
+-- one more piece was taken from the source, and however that ends, no byte past the limit but one
 pub record TakesPiece (source source' : SourceView) (old new : Session) (result : Taken) : Type 0 where
   pub given : List ℕ
   pub takes : Consumes source.left source'.left given
   pub counts : RoseBy (length given) source.given source'.given
+  pub within : old.offset + length old.pending + length given ≤ limit + 1
   pub leaves : Leaves old new given (IsAtEnd source'.left) result
 
 -- the status of a session that has come to its end
@@ -102,12 +104,13 @@ pub record Ends (sink sink' : SinkView) (session : Session) (result : Status) : 
   pub says : Appends sink.held sink'.held said
   pub goes : (start : Standing) (given out : List ℕ) (left : Option (List ℕ)) → Stands start given out session → IsAtEnd left → Outcome start given (out ++ said) left result
 
--- a whole session
+-- a whole session, which takes no byte past the limit but one
 pub record Runs (source source' : SourceView) (sink sink' : SinkView) (status : Status) : Type 0 where
   pub given : List ℕ
   pub out : List ℕ
   pub takes : Consumes source.left source'.left given
   pub counts : RoseBy (length given) source.given source'.given
+  pub within : length given ≤ limit + 1
   pub says : Appends sink.held sink'.held out
   pub outcome : Outcome at_start given out source'.left status
 

@@ -1,7 +1,8 @@
 //! The real devices: a source over a reader of std, and a sink over a writer of std.
 //!
 //! What they give and take is as std's contracts say: over bytes in memory these tell the content,
-//! over standard input and output they tell nothing.
+//! over standard input and output they tell nothing. What they count is exact over any reader and
+//! any writer, by the clauses of `Source` and `Sink`.
 ghost use Rattle.std.specs.Prelude.{◌≡◌, ℕ, List, Option};
 
 use gv_base::{Failed, Sink, Source};
@@ -16,8 +17,12 @@ pub struct StdSource<R: Read + Drop> {
 }
 
 impl<R: Read + Drop> StdSource<R> {
-    /// A source of what the reader gives.
-    pub fn new(reader: R) -> Self {
+    /// A source of what the reader gives. Nothing has failed, and nothing was given.
+    pub fn new(reader: R) -> Self
+        ensures left { R.remaining result.reader ≡ R.remaining reader }
+        ensures faults { result.faults ≡ 0 }
+        ensures given { result.given ≡ 0 }
+    {
         StdSource {
             reader,
             faults: 0,
@@ -52,8 +57,12 @@ pub struct StdSink<W: Write + Drop> {
 }
 
 impl<W: Write + Drop> StdSink<W> {
-    /// A sink to what the writer takes.
-    pub fn new(writer: W) -> Self {
+    /// A sink to what the writer takes. Nothing has failed, and nothing was stuck.
+    pub fn new(writer: W) -> Self
+        ensures held { W.contents result.writer ≡ W.contents writer }
+        ensures faults { result.faults ≡ 0 }
+        ensures stalls { result.stalls ≡ 0 }
+    {
         StdSink {
             writer,
             faults: 0,
@@ -68,7 +77,7 @@ impl<W: Write + Drop> Sink for StdSink<W> {
     fn write(&mut self, bytes: &[u8]) -> Result<usize, Failed> {
         match self.writer.write(bytes) {
             Ok(count) => {
-                if count == 0 {
+                if count == 0 && !bytes.is_empty() {
                     self.stalls = self.stalls.saturating_add(1);
                 }
                 Ok(count)

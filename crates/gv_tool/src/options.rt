@@ -5,7 +5,7 @@
 pub struct ToolOptions {
     /// How many workers a run has, from 1 to 64.
     pub workers: u32,
-    /// The analyzers that are chosen, a bit each.
+    /// The analyzers that are chosen: the bit of each one's number, which is 1 to 10.
     pub only: u16,
     /// Whether reports are in JSON.
     pub json: bool,
@@ -15,7 +15,7 @@ impl ToolOptions {
     /// The options of words without any: one worker, all ten analyzers, text.
     pub const PLAIN: ToolOptions = ToolOptions {
         workers: 1,
-        only: 1023,
+        only: 0b111_1111_1110,
         json: false,
     };
 }

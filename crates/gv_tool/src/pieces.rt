@@ -21,7 +21,7 @@ pub enum Taken {
 /// The most bytes that are taken at once.
 const PIECE: usize = 4096;
 
-/// Takes a piece from the source, and no byte past the limit but one.
+/// Takes a piece from the source: while there is room none past the limit, and where there is none one byte.
 pub(crate) fn take_piece<I: Source>(session: &mut Session, input: &mut I) -> Taken
     ensures takes { TakesPiece (I.view input.old) (I.view input.new) session.old session.new result }
     ensures fault { OnlyWhereRose (I.view input.old).faults (I.view input.new).faults (result ≡ Taken.Fault) }

@@ -1,4 +1,6 @@
 //! How a call ends.
+ghost use Rattle.std.specs.Prelude.{◌≡◌};
+ghost use Rattle.gv_tool.specs.Headline.{name_of};
 
 /// How a call ends. Its number is what the call answers.
 #[derive(Clone, Copy, Debug, PartialEq, Eq, Drop)]
@@ -26,7 +28,9 @@ pub enum Status {
 }
 
 /// The name of the status of this number; empty for 0 and 1, and for a number that is no status's.
-pub fn status_name(number: u8) -> &'static str {
+pub fn status_name(number: u8) -> &'static str
+    ensures { result.now ≡ name_of number }
+{
     match number {
         2 => "usage",
         3 => "source fault",

@@ -3,6 +3,7 @@
 use crate::adapters::{StdSink, StdSource};
 use crate::call::{gvet, session};
 use crate::options::ToolOptions;
+use crate::status::{Status, status_name};
 use gv_base::{MemSink, MemSource, SureKeeper, SureTree};
 use std::alloc::Global;
 use std::test::Fail;
@@ -286,5 +287,43 @@ fn reads_and_writes_by_std(rt: HostRuntime) -> Result<(), Fail> {
         written.as_slice(),
         b"packages 0, errors 0\npackages 0, errors 0\n".as_slice()
     );
+    Ok(())
+}
+
+/// Each status, its number and its name.
+const STATUSES: [(Status, u8, &str); 10] = [
+    (Status::Done, 0, ""),
+    (Status::Found, 1, ""),
+    (Status::Usage, 2, "usage"),
+    (Status::SourceFault, 3, "source fault"),
+    (Status::SinkFault, 6, "sink fault"),
+    (Status::NoMemory, 7, "no memory"),
+    (Status::Refused, 8, "script refused"),
+    (Status::TooLong, 9, "input too long"),
+    (Status::Stuck, 10, "sink stuck"),
+    (Status::NotBuilt, 11, "not built"),
+];
+
+#[test]
+fn names_each_status(rt: HostRuntime) -> Result<(), Fail> {
+    for (status, number, name) in STATUSES {
+        assert_eq!(rt; status as u8, number);
+        assert_eq!(rt; status_name(number), name);
+    }
+    for number in [4, 5, 12, 255] {
+        assert_eq!(rt; status_name(number), "");
+    }
+    Ok(())
+}
+
+#[test]
+fn plain_options_choose_each_analyzer(rt: HostRuntime) -> Result<(), Fail> {
+    let plain = ToolOptions::PLAIN;
+    assert_eq!(rt; plain.workers, 1);
+    assert!(rt; !plain.json);
+    for analyzer in 0..16 {
+        let chosen = (plain.only >> analyzer) % 2 == 1;
+        assert_eq!(rt; chosen, analyzer >= 1 && analyzer <= 10);
+    }
     Ok(())
 }

@@ -1,6 +1,10 @@
 //! The program: gvet over standard input and standard output.
 #![tactic(auto)]
 
+ghost use Rattle.std.specs.Prelude.{◌≡◌, ◌≢◌};
+ghost use Rattle.std.specs.Process.{exit_status};
+ghost use Rattle.gv_tool.specs.Headline.{IsSession};
+
 use gv_base::{SureKeeper, SureTree};
 use gv_tool::adapters::{StdSink, StdSource};
 use gv_tool::call::gvet;
@@ -30,7 +34,10 @@ fn words_of(rt: &HostRuntime) -> Result<Vec<String>, Status> {
 }
 
 /// Calls the tool over the real devices. The tree and the keeper are not touched yet.
-fn call<R: Threads + Sync + Input + Print>(rt: &R, alloc: Global, words: &[String]) -> u8 {
+fn call<R: Threads + Sync + Input + Print>(rt: &R, alloc: Global, words: &[String]) -> u8
+    ensures usage { ¬ (IsSession words.now) → result ≡ 2 }
+    ensures only_usage { IsSession words.now → result ≢ 2 }
+{
     let mut tree = SureTree::new(alloc);
     let mut keeper = SureKeeper::new(alloc, None);
     let mut input = StdSource::new(rt.reader());
@@ -46,14 +53,21 @@ fn call<R: Threads + Sync + Input + Print>(rt: &R, alloc: Global, words: &[Strin
     )
 }
 
-fn main(rt: HostRuntime) -> ExitCode {
-    let status = match words_of(&rt) {
-        Ok(words) => call(&rt, rt.alloc(), &words),
-        Err(status) => status as u8,
-    };
+/// Prints the name of a status on standard error, where it has one, and ends with its number.
+fn end(rt: &HostRuntime, status: u8) -> ExitCode
+    ensures { exit_status result ≡ status }
+{
     let name = status_name(status);
     if !name.is_empty() {
         let _printed = eprintln!(rt; "{name}");
     }
     ExitCode::from(status)
+}
+
+fn main(rt: HostRuntime) -> ExitCode {
+    let status = match words_of(&rt) {
+        Ok(words) => call(&rt, rt.alloc(), &words),
+        Err(status) => status as u8,
+    };
+    end(&rt, status)
 }

@@ -6,7 +6,7 @@ use Rattle.gv_tool.specs.Replies.{Does}
 use Rattle.gv_tool.specs.Desk.{standing_of, IsAnswer}
 use Rattle.gv_tool.specs.declared.desk.Answer.TheVariants.{Reply, NotBuilt}
 use Rattle.gv_base.proofs.Known.{Appends-none, Consumes-none}
-use Rattle.gv_tool.proofs.Steps.{Outcome-refused, Outcome-unbuilt, Outcome-finished, IsEnding-of, IsUnbuilt-of, IsRefused-none, Stands-piece, WentOut-full, WentOut-before, StandsOrEnds-reply, PastLimit-over}
+use Rattle.gv_tool.proofs.Steps.{within-limit, Outcome-refused, Outcome-unbuilt, Outcome-finished, IsEnding-of, IsUnbuilt-of, IsRefused-none, Stands-piece, WentOut-full, WentOut-before, StandsOrEnds-reply, PastLimit-over}
 use Rattle.gv_tool.proofs.top.turn.Goals as goal
 
 pub returns-then-is_end-clause-turns : goal.returns-then-is_end-clause-turns
@@ -17,6 +17,7 @@ returns-then-is_end-clause-turns g c =
       said = [];
       takes = Consumes-none source.left;
       counts = omega arith;
+      within = let w = within-limit c.args.session.now in omega arith;
       says = Appends-none (g.O.Sink.view c.args.output.now).held;
       goes = λ start before out s.
           let next : IsNext session.pending (Whole c.in-Whole.command c.in-Whole.len) = rw c.as_slice.ensures at c.in-Whole.ensures in
@@ -32,6 +33,7 @@ returns-in-Ok-Reply-clause-turns g c =
       said = r.said;
       takes = Consumes-none source.left;
       counts = omega arith;
+      within = let w = within-limit c.args.session.now in omega arith;
       says = r.says;
       goes = λ start before out s.
           let next : IsNext session.pending (Whole c.in-Whole.command c.in-Whole.len) = rw c.as_slice.ensures at c.in-Whole.ensures in
@@ -48,6 +50,7 @@ returns-in-Ok-NotBuilt-clause-turns g c =
       said = r.said;
       takes = Consumes-none source.left;
       counts = omega arith;
+      within = let w = within-limit c.args.session.now in omega arith;
       says = r.says;
       goes = λ start before out s.
           let next : IsNext session.pending (Whole c.in-Whole.command c.in-Whole.len) = rw c.as_slice.ensures at c.in-Whole.ensures in
@@ -62,6 +65,7 @@ returns-in-Err-clause-turns g c =
       said = [];
       takes = Consumes-none source.left;
       counts = omega arith;
+      within = let w = within-limit c.args.session.now in omega arith;
       says = Appends-none (g.O.Sink.view c.args.output.now).held;
       goes = λ start before out s. rw (append-nil before) (WentOut-before c.args.session.now source.left s);
     }
@@ -75,6 +79,7 @@ returns-in-Refused-clause-turns g c =
       said = r.said;
       takes = Consumes-none source.left;
       counts = omega arith;
+      within = let w = within-limit c.args.session.now in omega arith;
       says = r.says;
       goes = λ start before out s.
           let none : IsNext session.pending Refused = rw c.as_slice.ensures at c.in-Refused.ensures in
@@ -88,6 +93,7 @@ returns-in-More-clause-turns g c =
       said = [];
       takes = r.takes;
       counts = r.counts;
+      within = r.within;
       says = Appends-none (g.O.Sink.view c.args.output.now).held;
       goes = λ start before out s. Stands-piece c.args.session.now c.take_piece.new.session r.given s r.leaves.0 r.leaves.2 r.leaves.3;
     }
@@ -99,10 +105,11 @@ returns-in-Over-clause-turns g c =
       said = [];
       takes = r.takes;
       counts = r.counts;
+      within = r.within;
       says = Appends-none (g.O.Sink.view c.args.output.now).held;
       goes = λ start before out s.
           let begun : IsNext c.args.session.now.pending NeedMore = rw c.as_slice.ensures at c.in-NeedMore.ensures in
-          PastLimit-over c.args.session.now r.given (g.I.Source.view c.take_piece.new.input).left s begun r.leaves.1 r.leaves.0;
+          PastLimit-over c.args.session.now r.given (g.I.Source.view c.take_piece.new.input).left s begun r.leaves.1 (let one = r.leaves.0 in omega arith);
     }
 
 pub returns-in-Full-clause-turns : goal.returns-in-Full-clause-turns
@@ -112,6 +119,7 @@ returns-in-Full-clause-turns g c =
       said = [];
       takes = r.takes;
       counts = r.counts;
+      within = r.within;
       says = Appends-none (g.O.Sink.view c.args.output.now).held;
       goes = λ start before out s. WentOut-full c.args.session.now (g.I.Source.view c.take_piece.new.input).left r.given s;
     }

@@ -1,0 +1,31 @@
+#!/usr/bin/env bash
+# Runs the program itself to each status that real devices give at will: its exit code, and its name on standard error.
+# Want of memory (7) and a sink that takes nothing (10) aren't among them.
+set -u
+cd "$(dirname "$0")/.." || exit 1
+./gvet session </dev/null >/dev/null || { echo "gvet isn't built" >&2; exit 1; }
+program=crates/gvet/out/gvet
+failed=0
+
+# expect STATUS NAME: what the last call ended with, and what it printed
+expect() {
+    local printed
+    printed=$(cat "$errors")
+    if [ "$status" != "$1" ] || [ "$printed" != "$2" ]; then
+        echo "want $1 '$2', got $status '$printed'" >&2
+        failed=1
+    fi
+}
+
+errors=$(mktemp)
+trap 'rm -f "$errors"' EXIT
+printf 'check\n' | "$program" session >/dev/null 2>"$errors"; status=$?; expect 0 ''
+printf 'put a/a.go 23\npackage a\n\nconst A = A\n\ncheck\n' | "$program" session >/dev/null 2>"$errors"; status=$?; expect 1 ''
+"$program" chat </dev/null >/dev/null 2>"$errors"; status=$?; expect 2 'usage'
+"$program" session </ >/dev/null 2>"$errors"; status=$?; expect 3 'source fault'
+printf 'check\n' | "$program" session >/dev/full 2>"$errors"; status=$?; expect 6 'sink fault'
+printf 'Check\n' | "$program" session >/dev/null 2>"$errors"; status=$?; expect 8 'script refused'
+yes 'del a' | head -c 268435457 | "$program" session >/dev/null 2>"$errors"; status=$?; expect 9 'input too long'
+printf 'put a/a.go 21\npackage a\n\nvar x int\n\ncheck\n' | "$program" session >/dev/null 2>"$errors"; status=$?; expect 11 'not built'
+[ "$failed" = 0 ] && echo "each status has its number and its name"
+exit "$failed"
