@@ -11,6 +11,5 @@ pub mod AttributeLemmas
 pub mod ItemLemmas
 pub mod SetLemmas
 pub mod WalkLemmas
-pub mod WaitLemmas
 pub mod OrderLemmas
 pub mod DoneLemmas

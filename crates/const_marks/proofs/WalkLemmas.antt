@@ -21,7 +21,7 @@ use Rattle.const_marks.specs.declared.reading.Reading.{Reading}
 use Rattle.const_marks.specs.declared.reading.Reading.TheVariants as r
 use Rattle.const_marks.specs.declared.reading.Visit.{Visit}
 use Rattle.const_marks.specs.Annotations.{IsMarked, IsReady, Keeps}
-use Rattle.const_marks.specs.Items.{nodes_at, item_of, place_at, typing_at, number_of, constant_of, IsConstantOf, IsItem, IsPartOf, IsTypingOf, Under, itself, deeper, Rests, there, by_part, by_type, IsRootOf, Needs, reading_of, value_item}
+use Rattle.const_marks.specs.Items.{nodes_at, item_of, place_at, typing_at, number_of, constant_of, IsConstantOf, IsConstant, IsItem, IsPartOf, IsTypingOf, Under, itself, deeper, Rests, there, by_part, by_type, IsRootOf, Needs, reading_of, value_item}
 use Rattle.const_marks.specs.Rules.{NodeReads, a_part, its_type, an_object, IsCyclic}
 use Rattle.const_marks.specs.Units.{Unit, tree_at, node_at}
 use Rattle.const_marks.specs.Visits.{visit_of, typing_visit, visits, roots, AreUsesMarked, CanVisit, CanVisitAll, AreMarked}
@@ -206,6 +206,17 @@ parts_ready u a visit node list are can here all =
     item_ready u a visit.reading visit.at
     (node_ready u a visit node (sym here) can.uses (subst (λ (l : List Visit). AreMarked a l (length l)) are all))
 
+-- the node of an item is there
+pub no_item : (u : Unit) (reading : Reading) (at : NodeRef) → IsItem u (item_of reading at) → None ≡ node_at u at → ⊥
+no_item u r.Written at (node, here) none = let e : None ≡ Some node = none ∙ here in cc
+no_item u (r.Copied spec) at (node, s, here, repeats, value) none = let e : None ≡ Some node = none ∙ here in cc
+
+-- what is judged before a node may be visited, and has a smaller number
+pub before_can : (u : Unit) (old a : Annotation) (visit : Visit) (node : Node) (list : List Visit) (i : ℕ) (v : Visit) → list ≡ visits u visit.reading visit.at node
+    → AreConstantFiles u.trees → Keeps old a → CanVisit u old visit → Some node ≡ node_at u visit.at → slice_get list i ≡ Some v → CanGo u a visit.at v
+before_can u old a visit node list i v are files keeps can here at =
+    child_can u a visit node files (can_still u old a visit keeps can) (sym here) i v (ap (λ (l : List Visit). slice_get l i) (sym are) ∙ at)
+
 -- ---- constants
 
 pub numbered : (u : Unit) (name : NodeRef) (c : Constant) → IsConstantOf u name c → (i : ℕ) × (slice_get (constants u.trees) i ≡ Some c)
@@ -279,3 +290,7 @@ object_ready u a name c is all j reads = by reads.read where
 -- a cyclic constant's rule reads nothing
 pub cyclic_ready : (u : Unit) (a : Annotation) (name : NodeRef) → IsCyclic u name → IsReady u a (m.Object name)
 cyclic_ready u a name cyclic j reads = absurd (reads.acyclic cyclic)
+
+-- a constant is there
+pub no_constant : (u : Unit) (name : NodeRef) → IsConstant u name → None ≡ constant_of u name → ⊥
+no_constant u name (c, is) none = let e : None ≡ Some c = none ∙ is in cc

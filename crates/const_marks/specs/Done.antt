@@ -1,5 +1,5 @@
 -- What is marked when.
-use Rattle.std.specs.Prelude.{◌≡◌, ℕ, ◌<◌, ◌⊎◌, ◌++◌, length, true, List, [], ◌∷◌, Option, Some, None, slice_get}
+use Rattle.std.specs.Prelude.{◌≡◌, ℕ, ◌<◌, length, true, Some, slice_get}
 use Rattle.object_order.specs.Spots.{place}
 use Rattle.typed_tree.specs.declared.annotation.Annotation.{Annotation}
 use Rattle.typed_tree.specs.declared.annotation.Marked.TheVariants as m
@@ -10,19 +10,6 @@ use Rattle.const_marks.specs.declared.reading.Visit.{Visit}
 use Rattle.const_marks.specs.Annotations.{IsMarked}
 use Rattle.const_marks.specs.Items.{nodes_at, item_of}
 use Rattle.const_marks.specs.Units.{Unit}
-
--- ---- nodes that wait to be judged, the next one last
-
-abbrev pub TakesLast : List Visit → List Visit → Option Visit → Type 0
-TakesLast old new None = old ≡ []
-TakesLast old new (Some v) = old ≡ new ++ v ∷ []
-
--- what waited waits still, in its place
-abbrev pub StillWait : List Visit → List Visit → Type 0
-StillWait old new = (i : ℕ) (v : Visit) → slice_get old i ≡ Some v → slice_get new i ≡ Some v
-
-abbrev pub IsMarkedOrWaits : Annotation → List Visit → Visit → Type 0
-IsMarkedOrWaits a waiting v = IsMarked a (item_of v.reading v.at) ⊎ ((i : ℕ) × (slice_get waiting i ≡ Some v))
 
 -- ---- nodes as they are written
 

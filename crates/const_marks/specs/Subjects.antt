@@ -1,5 +1,5 @@
 -- What is known of a unit when it has been read.
-use Rattle.std.specs.Prelude.{◌≡◌, ℕ, List}
+use Rattle.std.specs.Prelude.{◌≡◌, ◌<◌, ◌^◌, ℕ, List, length}
 use Rattle.export_data.specs.declared.constants.ConstInterface.{ConstInterface}
 use Rattle.go_tree.specs.Lexeme.{place_of}
 use Rattle.go_tree.specs.declared.bindings.Object.{Object}
@@ -32,6 +32,7 @@ shown s = package_unit (texts_of s.sources.now) s.trees.now s.uses.now s.environ
 
 pub record IsRead (s : Subject) : Type 0 where
   pub files : AreConstantFiles s.trees.now
+  pub few : length s.trees.now < 2 ^ 32
   pub environment : IsEnvironment s.environment.now
   pub objects : (at : NodeRef) → cell s.objects.items at ≡ object_at (shown s) at
   pub specs : (at : NodeRef) → cell s.specs.items at ≡ spec_of (shown s) at

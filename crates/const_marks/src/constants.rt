@@ -4,7 +4,7 @@ ghost use Rattle.go_tree.specs.declared.tree.NodeRef.{NodeRef};
 ghost use Rattle.typed_tree.specs.Basics.{HasBasics};
 ghost use Rattle.typed_tree.specs.declared.annotation.Marked.TheVariants.{Object};
 ghost use Rattle.const_marks.specs.Annotations.{meanings, AreSound, IsMarked, IsReady, Goes, IsOrder, AreCyclicMarked, AreObjectsMarked};
-ghost use Rattle.const_marks.specs.Items.{IsConstantOf, Needs};
+ghost use Rattle.const_marks.specs.Items.{IsConstant, IsConstantOf, Needs};
 ghost use Rattle.const_marks.specs.Judged.{IsJudged};
 ghost use Rattle.const_marks.specs.Rules.{IsCyclic};
 ghost use Rattle.const_marks.specs.Subjects.{shown, IsRead};
@@ -86,13 +86,14 @@ fn mark_constant(
     requires read { IsRead s.now }
     requires basics { HasBasics t.now }
     requires sound { AreSound (shown s.now) t.now marks.old }
+    requires constant { IsConstant (shown s.now) name }
     requires acyclic { ¬ IsCyclic (shown s.now) name }
     requires needs { (other : NodeRef) → Needs (shown s.now) name other → IsMarked marks.old (Object other) }
     ensures goes { OnOk result (Goes (shown s.now) t.now marks.old marks.new) }
     ensures marked { OnOk result (IsMarked marks.new (Object name)) }
 {
     let Some(c) = constant_of(s, name) else {
-        return Err(NoMemory);
+        unreachable!()
     };
     let list = roots(alloc, c)?;
     mark_all(alloc, s, t, &list, marks)?;
@@ -111,6 +112,7 @@ fn mark_if_cyclic(
     requires read { IsRead s.now }
     requires basics { HasBasics t.now }
     requires sound { AreSound (shown s.now) t.now marks.old }
+    requires constant { IsConstant (shown s.now) needed.object }
     requires cyclic { IsTrue needed.cyclic ↔ IsCyclic (shown s.now) needed.object }
     ensures goes { OnOk result (Goes (shown s.now) t.now marks.old marks.new) }
     ensures marked { OnOk result (needed.cyclic ≡ true → IsMarked marks.new (Object needed.object)) }
@@ -119,7 +121,7 @@ fn mark_if_cyclic(
         return Ok(());
     }
     let Some(c) = constant_of(s, needed.object) else {
-        return Err(NoMemory);
+        unreachable!()
     };
     mark_object(alloc, s, t, needed.object, c, true, marks)?;
     Ok(())
@@ -136,6 +138,7 @@ fn mark_unless_cyclic(
     requires read { IsRead s.now }
     requires basics { HasBasics t.now }
     requires sound { AreSound (shown s.now) t.now marks.old }
+    requires constant { IsConstant (shown s.now) needed.object }
     requires cyclic { IsTrue needed.cyclic ↔ IsCyclic (shown s.now) needed.object }
     requires needs { needed.cyclic ≡ false → (other : NodeRef) → Needs (shown s.now) needed.object other → IsMarked marks.old (Object other) }
     ensures goes { OnOk result (Goes (shown s.now) t.now marks.old marks.new) }

@@ -130,7 +130,7 @@ fn mark_file(
     Ok(())
 }
 
-/// Marks the copies in all files. More than 2^32 files are answered as want of memory.
+/// Marks the copies in all files.
 pub fn mark_copies(
     alloc: Global,
     s: &Subject,
@@ -144,11 +144,7 @@ pub fn mark_copies(
     ensures goes { OnOk result (Goes (shown s.now) t.now marks.old marks.new) }
     ensures marked { OnOk result (AreCopiesMarked (shown s.now) marks.new) }
 {
-    let end = s.trees.len();
-    if end > 4_294_967_295 {
-        return Err(NoMemory);
-    }
-    for file in 0..end {
+    for file in 0..s.trees.len() {
         mark_file(alloc, s, t, file as u32, marks)?;
     }
     Ok(())

@@ -1,6 +1,7 @@
 //! What the nodes of a package denote.
-ghost use Rattle.std.specs.Prelude.{◌≡◌, IfOk, length};
+ghost use Rattle.std.specs.Prelude.{◌≡◌, ◌≤◌, ◌^◌, IfOk, length};
 ghost use Rattle.object_order.specs.Spots.{place};
+ghost use Rattle.const_tree.specs.Form.{AreConstantFiles, IsConstantFile};
 ghost use Rattle.const_marks.specs.Units.{object_in};
 ghost use Rattle.const_marks.specs.Rows.{AreSingle, IsRow, AreRows, object_of};
 
@@ -20,14 +21,15 @@ fn row_of(
     alloc: Global,
     uses: &Bindings,
     file: u32,
-    end: u32,
+    end: usize,
 ) -> Result<Vec<Option<Object>>, NoMemory>
-    requires { AreSingle uses.now }
+    requires single { AreSingle uses.now }
+    requires few { end ≤ 2 ^ 32 }
     ensures { IfOk result (λ row. IsRow (λ n. object_in uses.now (place file n)) row.items end) }
 {
     let mut row = Vec::new(alloc);
     for node in 0..end {
-        row.push(object_of(uses, file, node))?;
+        row.push(object_of(uses, file, node as u32))?;
     }
     Ok(row)
 }
@@ -38,32 +40,27 @@ fn tree_row(
     file: u32,
     tree: &FileTree,
 ) -> Result<Vec<Option<Object>>, NoMemory>
-    requires { AreSingle uses.now }
+    requires single { AreSingle uses.now }
+    requires form { IsConstantFile tree.now }
     ensures { IfOk result (λ row. IsRow (object_of uses.now file tree.now) row.items (length tree.now.nodes)) }
 {
-    let end = tree.nodes.as_slice().len();
-    if end > 4_294_967_295 {
-        return Err(NoMemory);
-    }
-    let row = row_of(alloc, uses, file, end as u32)?;
+    let row = row_of(alloc, uses, file, tree.nodes.as_slice().len())?;
     Ok(row)
 }
 
-/// For each node of each file what it denotes. More than 2^32 files or nodes are answered as want of memory.
+/// For each node of each file what it denotes.
 pub fn object_rows(
     alloc: Global,
     uses: &Bindings,
     trees: &[FileTree],
 ) -> Result<Vec<Vec<Option<Object>>>, NoMemory>
-    requires { AreSingle uses.now }
+    requires single { AreSingle uses.now }
+    requires files { AreConstantFiles trees.now }
+    requires few { length trees.now ≤ 2 ^ 32 }
     ensures { IfOk result (λ rows. AreRows (object_of uses.now) trees.now rows.items (length trees.now)) }
 {
     let mut rows = Vec::new(alloc);
-    let end = trees.len();
-    if end > 4_294_967_295 {
-        return Err(NoMemory);
-    }
-    for file in 0..end {
+    for file in 0..trees.len() {
         rows.push(tree_row(alloc, uses, file as u32, &trees[file])?)?;
     }
     Ok(rows)

@@ -1,5 +1,5 @@
 //! How a package is read.
-ghost use Rattle.std.specs.Prelude.{◌≡◌, IfOk, map};
+ghost use Rattle.std.specs.Prelude.{◌≡◌, ◌<◌, ◌^◌, IfOk, length, map};
 ghost use Rattle.const_tree.specs.declared.constant.Constant.{Constant};
 ghost use Rattle.const_tree.specs.Form.{AreConstantFiles};
 ghost use Rattle.const_marks.specs.Environments.{IsEnvironment};
@@ -43,6 +43,7 @@ pub fn read<'a>(
     environment: &'a Environment<'a>,
 ) -> Result<Subject<'a>, NoMemory>
     requires files { AreConstantFiles trees.now }
+    requires few { length trees.now < 2 ^ 32 }
     requires single { AreSingle uses.now }
     requires environment { IsEnvironment environment.now }
     ensures read { IfOk result (λ s. IsRead s) }

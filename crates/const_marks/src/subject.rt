@@ -141,7 +141,7 @@ fn iota_by(spec: Option<Spec>) -> u64
     ensures { result ≡ iota_by spec }
 {
     match spec {
-        Some(spec) => spec.iota as u64,
+        Some(spec) => spec.iota,
         None => 0,
     }
 }

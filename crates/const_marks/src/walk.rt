@@ -1,10 +1,9 @@
 //! The walk over nodes: before a node the type that is wanted of it, and its parts.
-ghost use Rattle.std.specs.Prelude.{◌≡◌, ◌++◌, IfOk, OnOk, Some, None, length, true, false};
+ghost use Rattle.std.specs.Prelude.{◌≡◌, ◌↔◌, IfOk, IsTrue, OnOk, Some, None, length, false};
 ghost use Rattle.typed_tree.specs.Annotations.{mark_of};
 ghost use Rattle.typed_tree.specs.Basics.{HasBasics};
 ghost use Rattle.typed_tree.specs.Meanings.{Means};
 ghost use Rattle.const_marks.specs.Annotations.{meanings, AreSound, IsMarked, IsReady, Goes};
-ghost use Rattle.const_marks.specs.Done.{TakesLast, StillWait, IsMarkedOrWaits};
 ghost use Rattle.const_marks.specs.Items.{item_of, IsItem};
 ghost use Rattle.const_marks.specs.Rules.{node_mark};
 ghost use Rattle.const_marks.specs.Subjects.{shown, IsRead};
@@ -24,7 +23,7 @@ use typed_tree::{Annotation, Mark, Marked};
 
 /// Whether an item is marked.
 pub fn is_marked(marks: &Annotation, item: Marked) -> bool
-    ensures marked { result ≡ true → IsMarked marks.now item }
+    ensures marked { IsTrue result ↔ IsMarked marks.now item }
     ensures unmarked { result ≡ false → mark_of marks.now item ≡ None }
 {
     marks.mark(item).is_some()
@@ -82,73 +81,15 @@ fn mark_node(
     Ok(())
 }
 
+/// Whether a node has its mark.
 fn is_done(marks: &Annotation, visit: Visit) -> bool
-    ensures { result ≡ true → IsMarked marks.now (item_of visit.reading visit.at) }
+    ensures { IsTrue result ↔ IsMarked marks.now (item_of visit.reading visit.at) }
 {
     is_marked(marks, item_of(visit.reading, visit.at))
 }
 
-/// Whether all of a list is marked.
-fn are_done(marks: &Annotation, list: &[Visit]) -> bool
-    ensures { result ≡ true → AreMarked marks.now list.now (length list.now) }
-{
-    for i in 0..list.len() {
-        if !is_done(marks, list[i]) {
-            return false;
-        }
-    }
-    true
-}
-
-fn take_last(waiting: &mut Vec<Visit>) -> Option<Visit>
-    ensures { TakesLast waiting.old.items waiting.new.items result }
-{
-    waiting.pop()
-}
-
-fn add_all(list: &[Visit], waiting: &mut Vec<Visit>) -> Result<(), NoMemory>
-    ensures { OnOk result (waiting.new.items ≡ waiting.old.items ++ list.now) }
-{
-    for visit in list {
-        waiting.push(*visit)?;
-    }
-    Ok(())
-}
-
-/// Marks a node if all that is judged before it is marked. If not, that waits to be judged, and then the node again.
-fn mark_next(
-    alloc: Global,
-    s: &Subject,
-    t: &TypeTable,
-    next: Visit,
-    waiting: &mut Vec<Visit>,
-    marks: &mut Annotation,
-) -> Result<(), NoMemory>
-    requires read { IsRead s.now }
-    requires basics { HasBasics t.now }
-    requires sound { AreSound (shown s.now) t.now marks.old }
-    requires next { CanVisit (shown s.now) marks.old next }
-    requires can { CanVisitAll (shown s.now) marks.old waiting.old.items }
-    ensures goes { OnOk result (Goes (shown s.now) t.now marks.old marks.new) }
-    ensures can { OnOk result (CanVisitAll (shown s.now) marks.new waiting.new.items) }
-    ensures still { OnOk result (StillWait waiting.old.items waiting.new.items) }
-    ensures left { OnOk result (IsMarkedOrWaits marks.new waiting.new.items next) }
-{
-    let Some(node) = node_at(s, next.at) else {
-        return Err(NoMemory);
-    };
-    let list = visits(alloc, s, next.reading, next.at, node)?;
-    if are_done(marks, &list) {
-        mark_node(alloc, s, t, next, node, marks)?;
-        return Ok(());
-    }
-    waiting.push(next)?;
-    add_all(&list, waiting)?;
-    Ok(())
-}
-
-/// Marks a node, unless it is marked, once what it rests on is marked. The nodes that wait for others are kept in a list,
-/// so that a deep tree needs no deep stack; no call takes 2^64 steps.
+/// Marks a node, unless it is marked, once what is judged before it is: the type that is wanted of it and its parts.
+/// Their numbers are less than its own, which is the measure; so it recurs by the nesting of a tree alone.
 pub fn mark_under(
     alloc: Global,
     s: &Subject,
@@ -166,15 +107,16 @@ pub fn mark_under(
     if is_done(marks, visit) {
         return Ok(());
     }
-    let mut waiting = Vec::new(alloc);
-    waiting.push(visit)?;
-    for _step in 0..u64::MAX {
-        let Some(next) = take_last(&mut waiting) else {
-            return Ok(());
-        };
-        mark_next(alloc, s, t, next, &mut waiting, marks)?;
+    let Some(node) = node_at(s, visit.at) else {
+        unreachable!()
+    };
+    let before = visits(alloc, s, visit.reading, visit.at, node)?;
+    let earlier = before.as_slice();
+    for i in 0..earlier.len() {
+        mark_under(alloc, s, t, earlier[i], marks)?;
     }
-    Err(NoMemory)
+    mark_node(alloc, s, t, visit, node, marks)?;
+    Ok(())
 }
 
 /// Marks all of a list.

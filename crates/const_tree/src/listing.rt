@@ -1,5 +1,5 @@
 //! The constants that a package's files declare.
-ghost use Rattle.std.specs.Prelude.{◌≡◌, ◌+◌, ◌++◌, length, slice_get, option_and_then, IfOk, OnOk};
+ghost use Rattle.std.specs.Prelude.{◌≡◌, ◌≤◌, ◌^◌, ◌+◌, ◌++◌, length, slice_get, option_and_then, IfOk, OnOk};
 ghost use Rattle.std.specs.Option.{option_copied};
 ghost use Rattle.package_objects.specs.Declares.{gather, part};
 ghost use Rattle.const_tree.specs.Constants.{is_bare, is_repeated, typing_of, values_of, names_of, constant_at, constant_for, nth_constant, constants_of, constants_at, constants_in, constants_by, constants};
@@ -145,16 +145,13 @@ fn add_tree(
     Ok(())
 }
 
-/// The constants of a package's files, in order of file and place. More than 2^32 files are answered as want of memory.
+/// The constants of a package's files, in order of file and place.
 pub fn constants(alloc: Global, trees: &[FileTree]) -> Result<Vec<Constant>, NoMemory>
+    requires { length trees.now ≤ 2 ^ 32 }
     ensures { IfOk result (λ list. list.items ≡ constants trees.now) }
 {
     let mut out = Vec::new(alloc);
-    let end = trees.len();
-    if end > 4_294_967_295 {
-        return Err(NoMemory);
-    }
-    for file in 0..end {
+    for file in 0..trees.len() {
         add_tree(alloc, trees, file as u32, &mut out)?;
     }
     Ok(out)

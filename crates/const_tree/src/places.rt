@@ -6,10 +6,11 @@ ghost use Rattle.const_tree.specs.Places.{of_option, of_value, values_wanted, Pu
 
 use crate::operators::binary_operator;
 use crate::place::Place;
+use crate::specs::nth_node;
 use const_eval::Operator;
 use go_tree::{FileTree, Node, NodeKind};
 use gv_base::NoMemory;
-use package_objects::{count, item, node_of, part_of};
+use package_objects::{count, item, part_of};
 use std::alloc::Global;
 use typed_tree::Want;
 
@@ -117,10 +118,10 @@ fn add_of(tree: &FileTree, node: &Node, out: &mut Vec<Place>) -> Result<(), NoMe
     }
 }
 
-fn add_at(tree: &FileTree, n: u32, out: &mut Vec<Place>) -> Result<(), NoMemory>
+fn add_at(tree: &FileTree, n: usize, out: &mut Vec<Place>) -> Result<(), NoMemory>
     ensures { OnOk result (out.new.items ≡ out.old.items ++ places_at tree.now n) }
 {
-    if let Some(node) = node_of(tree.nodes.as_slice(), n) {
+    if let Some(node) = nth_node(tree.nodes.as_slice(), n) {
         add_of(tree, node, out)?;
     }
     Ok(())
@@ -131,12 +132,8 @@ fn places_in(alloc: Global, tree: &FileTree) -> Result<Vec<Place>, NoMemory>
     ensures { IfOk result (λ list. list.items ≡ places_in tree.now) }
 {
     let mut out = Vec::new(alloc);
-    let end = tree.nodes.as_slice().len();
-    if end > 4_294_967_295 {
-        return Err(NoMemory);
-    }
-    for n in 0..end {
-        add_at(tree, n as u32, &mut out)?;
+    for n in 0..tree.nodes.as_slice().len() {
+        add_at(tree, n, &mut out)?;
     }
     Ok(out)
 }

@@ -1,12 +1,13 @@
 //! The specifications of a file's constant declarations.
 ghost use Rattle.std.specs.Prelude.{◌≡◌, ◌+◌, ◌++◌, ◌≤◌, ◌<◌, ℕ, length, slice_get, slice_index_or, None, IfOk, OnOk};
+ghost use Rattle.std.specs.Option.{option_copied};
 ghost use Rattle.package_objects.specs.Declares.{gather, source_after};
 ghost use Rattle.const_tree.specs.Constants.{is_declaration, spec_for, nth_spec, specs_of, specs_at, specs_in, first_from, AreBefore};
 
 use crate::constant::Spec;
 use go_tree::{Node, NodeKind};
 use gv_base::NoMemory;
-use package_objects::{next_source, node_of, part_count, part_of};
+use package_objects::{next_source, part_count, part_of};
 use std::alloc::Global;
 
 fn is_declaration(kind: NodeKind) -> bool
@@ -22,7 +23,7 @@ fn is_declaration(kind: NodeKind) -> bool
 /// Adds the specification of a node, its number in its declaration, and whose list counts for it.
 fn add_spec(
     part: Option<u32>,
-    iota: u32,
+    iota: u64,
     source: Option<u32>,
     out: &mut Vec<Spec>,
 ) -> Result<(), NoMemory>
@@ -39,14 +40,10 @@ fn add_specs(nodes: &[Node], node: &Node, out: &mut Vec<Spec>) -> Result<(), NoM
     ensures { OnOk result (out.new.items ≡ out.old.items ++ gather (nth_spec nodes.now node.now) (length node.now.parts)) }
 {
     let mut source = None;
-    let end = part_count(node);
-    if end > 4_294_967_295 {
-        return Err(NoMemory);
-    }
-    for i in 0..end {
+    for i in 0..part_count(node) {
         let part = part_of(node, i);
         source = next_source(nodes, source, part);
-        add_spec(part, i as u32, source, out)?;
+        add_spec(part, i as u64, source, out)?;
     }
     Ok(())
 }
@@ -60,10 +57,17 @@ fn add_of(nodes: &[Node], node: &Node, out: &mut Vec<Spec>) -> Result<(), NoMemo
     Ok(())
 }
 
-fn add_at(nodes: &[Node], n: u32, out: &mut Vec<Spec>) -> Result<(), NoMemory>
+/// The node of a number.
+pub(crate) fn nth_node(nodes: &[Node], n: usize) -> Option<&Node>
+    ensures { option_copied result ≡ slice_get nodes.now n }
+{
+    nodes.get(n)
+}
+
+fn add_at(nodes: &[Node], n: usize, out: &mut Vec<Spec>) -> Result<(), NoMemory>
     ensures { OnOk result (out.new.items ≡ out.old.items ++ specs_at nodes.now n) }
 {
-    if let Some(node) = node_of(nodes, n) {
+    if let Some(node) = nth_node(nodes, n) {
         add_of(nodes, node, out)?;
     }
     Ok(())
@@ -74,12 +78,8 @@ pub fn specs_in(alloc: Global, nodes: &[Node]) -> Result<Vec<Spec>, NoMemory>
     ensures { IfOk result (λ specs. specs.items ≡ specs_in nodes.now) }
 {
     let mut out = Vec::new(alloc);
-    let end = nodes.len();
-    if end > 4_294_967_295 {
-        return Err(NoMemory);
-    }
-    for n in 0..end {
-        add_at(nodes, n as u32, &mut out)?;
+    for n in 0..nodes.len() {
+        add_at(nodes, n, &mut out)?;
     }
     Ok(out)
 }

@@ -62,7 +62,7 @@ fn add_method(view: &View, method: Method, groups: &mut Vec<Vec<NodeRef>>) -> Re
             push_at(groups, n as usize, method.name)?;
             Ok(())
         }
-        None => Err(NoMemory),
+        None => unreachable!(),
     }
 }
 

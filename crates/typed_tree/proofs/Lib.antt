@@ -1,3 +1,4 @@
 pub mod AnnotationLaws
 pub mod UniverseLaws
+pub mod AssignedLaws
 mod SpecificationFacts

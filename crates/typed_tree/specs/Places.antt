@@ -47,7 +47,8 @@ is_builtin _ = false
 
 -- ---- a constant and its declared type
 
--- E32: the types are identical, or an untyped constant is representable in the type
+-- E32: the types are identical, or an untyped constant is representable in the type. That this is assignability is the law
+-- `taken_is_assignable` (module Assigned).
 abbrev pub is_taken_as : Kind → Option Const → Kind → Bool
 is_taken_as kind (Some c) to = if is_untyped kind then fits_in c to else same_kind kind to
 is_taken_as kind None to = false

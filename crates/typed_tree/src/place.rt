@@ -182,7 +182,8 @@ fn is_taken_by(t: &TypeTable, facts: &Facts, to: TypeId) -> bool
     }
 }
 
-/// The value is taken where one of this type is declared; any is, where no type is.
+/// The value is taken where one of this type is declared; any is, where no type is. What is taken may be assigned, and nothing else
+/// may (`taken_is_assignable`).
 fn is_taken(t: &TypeTable, facts: &Facts, to: Option<TypeId>) -> bool
     requires table { IsTable t.now }
     requires within { facts.now.of.0 < count t.now }

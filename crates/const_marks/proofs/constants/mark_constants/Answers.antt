@@ -17,6 +17,11 @@ mark_unless_cyclic-requires-clause-needs c = λ unset.
     needs_done (shown c.args.s.now) c.loop-k.marks c.args.order.now c.loop-k.k e c.requires.order at
     (entry_acyclic (shown c.args.s.now) c.args.order.now c.loop-k.k e c.requires.order at unset) c.loop-k.invariant.done
 
+pub mark_unless_cyclic-requires-clause-constant : goal.mark_unless_cyclic-requires-clause-constant
+mark_unless_cyclic-requires-clause-constant c =
+    let d : Needed = record { object = record { file = 0; node = 0 }; cyclic = false } in
+    c.requires.order.only c.loop-k.k (slice_index_or c.args.order.now c.loop-k.k d) (slice_get-get_or c.args.order.now c.loop-k.k d c.loop-k-test.true)
+
 pub loop-k-preserved : goal.loop-k-preserved
 loop-k-preserved c =
     let d : Needed = record { object = record { file = 0; node = 0 }; cyclic = false } in

@@ -14,6 +14,11 @@ mark_if_cyclic-requires-clause-cyclic c =
     let d : Needed = record { object = record { file = 0; node = 0 }; cyclic = false } in
     c.requires.order.cyclic c.loop-k.k (slice_index_or c.args.order.now c.loop-k.k d) (slice_get-get_or c.args.order.now c.loop-k.k d c.loop-k-test.true)
 
+pub mark_if_cyclic-requires-clause-constant : goal.mark_if_cyclic-requires-clause-constant
+mark_if_cyclic-requires-clause-constant c =
+    let d : Needed = record { object = record { file = 0; node = 0 }; cyclic = false } in
+    c.requires.order.only c.loop-k.k (slice_index_or c.args.order.now c.loop-k.k d) (slice_get-get_or c.args.order.now c.loop-k.k d c.loop-k-test.true)
+
 pub loop-k-preserved : goal.loop-k-preserved
 loop-k-preserved c =
     let d : Needed = record { object = record { file = 0; node = 0 }; cyclic = false } in

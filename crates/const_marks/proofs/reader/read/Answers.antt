@@ -13,6 +13,7 @@ returns-clause-read c =
     let u = package_unit (texts_of c.args.sources.now) c.args.trees.now c.args.uses.now c.args.environment.now.interfaces.now in
     record {
       files = c.requires.files;
+      few = c.requires.few;
       environment = c.requires.environment;
       objects = objects_read u c.in_ok-objects.objects.items c.in_ok-objects.ensures;
       specs = specs_read u c.in_ok-specs.specs.items c.in_ok-specs.ensures;
