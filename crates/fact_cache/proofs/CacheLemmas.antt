@@ -31,12 +31,12 @@ in-texts r m l = subst (λ k. 0 < k) (sym (times-push m r.texts r.outcome)) (bef
 in-outcome : (r : Numbered) → 0 < times r.outcome (numbers_of r)
 in-outcome r = subst (λ k. 0 < k) (sym (times-push r.outcome r.texts r.outcome)) (after (times r.outcome r.texts) (one_at r.outcome r.outcome) (subst (λ k. 0 < k) (sym (one-here r.outcome)) (omega arith)))
 
-row-agree : (old new : List Place) (r : Numbered) → ((m : ℕ) → 0 < times m (numbers_of r) → text_at new m ≡ text_at old m) → entry_in new r ≡ entry_in old r
+pub row-agree : (old new : List Place) (r : Numbered) → ((m : ℕ) → 0 < times m (numbers_of r) → text_at new m ≡ text_at old m) → entry_in new r ≡ entry_in old r
 row-agree old new r same =
     ap (λ (l : List Text). record { input = record { node = r.node; texts = l }; outcome = text_at new r.outcome }) (map-agree (text_at new) (text_at old) r.texts (λ m l. same m (in-texts r m l)))
     ∙ ap (λ (o : Text). record { input = input_in old r; outcome = o }) (same r.outcome (in-outcome r))
 
-rows-agree : (old new : List Place) (rows : List Numbered) → ((m : ℕ) → 0 < times m (flat_map numbers_of rows) → text_at new m ≡ text_at old m)
+pub rows-agree : (old new : List Place) (rows : List Numbered) → ((m : ℕ) → 0 < times m (flat_map numbers_of rows) → text_at new m ≡ text_at old m)
     → map (entry_in new) rows ≡ map (entry_in old) rows
 rows-agree old new [] same = refl
 rows-agree old new (r ∷ rs) same =
@@ -63,7 +63,7 @@ some-of : (u a b : ℕ) → u ≡ a + b → 0 < a → 0 < u
 some-of u a b e l = omega (arith, e, l)
 
 -- what a row mentions is kept
-live : (key : Key) (extra : List ℕ) (kept : List Place) (index : List ℕ) (rows : List Numbered) → IsCache key extra kept index rows → (m : ℕ) → 0 < times m (flat_map numbers_of rows) → 0 < uses_at kept m
+pub live : (key : Key) (extra : List ℕ) (kept : List Place) (index : List ℕ) (rows : List Numbered) → IsCache key extra kept index rows → (m : ℕ) → 0 < times m (flat_map numbers_of rows) → 0 < uses_at kept m
 live key extra kept index rows is m l = some-of (uses_at kept m) (times m (flat_map numbers_of rows)) (times m extra) (is.uses m) l
 
 -- over the same view
@@ -146,7 +146,7 @@ cache-drop key extra old new index less (x ∷ xs) fewer r is g freed less_is fe
 abbrev pub IsPassed : List Place → List Numbered → Input → ℕ → Type 0
 IsPassed kept rows input k = (r : Numbered) → slice_get rows k ≡ Some r → same_input (input_in kept r) input ≡ false
 
-row-there : (key : Key) (extra : List ℕ) (kept : List Place) (index : List ℕ) (rows : List Numbered) (b : ℕ) (P : ℕ → Type 0) (at : ℕ) (row : Numbered) → IsCache key extra kept index rows → IsWalk index b P at → 0 < at
+pub row-there : (key : Key) (extra : List ℕ) (kept : List Place) (index : List ℕ) (rows : List Numbered) (b : ℕ) (P : ℕ → Type 0) (at : ℕ) (row : Numbered) → IsCache key extra kept index rows → IsWalk index b P at → 0 < at
     → row ≡ get_or rows (at - 1) row → slice_get rows (at - 1) ≡ Some row
 row-there key extra kept index rows b P at row is walk risen row_is =
     let count : length index ≡ length rows = ap length is.keyed ∙ (length-mapped (entry_bucket key) (map (entry_in kept) rows) ∙ length-mapped (entry_in kept) rows) in

@@ -85,7 +85,7 @@ freed-more-numbers old mid new ns n are is = record {
     above : (a b c : ℕ) → a ≡ b + c → 0 < c → 0 < a
     above a b c x l = omega (arith, x, l)
 
-take-push : {X : Type 0} (xs : List X) (i : ℕ) (x : X) → slice_get xs i ≡ Some x → take (i + 1) xs ≡ take i xs ++ x ∷ []
+pub take-push : {X : Type 0} (xs : List X) (i : ℕ) (x : X) → slice_get xs i ≡ Some x → take (i + 1) xs ≡ take i xs ++ x ∷ []
 take-push [] i x g = cc
 take-push (y ∷ ys) zero x g = ap (λ z. z ∷ []) (same_Some y x g)
 take-push (y ∷ ys) (suc i) x g = ap (λ k. take k (y ∷ ys)) (suc_is i) ∙ ap (λ l. y ∷ l) (take-push ys i x g)

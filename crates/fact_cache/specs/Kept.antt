@@ -39,6 +39,10 @@ is_text_at places n mix text = nat_lt 0 (uses_at places n) && ((mix_at places n 
 abbrev pub IsAbsent : List Place → Text → Type 0
 IsAbsent places text = (n : ℕ) → 0 < uses_at places n → text_at places n ≡ text → ⊥
 
+-- one is
+abbrev pub IsThere : List Place → Text → Type 0
+IsThere places text = (n : ℕ) × (used : 0 < uses_at places n) × (text_at places n ≡ text)
+
 -- the bytes that a text of so many uses takes
 abbrev pub weight : ℕ → Text → ℕ
 weight uses text = if uses == 0 then 0 else length text

@@ -4,8 +4,9 @@
 ghost use Rattle.std.specs.Prelude.{◌≡◌, ◌<◌, ◌+◌, ◌-◌, ◌^◌, ◌++◌, ◌∷◌, [], ℕ, Some, IfSome, IfNone, IfOk, OnOk, OnErr, length, slice_get, slice_set};
 ghost use Rattle.fact_cache.specs.declared.kept.Place.{Place};
 ghost use Rattle.fact_cache.specs.declared.spread.Key.{Key as Spread};
+ghost use Rattle.std.specs.Str.{bytes_eq};
 ghost use Rattle.fact_cache.specs.Spread.{text_mix, head_of};
-ghost use Rattle.fact_cache.specs.Kept.{uses_at, text_at, mix_at, is_text_at, IsMixOf, AreMixed, IsAbsent, AreFound, IsChanged, IsHeld, IsFreed, kept_bytes};
+ghost use Rattle.fact_cache.specs.Kept.{uses_at, text_at, mix_at, is_text_at, IsMixOf, AreMixed, IsAbsent, IsThere, AreFound, IsChanged, IsHeld, IsFreed, kept_bytes};
 
 use crate::index::Index;
 use crate::spread::{Key, head, text_number};
@@ -234,11 +235,29 @@ impl Kept {
         self.total
     }
 
+    /// How many places there are, with and without uses.
+    pub(crate) fn size(&self) -> usize
+        ensures value { result ≡ length self.now }
+        ensures distinct { (m : ℕ) → (n : ℕ) → 0 < uses_at self.now m → 0 < uses_at self.now n → text_at self.now m ≡ text_at self.now n → m ≡ n }
+    {
+        height(&self.places)
+    }
+
     /// The number of a place's text in the mixes.
     pub(crate) fn mix(&self, n: usize) -> u64
         ensures { result ≡ mix_at self.now n }
     {
         mix(&self.places, n)
+    }
+
+    /// Whether two numbers of kept texts have the same text: no two places have.
+    pub(crate) fn is_same(&self, m: usize, n: usize) -> bool
+        requires first { 0 < uses_at self.now m }
+        requires second { 0 < uses_at self.now n }
+        ensures { result ≡ bytes_eq (text_at self.now m) (text_at self.now n) }
+    {
+        let _total = self.total;
+        m == n
     }
 
     fn hold_new(&mut self, number: u64, bytes: &[u8]) -> Result<usize, NoMemory>
@@ -285,6 +304,23 @@ impl Kept {
             Some(n) => {
                 self.hold_again(n)?;
                 Ok(n)
+            }
+        }
+    }
+
+    /// Keeps a text that isn't kept yet, and answers its place; `None` where it is kept.
+    pub(crate) fn hold_fresh(&mut self, key: Key, bytes: &[u8]) -> Result<Option<usize>, NoMemory>
+        requires { AreMixed key self.old }
+        ensures fresh { IfOk result (λ place. IfSome place (λ n. IsHeld self.old self.new bytes.now n × IsAbsent self.old bytes.now)) }
+        ensures there { IfOk result (λ place. IfNone place (IsThere self.old bytes.now)) }
+        ensures mixed { AreMixed key self.new }
+    {
+        let number = text_number(key, bytes);
+        match seek(&self.index, &self.places, number, bytes) {
+            Some(_n) => Ok(None),
+            None => {
+                let n = self.hold_new(number, bytes)?;
+                Ok(Some(n))
             }
         }
     }
