@@ -1,0 +1,10 @@
+use Rattle.fact_cache.specs.Indexes.{IsWalk}
+use Rattle.fact_cache.specs.Spread.{bucket_of}
+use Rattle.fact_cache.proofs.CacheLemmas.{IsPassed}
+use Rattle.fact_cache.proofs.list.seek.Given as goal
+
+abbrev pub invariant-loop-at : goal.invariant-loop-at
+invariant-loop-at l = IsWalk l.index (bucket_of l.fn.key l.input) (IsPassed l.kept l.rows.items l.input) l.at
+
+abbrev pub decreases-loop-at : goal.decreases-loop-at
+decreases-loop-at l = l.at
