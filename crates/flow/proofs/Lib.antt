@@ -1,0 +1,5 @@
+mod AroundLemmas
+mod RowLemmas
+mod SearchLemmas
+mod GraphLemmas
+mod LawLemmas

@@ -1,0 +1,5 @@
+pub mod Kinds
+pub mod Edges
+pub mod Around
+pub mod Flow
+pub mod Search
