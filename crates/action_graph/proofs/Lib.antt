@@ -1,7 +1,7 @@
 pub mod Lines
 pub mod OneList
 pub mod OneFinding
-mod Standing
+pub mod Standing
 pub mod JudgingLaws
 pub mod NodeLemmas
 mod ReadyLemmas

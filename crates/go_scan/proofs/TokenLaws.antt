@@ -28,7 +28,7 @@ due_if : (text : List ℕ) (b : Bool) (at : ℕ) → at ≤ length text → DueI
 due_if text true at le = le
 due_if text false at le = tt
 
-mark_within : (text : List ℕ) → front_mark text ≤ length text
+pub mark_within : (text : List ℕ) → front_mark text ≤ length text
 mark_within [] = omega arith
 mark_within (a ∷ []) = go (nat_eq 239 a)
   where

@@ -6,6 +6,6 @@ mod StepLaws
 mod OrderLaws
 mod KeepLaws
 mod ReportLaws
-mod RunLaws
+pub mod RunLaws
 pub mod OnceLaws
 mod PerformLaws

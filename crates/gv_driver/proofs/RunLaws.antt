@@ -1,5 +1,5 @@
 -- The plan of a tree, and what a run leaves.
-use Rattle.std.proofs.Common.{◌≡◌, ℕ, ◌≤◌, ◌+◌, Bool, true, false, if◌then◌else◌, Option, Some, None, List, [], ◌∷◌, length, slice_get, replicate, refl, sym, ap, ◌∙◌, subst, arith, suc}
+use Rattle.std.proofs.Common.{◌≡◌, ℕ, ◌≤◌, ◌+◌, Bool, true, false, if◌then◌else◌, Option, Some, None, List, [], ◌∷◌, length, slice_get, replicate, refl, sym, ap, ◌∙◌, subst, arith, suc, map}
 use Rattle.std.specs.Prelude.{sum_by}
 use Rattle.std.specs.Option.{option_map}
 use Rattle.std.proofs.lemmas.Option.{same_Some}
@@ -10,7 +10,7 @@ use Rattle.gv_driver.specs.declared.tree.PackageTexts.{PackageTexts}
 use Rattle.gv_driver.specs.declared.node.Node.{Node}
 use Rattle.gv_driver.specs.declared.reply.Reply.{Reply}
 use Rattle.gv_driver.specs.Loads.{IsInput, IsPlan}
-use Rattle.gv_driver.specs.Caches.{IsHonest, IsPartKept, missing_of, is_cached}
+use Rattle.gv_driver.specs.Caches.{IsHonest, IsPartKept, missing_of, is_cached, input_of}
 use Rattle.gv_driver.specs.Tables.{AreRight, IsReady, key_in, keys_in, executed, waiting, done_in, fresh_in}
 use Rattle.gv_driver.specs.Reports.{AreShown}
 use Rattle.gv_driver.specs.Runs.{Goes, Keeping, Ran, IsCutOff}
@@ -130,6 +130,20 @@ ran-right tree before after first table count now reply honest start goes none k
           let f : now + executed before first ≡ count + executed before table = goes.counts in
           omega (arith, e, f, loads, fresh);
     }
+
+-- A run that came to its end did no more than one that is cut off may do.
+pub ran-cut : (tree : List PackageTexts) (b c : List Entry) (n m : ℕ) (r : Reply) → Ran tree b c n m r → IsCutOff tree b c n m
+ran-cut tree b c n m r is = record {
+  loads = λ inputs plan.
+      let same : is.inputs ≡ inputs = unique-plan tree is.inputs inputs is.plan plan in
+      let long : length (missing_of b is.inputs) ≡ length (missing_of b inputs) = ap (λ (i : List (Option Input)). length (missing_of b i)) same in
+      let loads : r.counts.loads ≡ length (missing_of b is.inputs) = is.loads in
+      let risen : m ≡ n + r.counts.loads = is.risen in
+      omega (arith, long, loads, risen);
+  cache = λ inputs plan.
+      subst (λ (i : List (Option Input)). IsPartKept b c i) (unique-plan tree is.inputs inputs is.plan plan)
+      (record { added = is.cache.added; more = []; is = is.cache.is; part = append-none (map input_of is.cache.added) ∙ is.cache.whole; right = is.cache.right });
+}
 
 -- the same run, counted over several kits
 pub ran-over : (tree : List PackageTexts) (b c : List Entry) (n m over later : ℕ) (r : Reply) → Ran tree b c n m r → later + n ≡ over + m → Ran tree b c over later r

@@ -4,6 +4,7 @@ use Rattle.std.specs.List.{Contains}
 use Rattle.export_data.specs.declared.constants.ConstInterface.{ConstInterface}
 use Rattle.action_graph.specs.declared.marks.MarkLine.{MarkLine}
 use Rattle.action_graph.specs.Marks.{AreSpelled}
+use Rattle.action_graph.specs.Nodes.{Named}
 use Rattle.action_graph.specs.Judging.Judged.{Accepts, Refuses}
 use Rattle.gv_driver.specs.declared.tree.PackageTexts.{PackageTexts}
 use Rattle.gv_driver.specs.declared.node.Answer.{Answer}
@@ -11,6 +12,7 @@ use Rattle.gv_driver.specs.declared.node.Answer.TheVariants as answer
 use Rattle.gv_driver.specs.declared.node.Node.{Node}
 use Rattle.gv_driver.specs.declared.reply.Verdict.{Verdict}
 use Rattle.gv_driver.specs.declared.reply.Verdict.TheVariants as verdict
+use Rattle.gv_driver.specs.Standing.{AllStand}
 use Rattle.gv_driver.specs.Whole.{Checked}
 
 -- the verdict of a package
@@ -26,18 +28,19 @@ pub record IsReport (tree : List PackageTexts) (verdicts : List Verdict) : Type 
   pub size : length verdicts ≡ length tree
   pub each : (p : ℕ) (v : Verdict) → slice_get verdicts p ≡ Some v → HasVerdict tree p v
 
--- what an answer shows: where its marks are spelled, these
-abbrev pub IsAnswerShown : Answer → Verdict → Type 0
-IsAnswerShown (answer.Accepted export) v = v ≡ verdict.Accepted
-IsAnswerShown (answer.Refused text) v = (list : List MarkLine) × (v ≡ verdict.Refused list) × ((marks : List MarkLine) → AreSpelled marks text → list ≡ marks)
+-- what an answer shows of these files: marks that stand in them, and where such are spelled, these
+abbrev pub IsAnswerShown : List Named → Answer → Verdict → Type 0
+IsAnswerShown files (answer.Accepted export) v = v ≡ verdict.Accepted
+IsAnswerShown files (answer.Refused text) v = (list : List MarkLine) × (v ≡ verdict.Refused list) × AllStand files list
+    × ((marks : List MarkLine) → AreSpelled marks text → AllStand files marks → list ≡ marks)
 
-abbrev pub IsShown : Bool → Option Node → Verdict → Type 0
-IsShown false known v = v ≡ verdict.Faulty
-IsShown true None v = v ≡ verdict.Blocked
-IsShown true (Some n) v = IsAnswerShown n.answer v
+abbrev pub IsShown : List Named → Bool → Option Node → Verdict → Type 0
+IsShown files false known v = v ≡ verdict.Faulty
+IsShown files true None v = v ≡ verdict.Blocked
+IsShown files true (Some n) v = IsAnswerShown files n.answer v
 
 -- each of the verdicts shows what the table has
 pub record AreShown (tree : List PackageTexts) (table : List (Option Node)) (verdicts : List Verdict) (end : ℕ) : Type 0 where
   pub size : length verdicts ≡ end
   pub each : (p : ℕ) (pack : PackageTexts) (node : Option Node) (v : Verdict) → slice_get tree p ≡ Some pack → slice_get table p ≡ Some node → slice_get verdicts p ≡ Some v
-      → IsShown pack.sound node v
+      → IsShown pack.files pack.sound node v

@@ -3,6 +3,7 @@ ghost use Rattle.std.specs.Prelude.{◌≡◌, ◌<◌, ◌≤◌, ◌+◌, ◌^
 ghost use Rattle.gv_driver.specs.Trees.{IsTree};
 ghost use Rattle.gv_driver.specs.Caches.{IsHonest};
 ghost use Rattle.gv_driver.specs.Runs.{IsCutOff, Ran};
+ghost use Rattle.gv_driver.specs.Standing.{AreVerdictsIn};
 
 use crate::counts::counts;
 use crate::keep::keep;
@@ -38,6 +39,7 @@ fn run_with<K: Kit>(
     requires room { K.loads kit.old ≤ 2 ^ 62 }
     ensures bound { K.loads kit.new ≤ K.loads kit.old + length tree.now }
     ensures runs { K.runs kit.new ≡ K.runs kit.old }
+    ensures stand { IfOk result (λ reply. AreVerdictsIn tree.now reply.verdicts) }
     ensures ran { IsHonest cache.old → IfOk result (λ reply. Ran tree.now cache.old cache.new (K.loads kit.old) (K.loads kit.new) reply) }
     ensures cut_off { IsHonest cache.old → OnErr result (IsCutOff tree.now cache.old cache.new (K.loads kit.old) (K.loads kit.new)) }
     ensures honest { IsHonest cache.old → IsHonest cache.new }
@@ -54,7 +56,8 @@ fn run_with<K: Kit>(
 }
 
 /// Judges a tree with the first of the kits, and with what the cache has; what was executed is kept. It returns
-/// over any cache, after at most as many loads as there are packages. Where the cache is honest, the verdicts are
+/// over any cache, after at most as many loads as there are packages, with a verdict for each package whose marks
+/// stand in the package's files. Where the cache is honest, the verdicts are
 /// those of the sources, exactly the missing loads are executed, and their entries stand behind the old ones.
 pub fn run<K: Kit>(
     alloc: Global,
@@ -68,6 +71,7 @@ pub fn run<K: Kit>(
     requires room { (k : ℕ) (kit : K) → slice_get kits.old k ≡ Some kit → K.loads kit ≤ 2 ^ 62 }
     ensures bound { sum_by K.loads kits.new ≤ sum_by K.loads kits.old + length tree.now }
     ensures runs { sum_by K.runs kits.new ≡ sum_by K.runs kits.old }
+    ensures stand { IfOk result (λ reply. AreVerdictsIn tree.now reply.verdicts) }
     ensures ran { IsHonest cache.old → IfOk result (λ reply. Ran tree.now cache.old cache.new (sum_by K.loads kits.old) (sum_by K.loads kits.new) reply) }
     ensures cut_off { IsHonest cache.old → OnErr result (IsCutOff tree.now cache.old cache.new (sum_by K.loads kits.old) (sum_by K.loads kits.new)) }
     ensures honest { IsHonest cache.old → IsHonest cache.new }

@@ -12,6 +12,7 @@ mod order;
 mod ready;
 mod reply;
 mod report;
+mod standing;
 mod step;
 mod tree;
 

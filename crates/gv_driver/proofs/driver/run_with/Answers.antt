@@ -6,6 +6,7 @@ use Rattle.gv_driver.specs.Reports.{AreShown}
 use Rattle.gv_driver.specs.Tables.{waiting, done_in, fresh_in}
 use Rattle.gv_driver.proofs.StepLaws.{table-none, waiting-none}
 use Rattle.gv_driver.proofs.KeepLaws.{can-keep, keeping-honest}
+use Rattle.gv_driver.proofs.ReportLaws.{report-stands}
 use Rattle.gv_driver.proofs.RunLaws.{loads-bound, cut-first, cut-in_loads, cut-in_keep, ran-right}
 use Rattle.gv_driver.proofs.driver.run_with.Goals as goal
 
@@ -72,6 +73,15 @@ pub returns-clause-bound : goal.returns-clause-bound
 returns-clause-bound g c =
     loads-bound c.args.tree.now c.args.cache.now c.in_ok-table.table.items c.run_loads.new.table.items (g.K.Kit.loads c.args.kit.now) (g.K.Kit.loads c.run_loads.new.kit)
     c.in_ok-table.ensures c.run_loads.ensures.goes
+
+pub returns-clause-stand : goal.returns-clause-stand
+returns-clause-stand g c =
+    let tree = c.args.tree.now in
+    let table = c.run_loads.new.table.items in
+    let list = c.new.result in
+    let shown : AreShown tree table list (length tree) = subst (λ (v : List Verdict). AreShown tree table v (length tree)) (sym c.new.ensures)
+    (subst (λ (l : List (Option Node)). AreShown tree l c.in_ok-list.list.items (length tree)) c.deref.ensures.value c.in_ok-list.ensures) in
+    report-stands tree table list c.run_loads.ensures.goes.right.size shown
 
 pub returns-clause-ran : goal.returns-clause-ran
 returns-clause-ran g c = λ honest.
