@@ -56,7 +56,8 @@ const SCRIPTS: [(&[u8], &[u8], u8); 25] = [
 
 /// Trees, and the reply to a check of each: rules at their places, and what is not built.
 #[rattlefmt::skip]
-const TREES: [(&[u8], &[u8], u8); 14] = [
+const TREES: [(&[u8], &[u8], u8); 15] = [
+    (b"put a/a.go 0\n\ncheck\n", b"a/a.go:1:1: syntax error\npackages 1, errors 1\n", 1),
     (b"put a/a.go 39\npackage a\n\nconst A = B + 1\nconst B = A\n\ncheck\n", b"a/a.go:3:7: E4 declaration cycle\na/a.go:4:7: E4 declaration cycle\npackages 1, errors 2\n", 1),
     (b"put a/a.go 35\npackage a\n\nconst A = Z\nconst A = 1\n\ncheck\n", b"a/a.go:3:11: E3 undefined\na/a.go:4:7: E1 redeclared\npackages 1, errors 2\n", 1),
     (b"put a/a.go 77\npackage a\n\nconst A = 170141183460469231731687303715884105727\nconst B = A + 1\n\ncheck\n", b"a/a.go:4:11: outside profile: wide\npackages 1, errors 1\n", 1),
