@@ -4,19 +4,13 @@ use Rattle.std.specs.List.{Contains, filter, list_any}
 use Rattle.std.proofs.lemmas.List.{length-append}
 use Rattle.import_graph.specs.Packages.{numbers_from, is_empty}
 use Rattle.import_graph.proofs.OrderLemmas.{contains-cases, contains-head, contains-tail}
-
--- what stands in a list with one item more
-pub push-get : {A : Type 0} (xs : List A) (x y : A) (k : ℕ) → slice_get (xs ++ x ∷ []) k ≡ Some y → (slice_get xs k ≡ Some y) ⊎ ((k ≡ length xs) × (x ≡ y))
-push-get [] x y zero e = inr (refl, let h : Some x ≡ Some y = e in cc)
-push-get [] x y (suc k) e = inl e
-push-get (z ∷ zs) x y zero e = inl e
-push-get (z ∷ zs) x y (suc k) e = elim (push-get zs x y k e) [ inl h ↦ inl h | inr h ↦ inr (ap suc h.0, h.1) ]
+use Rattle.gv_base.proofs.Lists.{push_cases}
 
 -- one item more, with what holds of each at its place
 pub each-more : {A : Type 0} (P : ℕ → A → Type 0) (xs more : List A) (x : A) (n : ℕ) → length xs ≡ n → ((k : ℕ) (y : A) → slice_get xs k ≡ Some y → P k y) → P n x → more ≡ xs ++ x ∷ []
     → (k : ℕ) (y : A) → slice_get more k ≡ Some y → P k y
 each-more P xs more x n size each this is k y at =
-    elim (push-get xs x y k (ap (λ t. slice_get t k) (sym is) ∙ at)) [ inl h ↦ each k y h | inr h ↦ subst (P k) h.1 (subst (λ j. P j x) (sym (h.0 ∙ size)) this) ]
+    elim (push_cases xs x y k (ap (λ t. slice_get t k) (sym is) ∙ at)) [ inl h ↦ each k y h | inr h ↦ subst (P k) h.1 (subst (λ j. P j x) (sym (h.0 ∙ size)) this) ]
 
 pub length-more : {A : Type 0} (xs more : List A) (x : A) (n : ℕ) → length xs ≡ n → more ≡ xs ++ x ∷ [] → length more ≡ n + 1
 length-more xs more x n size is = ap length is ∙ length-append xs (x ∷ []) ∙ ap (λ k. k + 1) size

@@ -7,7 +7,7 @@ use crate::cycles::cycles;
 use crate::drafts::{Draft, drafts, numbers};
 use crate::go_mod::module_path;
 use crate::homes::homes;
-use crate::names::{copied, names};
+use crate::names::names;
 use crate::pack::Package;
 use crate::rows::rows;
 use crate::state::state_of;
@@ -29,7 +29,7 @@ fn built(
     ensures { IfOk result (IsBuilt heads.now names.now name.now draft.now cyclic) }
 {
     let state = state_of(alloc, heads, names, draft.files.as_slice(), cyclic)?;
-    let path = copied(alloc, name)?;
+    let path = Bytes::of(alloc, name)?;
     let files = numbers(alloc, draft.files.as_slice())?;
     let imports = numbers(alloc, draft.imports.as_slice())?;
     Ok(Package {

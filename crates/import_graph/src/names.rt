@@ -10,13 +10,6 @@ use crate::homes::Home;
 use gv_base::{Bytes, NoMemory};
 use std::alloc::Global;
 
-pub fn copied(alloc: Global, text: &[u8]) -> Result<Bytes, NoMemory>
-    ensures { IfOk result (λ copy. copy ≡ text.now) }
-{
-    let bytes = text.to_vec(alloc)?;
-    Ok(Bytes::new(bytes))
-}
-
 /// The paths of the source files' packages.
 fn source_paths(alloc: Global, homes: &[Home]) -> Result<Vec<Bytes>, NoMemory>
     ensures paths { IfOk result (λ paths. paths.items ≡ source_paths homes.now) }
@@ -25,7 +18,7 @@ fn source_paths(alloc: Global, homes: &[Home]) -> Result<Vec<Bytes>, NoMemory>
     let mut paths = Vec::new(alloc);
     for home in homes {
         if home.source {
-            let path = copied(alloc, home.path.as_slice())?;
+            let path = home.path.copy(alloc)?;
             paths.push(path)?;
         }
     }
