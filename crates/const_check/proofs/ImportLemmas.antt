@@ -38,7 +38,7 @@ use Rattle.const_check.specs.declared.import_names.Declared.{Declared}
 use Rattle.const_check.specs.declared.refusal.Fault.TheVariants.{Rule as RuleFault}
 use Rattle.const_check.specs.declared.refusal.Refusal.{Refusal}
 use Rattle.const_check.specs.Gains.{Gains, SomeBelow}
-use Rattle.const_check.specs.Imports.{pairs, Names, AreNames, import_in, flag_at, AreUsed, least, IsLeast, IsFirst, is_before, RefusesIf, IsDeclared, ComesLater, IsUnused, RefusesName, RefusesNthName, RefusesImports}
+use Rattle.const_check.specs.Imports.{pairs, Names, AreNames, import_in, flag_at, AreUsed, least, IsLeast, IsFirst, is_before, RefusesIf, HasConstant, ComesLater, IsUnused, RefusesName, RefusesNthName, RefusesImports}
 use Rattle.const_check.specs.Packages.{known_of}
 use Rattle.const_check.specs.Refusals.{IsImport, import_name, IsTaken, IsUsed, place_of}
 use Rattle.const_check.proofs.FaultLemmas.{same_refusal}
@@ -157,15 +157,15 @@ later_is u at q (Some n) b (named, all) is = (
       is ∙ true_lt n at.node (elim before [ inl less ↦ absurd (omega arith) | inr (same, less) ↦ omega arith ]),
 )
 
-pub declared_some : (u : Unit) (name : List ℕ) (k : ℕ) → first_place (spelled_names u) name ≡ Some k → IsDeclared u name
+pub declared_some : (u : Unit) (name : List ℕ) (k : ℕ) → first_place (spelled_names u) name ≡ Some k → HasConstant u name
 declared_some u name k h =
     let f = first_is (λ spelling. bytes_eq spelling name) 0 (spelled_names u) k h in
     by f.at f.item ((bytes_eq-Decides f.item name).0 f.passes) (slice_get (constants u.trees) f.at) refl (sym (slice_get-map (λ (c : Constant). name_of u c.name) (constants u.trees) f.at) ∙ f.there) where
-      by : (i : ℕ) (item : List ℕ) → item ≡ name → (o : Option Constant) → slice_get (constants u.trees) i ≡ o → option_map (λ (c : Constant). name_of u c.name) o ≡ Some item → IsDeclared u name
+      by : (i : ℕ) (item : List ℕ) → item ≡ name → (o : Option Constant) → slice_get (constants u.trees) i ≡ o → option_map (λ (c : Constant). name_of u c.name) o ≡ Some item → HasConstant u name
       by i item same None e h = absurd cc
       by i item same (Some c) e h = (c, contains_at (constants u.trees) i c e, let is : name_of u c.name ≡ item = cc in is ∙ same)
 
-pub declared_none : (u : Unit) (name : List ℕ) → first_place (spelled_names u) name ≡ None → IsDeclared u name → ⊥
+pub declared_none : (u : Unit) (name : List ℕ) → first_place (spelled_names u) name ≡ None → HasConstant u name → ⊥
 declared_none u name h (c, has, named) =
     let s = stands_in (constants u.trees) c has in
     let not : bytes_eq (name_of u c.name) name ≡ false =

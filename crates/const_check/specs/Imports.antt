@@ -91,8 +91,8 @@ abbrev pub RefusesIf : Bool → Place → Rule → Refusal → Type 0
 RefusesIf broken at rule x = (broken ≡ true) × (x ≡ record { place = at; fault = RuleFault rule })
 
 -- a constant has the name
-abbrev pub IsDeclared : Unit → List ℕ → Type 0
-IsDeclared u name = (c : Constant) × Contains (constants u.trees) c × (name_of u c.name ≡ name)
+abbrev pub HasConstant : Unit → List ℕ → Type 0
+HasConstant u name = (c : Constant) × Contains (constants u.trees) c × (name_of u c.name ≡ name)
 
 -- an earlier import of the file has it
 abbrev pub ComesLater : Unit → NodeRef → List ℕ → Type 0

@@ -1,5 +1,5 @@
 -- All that refuses a package, and its order.
-use Rattle.std.specs.Prelude.{◌≡◌, ℕ, ◌+◌, ◌<◌, ◌⊎◌, ◌↔◌, List, Option, Some, None, slice_get}
+use Rattle.std.specs.Prelude.{◌≡◌, ℕ, ◌+◌, ◌<◌, ◌⊎◌, ◌↔◌, List, Option, Some, None, slice_get, bytes_eq, codes, false}
 use Rattle.std.specs.List.{Contains}
 use Rattle.std.specs.Option.{option_map_or}
 use Rattle.gv_base.specs.declared.place.Place.{Place}
@@ -107,10 +107,14 @@ import_name u at = option_map_or (λ (tree : FileTree). line_name (known_of u.en
 abbrev pub IsImport : Unit → NodeRef → Type 0
 IsImport u at = (tree : FileTree) × (tree_at u at.file ≡ Some tree) × Contains (specs_in tree tree.tops) at.node
 
--- E1: a constant of any file has the name, or an earlier import of the file
+-- the package block has the name: a constant of any file is declared by it; `init` declares none (Go 1.17, "Package initialization")
+abbrev pub IsDeclared : Unit → List ℕ → Type 0
+IsDeclared u name = (c : Constant) × Contains (constants u.trees) c × (name_of u c.name ≡ name) × (bytes_eq name (codes "init") ≡ false)
+
+-- E1: the package block has the name, or an earlier import of the file
 abbrev pub IsTaken : Unit → NodeRef → List ℕ → Type 0
 IsTaken u at name =
-    ((c : Constant) × Contains (constants u.trees) c × (name_of u c.name ≡ name))
+    IsDeclared u name
     ⊎ ((other : NodeRef) × IsImport u other × (other.file ≡ at.file) × IsBefore other at × (import_name u other ≡ Some name))
 
 -- a use in the file denotes the import

@@ -90,7 +90,8 @@ fn accepted(
     requires within { AreWithin t.now marks.now }
     requires annotated { IsAnnotation (shown s.now) (meanings t.now marks.now) }
     requires alone { IsOnly (shown s.now) (meanings t.now marks.now) }
-    ensures { IfOk result (λ list. refused.now.items ≡ [] → HasExports (shown s.now) list.items) }
+    ensures accepted { IfOk result (λ list. refused.now.items ≡ [] → HasExports (shown s.now) list.items) }
+    ensures refused { IfOk result (λ list. ¬ (refused.now.items ≡ []) → list.items ≡ []) }
 {
     if !is_empty(refused) {
         return Ok(Vec::new(alloc));
@@ -108,6 +109,7 @@ fn judge(alloc: Global, s: &Subject, t: &TypeTable, order: &[Needed]) -> Result<
     ensures marks { IfOk result (λ checked. HasMarks (shown s.now) checked.refused.items) }
     ensures ordered { IfOk result (λ checked. IsOrdered checked.refused.items) }
     ensures exports { IfOk result (λ checked. checked.refused.items ≡ [] → HasExports (shown s.now) checked.exports.items) }
+    ensures nothing { IfOk result (λ checked. ¬ (checked.refused.items ≡ []) → checked.exports.items ≡ []) }
 {
     let marks = elaborate(alloc, s, t, order)?;
     let refused = refusals(alloc, s, &marks)?;
@@ -132,6 +134,7 @@ fn judge_read(
     ensures marks { IfOk result (λ checked. HasMarks (package_unit (texts_of sources.now) trees.now uses.now environment.now.interfaces.now) checked.refused.items) }
     ensures ordered { IfOk result (λ checked. IsOrdered checked.refused.items) }
     ensures exports { IfOk result (λ checked. checked.refused.items ≡ [] → HasExports (package_unit (texts_of sources.now) trees.now uses.now environment.now.interfaces.now) checked.exports.items) }
+    ensures nothing { IfOk result (λ checked. ¬ (checked.refused.items ≡ []) → checked.exports.items ≡ []) }
 {
     let subject = read(alloc, sources, trees, uses, environment)?;
     let table = universe_table(alloc)?;
@@ -155,6 +158,7 @@ fn judge_files(
     ensures marks { IfOk result (λ checked. HasMarks (package_unit (map text_of files.now) trees.now uses.now env.now) checked.refused.items) }
     ensures ordered { IfOk result (λ checked. IsOrdered checked.refused.items) }
     ensures exports { IfOk result (λ checked. checked.refused.items ≡ [] → HasExports (package_unit (map text_of files.now) trees.now uses.now env.now) checked.exports.items) }
+    ensures nothing { IfOk result (λ checked. ¬ (checked.refused.items ≡ []) → checked.exports.items ≡ []) }
 {
     let environment = Environment::new(alloc, env)?;
     let sources = texts(alloc, files)?;
@@ -178,6 +182,7 @@ pub fn check_constants(
     ensures marks { IfOk result (λ checked. AreMarks (package_of files.now trees.now) env.now checked.refused.items) }
     ensures ordered { IfOk result (λ checked. IsOrdered checked.refused.items) }
     ensures exports { IfOk result (λ checked. checked.refused.items ≡ [] → AreExports (package_of files.now trees.now) env.now checked.exports.items) }
+    ensures nothing { IfOk result (λ checked. ¬ (checked.refused.items ≡ []) → checked.exports.items ≡ []) }
 {
     let named = known(alloc, env)?;
     let uses = bind(alloc, trees, files, &named)?;

@@ -1,14 +1,14 @@
 //! The faults of imports.
-ghost use Rattle.std.specs.Prelude.{◌≡◌, ◌<◌, ◌^◌, ◌↔◌, ℕ, List, IfOk, OnOk, Some, IsTrue, if◌then◌else◌, bytes_eq, slice_get, length};
+ghost use Rattle.std.specs.Prelude.{◌≡◌, ◌<◌, ◌^◌, ◌↔◌, ℕ, List, IfOk, OnOk, Some, IsTrue, if◌then◌else◌, bytes_eq, codes, slice_get, length};
 ghost use Rattle.go_tree.specs.Lexeme.{place_of as first_place};
 ghost use Rattle.const_marks.specs.Imports.{import_limit};
 ghost use Rattle.const_marks.specs.Index.{found};
 ghost use Rattle.const_marks.specs.Items.{nodes_at};
 ghost use Rattle.const_marks.specs.Subjects.{shown, IsRead};
 ghost use Rattle.const_marks.specs.Units.{tree_at};
-ghost use Rattle.const_check.specs.Refusals.{IsTaken};
+ghost use Rattle.const_check.specs.Refusals.{IsDeclared, IsTaken};
 ghost use Rattle.const_check.specs.Gains.{Gains};
-ghost use Rattle.const_check.specs.Imports.{Names, AreNames, flag_at, AreUsed, least, IsLeast, IsFirst, is_before, RefusesIf, IsDeclared, ComesLater, IsUnused, RefusesName, RefusesNthName, RefusesImports, RefusesAllImports};
+ghost use Rattle.const_check.specs.Imports.{Names, AreNames, flag_at, AreUsed, least, IsLeast, IsFirst, is_before, RefusesIf, HasConstant, ComesLater, IsUnused, RefusesName, RefusesNthName, RefusesImports, RefusesAllImports};
 
 use crate::import_names::{Declared, import_names, specs_in};
 use crate::refusal::{Fault, Refusal};
@@ -102,14 +102,31 @@ pub fn has_name(firsts: &HashMap<&[u8], usize>, name: &[u8]) -> Option<usize>
 }
 
 /// Whether a constant has the name.
-fn is_declared(s: &Subject, name: &[u8]) -> bool
+fn has_constant(s: &Subject, name: &[u8]) -> bool
     requires { IsRead s.now }
-    ensures { IsTrue result ↔ IsDeclared (shown s.now) name.now }
+    ensures { IsTrue result ↔ HasConstant (shown s.now) name.now }
 {
     match has_name(&s.firsts, name) {
         Some(_) => true,
         None => false,
     }
+}
+
+fn is_init(name: &[u8]) -> bool
+    ensures { result ≡ bytes_eq name.now (codes "init") }
+{
+    name == b"init".as_slice()
+}
+
+/// Whether the package block has the name: a constant declares it, and it isn't `init`, which declares none.
+fn is_declared(s: &Subject, name: &[u8]) -> bool
+    requires { IsRead s.now }
+    ensures { IsTrue result ↔ IsDeclared (shown s.now) name.now }
+{
+    if is_init(name) {
+        return false;
+    }
+    has_constant(s, name)
 }
 
 fn is_before(first: Option<u32>, node: u32) -> bool
@@ -129,7 +146,7 @@ fn comes_later(s: &Subject, firsts: &HashMap<&[u8], u32>, at: NodeRef, name: &[u
     is_before(find(firsts, name), at.node)
 }
 
-/// Whether a constant or an earlier import of the file has the name of an import.
+/// Whether the package block or an earlier import of the file has the name of an import. Refused as E1.
 fn is_taken(s: &Subject, firsts: &HashMap<&[u8], u32>, at: NodeRef, name: &[u8]) -> bool
     requires read { IsRead s.now }
     requires firsts { (q : List ℕ) → IsFirst (shown s.now) at.file q (found firsts.now q) }

@@ -1,5 +1,5 @@
 -- What is read of a load's texts: the tree of each file, and the interface of each export text.
-use Rattle.std.specs.Prelude.{◌≡◌, ℕ, ◌≤◌, ◌^◌, List, [], ◌∷◌, length}
+use Rattle.std.specs.Prelude.{◌≡◌, ◌⊎◌, ℕ, ◌≤◌, ◌^◌, List, [], ◌∷◌, length, map}
 use Rattle.export_data.specs.declared.constants.ConstInterface.{ConstInterface}
 use Rattle.export_data.specs.Spelling.{IsSpelled}
 use Rattle.go_tree.specs.declared.tree.FileTree.{FileTree}
@@ -7,7 +7,9 @@ use Rattle.parse_file.specs.Verdict.{IsParsed}
 use Rattle.const_tree.specs.Form.{IsConstantFile}
 use Rattle.const_check.specs.Packages.{Package}
 use Rattle.action_graph.specs.Nodes.{Named}
-use Rattle.action_graph.specs.Judging.{Env, Judged, Finds, Tells}
+use Rattle.action_graph.specs.declared.kit.LoadInput.{LoadInput}
+use Rattle.action_graph.specs.Judging.{Env, Judged, Finds, Tells, AreInterfaces, text_of}
+use Rattle.action_graph.specs.Judging.Judged.{Refuses}
 
 -- the tree is that of the text, which is a file of constants
 pub record IsFileOf (text : List ℕ) (tree : FileTree) : Type 0 where
@@ -35,3 +37,15 @@ pub record TellsOf (path : List ℕ) (p : Package) (env : Env) (text : List ℕ)
   pub judged : Judged
   pub finds : Finds path p env judged
   pub tells : Tells judged text
+
+-- no interfaces are those of the export texts: one of them isn't spelled, or is of another path
+abbrev pub HasNoEnv : LoadInput → Type 0
+HasNoEnv input = (env : Env) → AreInterfaces input.env env → ⊥
+
+-- A load can't be read: some file has no tree of constants, or some export text no interface. Such an input isn't lawful.
+abbrev pub IsUnread : LoadInput → Type 0
+IsUnread input = ((trees : List FileTree) → AreFilesOf (map text_of input.files) trees → ⊥) ⊎ HasNoEnv input
+
+-- refused, with no mark
+abbrev pub RefusesUnmarked : List ℕ → Type 0
+RefusesUnmarked text = Tells (Refuses []) text

@@ -1,7 +1,7 @@
 //! The kit of constants.
 ghost use Rattle.std.specs.Prelude.{◌≡◌, ◌+◌, ◌<◌, ◌≤◌, ◌^◌, List, ℕ, map, length, IfOk, OnOk, OnErr};
 ghost use Rattle.action_graph.specs.Judging.{IsLawful, IsOutcome, load_text, text_of};
-ghost use Rattle.const_kit.specs.Reading.{AreFilesOf};
+ghost use Rattle.const_kit.specs.Reading.{AreFilesOf, HasNoEnv, IsUnread, RefusesUnmarked};
 
 use crate::env::read_env;
 use crate::read::read_files;
@@ -40,7 +40,8 @@ impl ConstKit {
 fn load_trees(alloc: Global, input: &LoadInput, trees: &[FileTree]) -> Result<Load<()>, NoMemory>
     requires files { AreFilesOf (map text_of input.now.files) trees.now }
     requires few { length input.now.files < 2 ^ 32 }
-    ensures { IsLawful input.now → IfOk result (λ load. IsOutcome input.now (load_text load)) }
+    ensures right { IsLawful input.now → IfOk result (λ load. IsOutcome input.now (load_text load)) }
+    ensures unread { HasNoEnv input.now → IfOk result (λ load. RefusesUnmarked (load_text load)) }
 {
     let read = read_env(alloc, input.env.as_slice())?;
     match read {
@@ -50,15 +51,16 @@ fn load_trees(alloc: Global, input: &LoadInput, trees: &[FileTree]) -> Result<Lo
             Ok(load)
         }
         None => {
-            let load = refuse(alloc, &[])?;
-            Ok(load)
+            let unread = refuse(alloc, &[])?;
+            Ok(unread)
         }
     }
 }
 
 /// What comes of a package.
 fn load_package(alloc: Global, input: &LoadInput) -> Result<Load<()>, NoMemory>
-    ensures { IsLawful input.now → IfOk result (λ load. IsOutcome input.now (load_text load)) }
+    ensures right { IsLawful input.now → IfOk result (λ load. IsOutcome input.now (load_text load)) }
+    ensures unread { IsUnread input.now → IfOk result (λ load. RefusesUnmarked (load_text load)) }
 {
     let files = input.files.as_slice();
     if files.len() >= 1 << 32 {
@@ -85,7 +87,13 @@ impl Kit for ConstKit {
 
     ghost runs = { λ k. 0 };
 
-    fn load(&mut self, input: &LoadInput) -> Result<Load<()>, NoMemory> {
+    fn load(&mut self, input: &LoadInput) -> Result<Load<()>, NoMemory>
+        requires { self.old.loads < 2 ^ 63 }
+        ensures right { IsLawful input.now → IfOk result (λ load. IsOutcome input.now (load_text load)) }
+        ensures unread { IsUnread input.now → IfOk result (λ load. RefusesUnmarked (load_text load)) }
+        ensures counted { OnOk result (self.new.loads ≡ self.old.loads + 1) }
+        ensures refused { OnErr result (self.new.loads ≡ self.old.loads) }
+    {
         let load = load_package(self.alloc, input)?;
         self.loads += 1;
         Ok(load)

@@ -1,16 +1,17 @@
-use Rattle.std.proofs.Common.{refl, sym, ◌∙◌}
-use Rattle.const_marks.specs.Subjects.{shown}
-use Rattle.const_check.proofs.ImportLemmas.{declared_some, declared_none}
+use Rattle.std.proofs.Common.{◌≡◌, Bool, true, false, bytes_eq, codes, sym, ◌∙◌}
 use Rattle.const_check.proofs.import_refusals.is_declared.Goals as goal
 
-pub returns-in-Some : goal.returns-in-Some
-returns-in-Some c = (
-  λ h. declared_some (shown c.args.s.now) c.args.name.now c.in-Some.field-0 (sym (c.requires.firsts c.args.name.now) ∙ (sym c.has_name.ensures ∙ c.in-Some.is)),
-  λ h. refl,
+apart : (b : Bool) → b ≡ true → b ≡ false → ⊥
+apart b p q = cc
+
+pub returns-then-is_init : goal.returns-then-is_init
+returns-then-is_init c = (
+  λ h. absurd cc,
+  λ (constant, has, named, plain). absurd (apart (bytes_eq c.args.name.now (codes "init")) (sym c.is_init.ensures ∙ c.if-is_init.true) plain),
 )
 
-pub returns-in-None : goal.returns-in-None
-returns-in-None c = (
-  λ h. absurd cc,
-  λ h. absurd (declared_none (shown c.args.s.now) c.args.name.now (sym (c.requires.firsts c.args.name.now) ∙ (sym c.has_name.ensures ∙ c.in-None.is)) h),
+pub returns : goal.returns
+returns c = (
+  λ h. let found = c.has_constant.ensures.0 h in (found.0, found.1, found.2, sym c.is_init.ensures ∙ c.if-is_init.false),
+  λ (constant, has, named, plain). c.has_constant.ensures.1 (constant, has, named),
 )
