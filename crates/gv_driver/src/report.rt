@@ -25,11 +25,7 @@ fn standing(alloc: Global, files: &[(Text, Bytes)], marks: Vec<MarkLine>) -> Vec
 }
 
 /// The marks that a text spells, where it spells some that stand in the files; else none. A cache may hold any text.
-fn marks_of(
-    alloc: Global,
-    files: &[(Text, Bytes)],
-    text: &[u8],
-) -> Result<Vec<MarkLine>, NoMemory>
+fn marks_of(alloc: Global, files: &[(Text, Bytes)], text: &[u8]) -> Result<Vec<MarkLine>, NoMemory>
     ensures stand { IfOk result (λ v. AllStand files.now v.items) }
     ensures right { (marks : List MarkLine) → AreSpelled marks text.now → AllStand files.now marks → IfOk result (λ v. v.items ≡ marks) }
 {
@@ -40,11 +36,7 @@ fn marks_of(
     }
 }
 
-fn verdict_of(
-    alloc: Global,
-    files: &[(Text, Bytes)],
-    answer: &Answer,
-) -> Result<Verdict, NoMemory>
+fn verdict_of(alloc: Global, files: &[(Text, Bytes)], answer: &Answer) -> Result<Verdict, NoMemory>
     ensures { IfOk result (λ v. IsAnswerShown files.now answer.now v) }
 {
     match answer {
@@ -56,11 +48,7 @@ fn verdict_of(
     }
 }
 
-fn verdict_at(
-    alloc: Global,
-    pack: &PackageTexts,
-    node: &Option<Node>,
-) -> Result<Verdict, NoMemory>
+fn verdict_at(alloc: Global, pack: &PackageTexts, node: &Option<Node>) -> Result<Verdict, NoMemory>
     ensures { IfOk result (λ v. IsShown pack.now.files pack.now.sound node.now v) }
 {
     if !pack.sound {

@@ -5,3 +5,5 @@ pub mod OnceLemmas
 pub mod SourceLemmas
 pub mod TreeLemmas
 pub mod OrderLemmas
+pub mod StandLemmas
+pub mod StopLemmas

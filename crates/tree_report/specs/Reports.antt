@@ -1,5 +1,5 @@
 -- What a run answers of a tree, and what it leaves in the cache.
-use Rattle.std.specs.Prelude.{◌≡◌, ℕ, ◌+◌, Option, List, length, map, sum_by}
+use Rattle.std.specs.Prelude.{◌≡◌, ℕ, ◌+◌, Option, List, length, map, sum_by, All}
 use Rattle.gv_base.specs.Files.{Entry}
 use Rattle.fact_cache.specs.declared.texts.Input.{Input}
 use Rattle.fact_cache.specs.declared.list.Entry.{Entry as Kept}
@@ -12,9 +12,10 @@ pub use Rattle.gv_driver.specs.Caches.{IsHonest}
 use Rattle.gv_driver.specs.Caches.{IsCacheAfter, missing_of}
 use Rattle.gv_driver.specs.Loads.{IsPlan}
 use Rattle.gv_driver.specs.Reports.{IsReport}
-use Rattle.gv_driver.specs.Runs.{some_in}
+use Rattle.gv_driver.specs.Runs.{IsCutOff, some_in}
 use Rattle.analysis_core.specs.declared.reply.Reply.{Reply}
 use Rattle.analysis_core.specs.Replies.{file_numbered, is_found, reply_text}
+use Rattle.report_text.specs.Standing.{StandsIn}
 use Rattle.tree_report.specs.declared.run.Answer.{Answer}
 use Rattle.tree_report.specs.declared.run.Answer.TheVariants.{NotBuilt, Told}
 use Rattle.tree_report.specs.declared.print.TreeReport.{TreeReport}
@@ -54,3 +55,27 @@ pub record Reports (tree : List Entry) (before after : List Kept) (report : Tree
 abbrev pub IsAnswered : List Entry → List Kept → List Kept → ℕ → ℕ → Answer → Type 0
 IsAnswered tree before after count now NotBuilt = (IsBuilt tree → ⊥) × ((after ≡ before) × (now ≡ count))
 IsAnswered tree before after count now (Told report) = Reports tree before after report × (now ≡ count + report.counts.loads)
+
+-- What holds of a report over any cache: it is that of a reply to the packages of a tree of the form, and each place in it
+-- stands in one of the files.
+pub record IsSafe (tree : List Entry) (report : TreeReport) : Type 0 where
+  pub verdicts : List (Option FileVerdict)
+  pub heads : List (Option Head)
+  pub packages : List Package
+  pub form : IsForm tree verdicts heads packages
+  pub reply : Reply
+  pub size : reply.packages ≡ length packages
+  pub stand : All (StandsIn tree) reply.errors
+  pub text : report.text ≡ reply_text tree reply
+  pub found : report.found ≡ is_found reply
+
+-- the form alone decides which trees are built
+abbrev pub IsSafeAnswer : List Entry → List Kept → List Kept → ℕ → ℕ → Answer → Type 0
+IsSafeAnswer tree before after count now NotBuilt = (IsBuilt tree → ⊥) × ((after ≡ before) × (now ≡ count))
+IsSafeAnswer tree before after count now (Told report) = IsSafe tree report
+
+-- After want of memory: at most the missing loads of the tree's packages were executed, and the cache has gained the entries of the
+-- first of them alone.
+pub record IsStopped (tree : List Entry) (before after : List Kept) (count now : ℕ) : Type 0 where
+  pub cut_off : (verdicts : List (Option FileVerdict)) (heads : List (Option Head)) (packages : List Package) → IsForm tree verdicts heads packages
+      → IsCutOff (map (texts_of tree) packages) before after count now

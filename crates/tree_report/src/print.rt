@@ -1,10 +1,11 @@
 //! The bytes of a reply.
-ghost use Rattle.std.specs.Prelude.{◌≡◌, length, nat_lt, IfOk};
+ghost use Rattle.std.specs.Prelude.{◌≡◌, length, nat_lt, IfOk, All};
+ghost use Rattle.report_text.specs.Standing.{StandsIn};
 ghost use Rattle.tree_report.specs.Formed.{Tells};
 
 use analysis_core::{Counts, ErrorLine, Reply};
 use gv_base::{Bytes, Files, NoMemory};
-use report_text::{all_stand, text};
+use report_text::text;
 use std::alloc::Global;
 
 /// What a run says of a tree.
@@ -24,17 +25,13 @@ fn are_some(errors: &[ErrorLine]) -> bool
     errors.len() > 0
 }
 
-/// The report of a reply. Each place of a run's reply stands in its file; where one didn't, the answer
-/// would be want of memory.
+/// The report of a reply whose places stand in the files.
 pub fn printed(alloc: Global, files: &Files, reply: &Reply) -> Result<TreeReport, NoMemory>
+    requires stand { All (StandsIn files.now) reply.now.errors }
     ensures { IfOk result (λ report. Tells files.now reply.now report) }
 {
-    let errors = reply.errors.as_slice();
-    if !all_stand(files, errors) {
-        return Err(NoMemory);
-    }
     let text = text(alloc, reply, files)?;
-    let found = are_some(errors);
+    let found = are_some(reply.errors.as_slice());
     let counts = reply.counts;
     Ok(TreeReport {
         text,

@@ -1,11 +1,10 @@
 //! The report of a tree.
-ghost use Rattle.std.specs.Prelude.{◌≡◌, ◌<◌, ◌≤◌, ◌+◌, ◌^◌, ℕ, Some, length, slice_get, sum_by, IfOk};
+ghost use Rattle.std.specs.Prelude.{◌≡◌, ◌<◌, ◌≤◌, ◌+◌, ◌^◌, ℕ, Some, length, slice_get, sum_by, IfOk, OnErr};
 ghost use Rattle.import_graph.specs.Packages.{paths_of};
 ghost use Rattle.import_graph.specs.Tables.{AreAscending};
 ghost use Rattle.tree_report.specs.Formed.{Holds, IsReplyOf};
-ghost use Rattle.tree_report.specs.Reports.{IsHonest, IsAnswered, Reports};
+ghost use Rattle.tree_report.specs.Reports.{IsHonest, IsAnswered, IsSafe, IsSafeAnswer, IsStopped, Reports};
 
-use crate::files::are_in_order;
 use crate::formed::{Formed, form_of};
 use crate::print::{TreeReport, printed};
 use crate::states::{Found, error_lines};
@@ -13,7 +12,7 @@ use crate::texts::all_texts;
 use action_graph::Kit;
 use analysis_core::{Counts, Reply};
 use fact_cache::Cache;
-use gv_base::{Bytes, Files, NoMemory, Row};
+use gv_base::{Bytes, Files, NoMemory, Row, files_are_in_order};
 use import_graph::Package;
 use std::alloc::Global;
 
@@ -48,12 +47,10 @@ fn paths_of(alloc: Global, packages: &[Package]) -> Result<Vec<Bytes>, NoMemory>
 fn reply_of(alloc: Global, formed: &Formed, ran: &gv_driver::Reply) -> Result<Reply, NoMemory>
     requires order { AreAscending (paths_of formed.now.packages.items) }
     requires few { length formed.now.packages.items ≤ 1024 }
+    requires size { length ran.now.verdicts ≡ length formed.now.packages.items }
     ensures { IfOk result (λ reply. IsReplyOf formed.now ran.now reply) }
 {
     let outcomes = ran.verdicts.as_slice();
-    if outcomes.len() != formed.packages.len() {
-        return Err(NoMemory);
-    }
     let paths = paths_of(alloc, &formed.packages)?;
     let errors = error_lines(
         alloc,
@@ -90,13 +87,13 @@ fn report_formed<K: Kit>(
     requires room { (k : ℕ) (kit : K) → slice_get kits.old k ≡ Some kit → K.loads kit ≤ 2 ^ 62 }
     ensures bound { sum_by K.loads kits.new ≤ sum_by K.loads kits.old + 1024 }
     ensures runs { sum_by K.runs kits.new ≡ sum_by K.runs kits.old }
+    ensures safe { IfOk result (IsSafe files.now) }
     ensures told { IsHonest cache.old → IfOk result (Reports files.now cache.old cache.new) }
+    ensures cut_off { IsHonest cache.old → OnErr result (IsStopped files.now cache.old cache.new (sum_by K.loads kits.old) (sum_by K.loads kits.new)) }
     ensures loads { IsHonest cache.old → IfOk result (λ report. sum_by K.loads kits.new ≡ sum_by K.loads kits.old + report.counts.loads) }
     ensures honest { IsHonest cache.old → IsHonest cache.new }
 {
-    if !are_in_order(files) {
-        return Err(NoMemory);
-    }
+    files_are_in_order(files);
     let tree = all_texts(alloc, files, &formed.packages)?;
     let ran = gv_driver::run(alloc, &tree, cache, kits)?;
     let reply = reply_of(alloc, formed, &ran)?;
@@ -104,7 +101,9 @@ fn report_formed<K: Kit>(
     Ok(report)
 }
 
-/// Reports on a tree with the first of the kits, and with what the cache has; what was executed is kept.
+/// Reports on a tree with the first of the kits, and with what the cache has; what was executed is kept. Over any cache the form
+/// alone decides whether the tree is built, and each place of the report stands in one of the files. After want of memory no more
+/// was executed than was missing, and the cache has gained entries of what was missing alone.
 pub fn report_on<K: Kit>(
     alloc: Global,
     files: &Files,
@@ -115,6 +114,8 @@ pub fn report_on<K: Kit>(
     requires room { (k : ℕ) (kit : K) → slice_get kits.old k ≡ Some kit → K.loads kit ≤ 2 ^ 62 }
     ensures bound { sum_by K.loads kits.new ≤ sum_by K.loads kits.old + 1024 }
     ensures runs { sum_by K.runs kits.new ≡ sum_by K.runs kits.old }
+    ensures safe { IfOk result (IsSafeAnswer files.now cache.old cache.new (sum_by K.loads kits.old) (sum_by K.loads kits.new)) }
+    ensures cut_off { IsHonest cache.old → OnErr result (IsStopped files.now cache.old cache.new (sum_by K.loads kits.old) (sum_by K.loads kits.new)) }
     ensures answered { IsHonest cache.old → IfOk result (IsAnswered files.now cache.old cache.new (sum_by K.loads kits.old) (sum_by K.loads kits.new)) }
     ensures honest { IsHonest cache.old → IsHonest cache.new }
 {

@@ -8,6 +8,7 @@ pub loop-mark-preserved : goal.loop-mark-preserved
 loop-mark-preserved c = All-more (Stands c.args.files.now) c.args.marks.now c.loop-mark.mark-index _ c.loop-mark-test.true c.loop-mark.invariant (c.if-not-stands.ensures.0 refl)
 
 pub returns : goal.returns
-returns c =
-    (λ _. subst (All (Stands c.args.files.now)) (take_all c.loop-mark.mark-index c.args.marks.now (let f = c.loop-mark-test.false in omega (arith, f))) c.loop-mark.invariant,
-    λ _. refl)
+returns c = (
+  λ _. subst (All (Stands c.args.files.now)) (take_all c.loop-mark.mark-index c.args.marks.now (let f = c.loop-mark-test.false in omega (arith, f))) c.loop-mark.invariant,
+  λ _. refl,
+)

@@ -1,13 +1,57 @@
-use Rattle.std.proofs.Common.{map, sym, ap, ◌∙◌, subst}
+use Rattle.std.proofs.Common.{rules, All, map, sum_by, sym, ap, ◌∙◌, subst}
+use Rattle.report_text.specs.Standing.{StandsIn}
+use Rattle.gv_driver.specs.Standing.{AreVerdictsIn}
 use Rattle.gv_driver.specs.Trees.{IsTree}
 use Rattle.tree_report.specs.Reports.{texts_of}
 use Rattle.tree_report.proofs.TreeLemmas.{is-tree, paths-rise}
+use Rattle.tree_report.proofs.StandLemmas.{error-lines-stand}
+use Rattle.tree_report.proofs.StopLemmas.{stopped, stopped-after}
 use Rattle.tree_report.proofs.run.report_formed.Goals as goal
 
 pub run-requires-clause-tree : goal.run-requires-clause-tree
 run-requires-clause-tree g c =
     subst IsTree (sym (c.deref-2.ensures.value ∙ (c.in_ok-tree.ensures ∙ ap (map (texts_of c.args.files.now)) c.deref.ensures.value)))
-    (is-tree c.args.files.now c.args.formed.now.verdicts.items c.args.formed.now.heads.items c.args.formed.now.packages.items (c.are_in_order.ensures c.if-not-are_in_order.false) c.requires.form)
+    (is-tree c.args.files.now c.args.formed.now.verdicts.items c.args.formed.now.heads.items c.args.formed.now.packages.items c.files_are_in_order.ensures.ordered c.requires.form)
 
 pub reply_of-requires-clause-order : goal.reply_of-requires-clause-order
 reply_of-requires-clause-order g c = paths-rise c.args.files.now c.args.formed.now.heads.items c.args.formed.now.packages.items c.requires.form.packed
+
+pub returns-in_err-ran-clause-cut_off : goal.returns-in_err-ran-clause-cut_off
+returns-in_err-ran-clause-cut_off g c = λ honest.
+    let h = stopped c.args.files.now c.args.formed.now.verdicts.items c.args.formed.now.heads.items c.args.formed.now.packages.items c.deref-2.result.now c.args.cache.now c.run.new.cache (sum_by g.K.Kit.loads c.args.kits.now) (sum_by g.K.Kit.loads c.run.new.kits) c.requires.form
+    (c.deref-2.ensures.value ∙ (c.in_ok-tree.ensures ∙ ap (map (texts_of c.args.files.now)) c.deref.ensures.value)) (c.in_err-ran.ensures.cut_off honest) in
+    search (rules, h)
+
+pub returns-in_err-reply-clause-cut_off : goal.returns-in_err-reply-clause-cut_off
+returns-in_err-reply-clause-cut_off g c = λ honest.
+    let h = stopped-after c.args.files.now c.args.formed.now.verdicts.items c.args.formed.now.heads.items c.args.formed.now.packages.items c.deref-2.result.now c.args.cache.now c.run.new.cache (sum_by g.K.Kit.loads c.args.kits.now) (sum_by g.K.Kit.loads c.run.new.kits) c.in_ok-ran.ran c.requires.form
+    (c.deref-2.ensures.value ∙ (c.in_ok-tree.ensures ∙ ap (map (texts_of c.args.files.now)) c.deref.ensures.value)) (c.in_ok-ran.ensures.ran honest) in
+    search (rules, h)
+
+pub printed-requires : goal.printed-requires
+printed-requires g c = record {
+  stand = subst (All (StandsIn c.args.files.now)) (sym c.in_ok-reply.ensures.errors)
+      (error-lines-stand c.args.files.now c.args.formed.now.verdicts.items c.args.formed.now.heads.items c.args.formed.now.packages.items c.in_ok-ran.ran.verdicts c.requires.form
+      (subst (λ l. AreVerdictsIn l c.in_ok-ran.ran.verdicts) (c.deref-2.ensures.value ∙ (c.in_ok-tree.ensures ∙ ap (map (texts_of c.args.files.now)) c.deref.ensures.value)) c.in_ok-ran.ensures.stand));
+}
+
+pub returns-in_err-report-clause-cut_off : goal.returns-in_err-report-clause-cut_off
+returns-in_err-report-clause-cut_off g c = λ honest.
+    let h = stopped-after c.args.files.now c.args.formed.now.verdicts.items c.args.formed.now.heads.items c.args.formed.now.packages.items c.deref-2.result.now c.args.cache.now c.run.new.cache (sum_by g.K.Kit.loads c.args.kits.now) (sum_by g.K.Kit.loads c.run.new.kits) c.in_ok-ran.ran c.requires.form
+    (c.deref-2.ensures.value ∙ (c.in_ok-tree.ensures ∙ ap (map (texts_of c.args.files.now)) c.deref.ensures.value)) (c.in_ok-ran.ensures.ran honest) in
+    search (rules, h)
+
+pub returns-clause-safe : goal.returns-clause-safe
+returns-clause-safe g c = record {
+  verdicts = c.args.formed.now.verdicts.items;
+  heads = c.args.formed.now.heads.items;
+  packages = c.args.formed.now.packages.items;
+  form = c.requires.form;
+  reply = c.in_ok-reply.reply;
+  size = c.in_ok-reply.ensures.size;
+  stand = subst (All (StandsIn c.args.files.now)) (sym c.in_ok-reply.ensures.errors)
+      (error-lines-stand c.args.files.now c.args.formed.now.verdicts.items c.args.formed.now.heads.items c.args.formed.now.packages.items c.in_ok-ran.ran.verdicts c.requires.form
+      (subst (λ l. AreVerdictsIn l c.in_ok-ran.ran.verdicts) (c.deref-2.ensures.value ∙ (c.in_ok-tree.ensures ∙ ap (map (texts_of c.args.files.now)) c.deref.ensures.value)) c.in_ok-ran.ensures.stand));
+  text = c.in_ok-report.ensures.text;
+  found = c.in_ok-report.ensures.found;
+}
