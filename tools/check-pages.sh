@@ -123,7 +123,7 @@ run_sessions() {
         in_block { print > file }
     ' "$page"
     for block in "$place"/*.block; do
-        [ -e "$block" ] && grep -q '^\$ .*\./gvet' "$block" || continue
+        [ -e "$block" ] && grep -qE '^\$ (.*\./gvet|examples/)' "$block" || continue
         count=$((count + 1))
         run_block "$page" "$block" "$place/run"
     done

@@ -1,10 +1,14 @@
 #!/usr/bin/env bash
 # Runs the program itself to each status that real devices give at will: its exit code, and its name on standard error.
 # Want of memory (7) and a sink that takes nothing (10) aren't among them.
+#     tools/check-statuses.sh [PROGRAM]     PROGRAM is gvet as it was built; with none it is ./gvet, which builds it where it has to
 set -u
 cd "$(dirname "$0")/.." || exit 1
-./gvet session </dev/null >/dev/null || { echo "gvet isn't built" >&2; exit 1; }
-program=crates/gvet/out/gvet
+program=${1:-crates/gvet/out/gvet}
+if [ ! -x "$program" ]; then
+    ./gvet session </dev/null >/dev/null || { echo "gvet isn't built" >&2; exit 1; }
+    program=crates/gvet/out/gvet
+fi
 failed=0
 
 # expect STATUS NAME: what the last call ended with, and what it printed

@@ -1,4 +1,3 @@
-put a/a.go 71
 package a
 
 const (
@@ -7,5 +6,3 @@ const (
 	C uint8 = 200 + iota*100
 	D = B / A
 )
-
-check
