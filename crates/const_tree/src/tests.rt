@@ -86,7 +86,7 @@ fn constants_in_order(rt: HostRuntime) -> Result<(), Fail> {
     assert!(rt; is_constant_file(&other));
     let list = constants(alloc, &trees)?;
     // name, specification, iota, type, value, copied
-    let rows: [(u32, u32, u32, Option<u32>, Option<u32>, bool); 4] = [
+    let rows: [(u32, u32, u64, Option<u32>, Option<u32>, bool); 4] = [
         (2, 7, 0, Some(3), Some(6), false),
         (8, 9, 1, Some(3), Some(6), true),
         (10, 16, 2, None, Some(13), false),

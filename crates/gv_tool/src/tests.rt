@@ -322,9 +322,7 @@ fn plain_options_choose_each_analyzer(rt: HostRuntime) -> Result<(), Fail> {
     let plain = ToolOptions::PLAIN;
     assert_eq!(rt; plain.workers, 1);
     assert!(rt; !plain.json);
-    for analyzer in 0..16 {
-        let chosen = (plain.only >> analyzer) % 2 == 1;
-        assert_eq!(rt; chosen, analyzer >= 1 && analyzer <= 10);
-    }
+    // 2 + 4 + 8 + .. + 1024: a bit for each of the numbers from 1 to 10
+    assert_eq!(rt; plain.only, 2046);
     Ok(())
 }
