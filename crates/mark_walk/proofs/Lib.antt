@@ -1,0 +1,3 @@
+pub mod AskLaws
+mod LinkLemmas
+pub mod WaitLemmas

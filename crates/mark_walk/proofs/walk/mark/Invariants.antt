@@ -1,0 +1,20 @@
+use Rattle.std.proofs.Common.{◌≡◌, true, Some, slice_get}
+use Rattle.mark_walk.specs.Asks.{Awaits}
+use Rattle.mark_walk.specs.Marking.{Goes}
+use Rattle.mark_walk.specs.Waiting.{Waits, left_to_do}
+use Rattle.mark_walk.proofs.walk.mark.Given as goal
+
+abbrev pub invariant-loop-top : goal.invariant-loop-top
+invariant-loop-top g l =
+    let k = g.K.Marking in
+    let s = k.subject l.fn.kit in
+    record {
+      state : k.IsState l.kit;
+      subject : k.subject l.kit ≡ k.subject l.fn.kit;
+      goes : Goes k.says (k.rule s) (k.so_far l.fn.kit) (k.so_far l.kit);
+      waits : Waits (k.IsItem s) (k.number s) (k.count s) (λ x. Awaits k.says k.pends (k.so_far l.kit) (k.rule s x)) (k.so_far l.kit) l.walk.waiting.items l.walk.met.items;
+      noted : slice_get l.walk.met.items (k.number s l.fn.item) ≡ Some true;
+    }
+
+abbrev pub decreases-loop-top : goal.decreases-loop-top
+decreases-loop-top g l = left_to_do l.walk.waiting.items l.walk.met.items

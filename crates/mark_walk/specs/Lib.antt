@@ -1,0 +1,4 @@
+pub mod Asks
+pub mod Links
+pub mod Marking
+pub mod Waiting
