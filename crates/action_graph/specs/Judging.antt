@@ -1,11 +1,14 @@
 -- What comes of a package, by its path, its files and the interfaces of the packages that it imports; and what
 -- comes of a load, by its texts alone (Go 1.17, "Packages", "Import declarations"). Nothing here reads a cache.
-use Rattle.std.specs.Prelude.{◌≡◌, ℕ, ◌<◌, ◌≤◌, ◌^◌, ◌++◌, true, false, List, [], ◌∷◌, map, length, All, Some, slice_get, codes}
+use Rattle.std.specs.Prelude.{◌≡◌, ℕ, ◌<◌, ◌≤◌, ◌^◌, ◌++◌, true, false, List, [], ◌∷◌, map, length, All, Contains, Some, slice_get, codes}
 use Rattle.gv_base.specs.declared.place.Place.{Place}
 use Rattle.gv_base.specs.Files.{is_before, AreInOrder}
 use Rattle.export_data.specs.declared.constants.ConstInterface.{ConstInterface}
 use Rattle.export_data.specs.Spelling.{IsSpelled}
+use Rattle.go_tree.specs.Head.{head_of}
+use Rattle.go_tree.specs.declared.head.ImportLine.{ImportLine}
 use Rattle.go_tree.specs.declared.tree.FileTree.{FileTree}
+use Rattle.import_graph.specs.Packages.{counts}
 use Rattle.parse_file.specs.Verdict.{IsParsed}
 use Rattle.const_tree.specs.Form.{AreConstantFiles}
 use Rattle.const_check.specs.declared.refusal.Fault.{Fault}
@@ -67,8 +70,28 @@ Finds path p env (Judged.Refuses lines) =
 unfoldable pub Judges : List ℕ → List Named → Env → Judged → Type 0
 Judges path files env judged = (p : Package) × (IsPackageOf files p × Finds path p env judged)
 
+-- the tree and the text of a file of a package
+pub record IsFileAt (p : Package) (n : ℕ) (t : FileTree) (bytes : List ℕ) : Type 0 where
+  pub tree : slice_get p.trees n ≡ Some t
+  pub text : slice_get (map text_of p.files) n ≡ Some bytes
+
+-- the package clauses of the files have one name
+abbrev pub NamesAgree : Package → Type 0
+NamesAgree p = (n m : ℕ) (one other : FileTree) (a b : List ℕ) → IsFileAt p n one a → IsFileAt p m other b → (head_of one a).name ≡ (head_of other b).name
+
+-- some file imports the path, by an import that can lead to a package: neither `unsafe` nor `C`, nor a dot import
+pub record ImportsPath (p : Package) (path : List ℕ) : Type 0 where
+  pub n : ℕ
+  pub tree : FileTree
+  pub text : List ℕ
+  pub line : ImportLine
+  pub at : IsFileAt p n tree text
+  pub has : Contains (head_of tree text).imports line
+  pub leads : counts line ≡ true
+  pub of : line.path ≡ path
+
 -- What is asked of a package's own texts: a path, some file, and files in the order of their paths, of which none
--- is empty; few enough and short enough to be counted, and each of constants.
+-- is empty; few enough and short enough to be counted, each of constants, and of one package name.
 pub record IsSource (path : List ℕ) (files : List Named) : Type 0 where
   pub has_path : path ≡ [] → ⊥
   pub has_file : files ≡ [] → ⊥
@@ -78,6 +101,7 @@ pub record IsSource (path : List ℕ) (files : List Named) : Type 0 where
   pub short : All (λ text. length text ≤ 2 ^ 24) (map text_of files)
   pub pack : Package
   pub of : IsPackageOf files pack
+  pub agree : NamesAgree pack
 
 -- each export text with the interface that it spells, of the package beside whose path it stands
 abbrev pub AreInterfaces : List Named → Env → Type 0
@@ -86,12 +110,23 @@ AreInterfaces [] (i ∷ env) = ⊥
 AreInterfaces (x ∷ xs) [] = ⊥
 AreInterfaces (x ∷ xs) (i ∷ env) = IsSpelled i x.1 × (i.path ≡ x.0) × AreInterfaces xs env
 
--- An input that a load may be asked for: fit texts of the package, and the interfaces of others by path.
-pub record IsLawful (input : LoadInput) : Type 0 where
-  pub source : IsSource input.path input.files
+-- An input that can be read: files of constants, few enough and short enough to be counted, and export texts that spell interfaces.
+pub record IsReadable (input : LoadInput) : Type 0 where
+  pub few : length input.files < 2 ^ 32
+  pub short : All (λ text. length text ≤ 2 ^ 24) (map text_of input.files)
+  pub pack : Package
+  pub of : IsPackageOf input.files pack
   pub env : Env
   pub faces : AreInterfaces input.env env
+
+-- An input that a load may be asked for: it can be read, the texts of the package are fit, and the interfaces of others stand in the order of
+-- their paths, of which none is empty or the package's own; among these is each that the package imports.
+pub record IsLawful (input : LoadInput) : Type 0 where
+  pub read : IsReadable input
+  pub source : IsSource input.path input.files
   pub ordered : (j k : ℕ) (x y : Named) → j < k → slice_get input.env j ≡ Some x → slice_get input.env k ≡ Some y → is_before x.0 y.0 ≡ true
+  pub others : (x : Named) → Contains input.env x → (x.0 ≡ [] → ⊥) × (x.0 ≡ input.path → ⊥)
+  pub imports : (path : List ℕ) → ImportsPath source.pack path → (x : Named) × Contains input.env x × (x.0 ≡ path)
 
 -- the outcome texts: `1;` and the export text, or `0;` and the marks text
 abbrev pub accepted_text : List ℕ → List ℕ
