@@ -11,7 +11,7 @@ use Rattle.const_check.specs.Refusals.{AreMarks, IsOrdered}
 use Rattle.const_check.specs.Interfaces.{AreExports}
 use Rattle.action_graph.specs.declared.kit.LoadInput.{LoadInput}
 use Rattle.action_graph.specs.Nodes.{Named}
-use Rattle.action_graph.specs.Judging.{Env, Judges, AreParsed, IsPackageOf, AreInterfaces, IsLawful, IsOutcome, Tells, line_of, text_of}
+use Rattle.action_graph.specs.Judging.{Env, Judges, AreParsed, IsPackageOf, AreInterfaces, IsReadable, IsOutcome, Tells, line_of, text_of}
 use Rattle.action_graph.specs.Judging.Judged.{Accepts, Refuses}
 use Rattle.action_graph.proofs.OneFinding.{package-files}
 use Rattle.const_kit.specs.Reading.{AreFilesOf, IsShort, TellsOf}
@@ -46,17 +46,15 @@ pub fit-files : (files input : List Named) (trees : List FileTree) → files ≡
 fit-files files input trees same h =
     package-files files (package_of files trees) (package-is files trees (subst (λ (x : List Named). AreFilesOf (map text_of x) trees) (sym same) h))
 
--- the files of a lawful load have trees
+-- the files of a load that can be read have trees
 gathered : (texts : List (List ℕ)) (trees : List FileTree) → AreParsed texts trees → ((f : ℕ) (tree : FileTree) → slice_get trees f ≡ Some tree → IsConstantFile tree) → AreFilesOf texts trees
 gathered [] [] h files = tt
 gathered [] (t ∷ ts) h files = absurd h
 gathered (x ∷ xs) [] h files = absurd h
 gathered (x ∷ xs) (t ∷ ts) h files = (record { parsed = h.0; form = files 0 t refl }, gathered xs ts h.1 (λ f tree a. files (suc f) tree a))
 
-pub lawful-files : (input : LoadInput) (law : IsLawful input) → AreFilesOf (map text_of input.files) law.source.pack.trees
-lawful-files input law =
-    let of = law.source.of in
-    subst (λ (x : List Named). AreFilesOf (map text_of x) law.source.pack.trees) of.files (gathered (map text_of law.source.pack.files) law.source.pack.trees of.trees of.form.each)
+pub readable-files : (input : LoadInput) (r : IsReadable input) → AreFilesOf (map text_of input.files) r.pack.trees
+readable-files input r = subst (λ (x : List Named). AreFilesOf (map text_of x) r.pack.trees) r.of.files (gathered (map text_of r.pack.files) r.pack.trees r.of.trees r.of.form.each)
 
 pub few-trees : (files : List Named) (trees : List FileTree) → AreFilesOf (map text_of files) trees → length files < 2 ^ 32 → length trees < 2 ^ 32
 few-trees files trees h few =
@@ -83,11 +81,11 @@ outcome-of input files trees env faces texts path text here same is read at its 
     (subst (λ (xs : List Named). TellsOf input.path (package_of xs trees) faces text) at (subst (λ (q : List ℕ). TellsOf q (package_of files trees) faces text) its told))
 
 pub unread : (input : LoadInput) (files : List Named) (text : List ℕ) → files ≡ input.files
-    → ((trees : List FileTree) → All IsShort (map text_of files) → AreFilesOf (map text_of files) trees → ⊥) → IsLawful input → IsOutcome input text
-unread input files text here none law =
-    absurd (none law.source.pack.trees
-    (subst (λ (xs : List Named). All IsShort (map text_of xs)) (sym here) law.source.short)
-    (subst (λ (xs : List Named). AreFilesOf (map text_of xs) law.source.pack.trees) (sym here) (lawful-files input law)))
+    → ((trees : List FileTree) → All IsShort (map text_of files) → AreFilesOf (map text_of files) trees → ⊥) → IsReadable input → IsOutcome input text
+unread input files text here none r =
+    absurd (none r.pack.trees
+    (subst (λ (xs : List Named). All IsShort (map text_of xs)) (sym here) r.short)
+    (subst (λ (xs : List Named). AreFilesOf (map text_of xs) r.pack.trees) (sym here) (readable-files input r)))
 
 -- what is told of a package that is refused, and of one that isn't
 pub refused-told : (path : List ℕ) (p : Package) (env : Env) (list : List Refusal) (shown : List Refusal) (text : List ℕ) → AreMarks p env list → IsOrdered list → shown ≡ list → (shown ≡ [] → ⊥)

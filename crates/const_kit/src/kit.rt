@@ -1,6 +1,6 @@
 //! The kit of constants.
 ghost use Rattle.std.specs.Prelude.{◌≡◌, ◌+◌, ◌<◌, ◌≤◌, ◌^◌, List, ℕ, map, length, IfOk, OnOk, OnErr};
-ghost use Rattle.action_graph.specs.Judging.{IsLawful, IsOutcome, load_text, text_of};
+ghost use Rattle.action_graph.specs.Judging.{IsLawful, IsReadable, IsOutcome, load_text, text_of};
 ghost use Rattle.const_kit.specs.Reading.{AreFilesOf, HasNoEnv, IsUnread, RefusesUnmarked};
 
 use crate::env::read_env;
@@ -11,7 +11,7 @@ use go_tree::FileTree;
 use gv_base::NoMemory;
 use std::alloc::Global;
 
-/// Loads packages of constants, and counts its loads. It takes any texts. Where a file is too long,
+/// Loads packages of constants, and counts its loads. It takes any texts, and what comes of those that it can read is their outcome. Where a file is too long,
 /// doesn't parse or isn't one of constants, where there are 2^32 files or more, or where an export text spells
 /// no interface of the path beside it, the package is refused with no mark.
 #[derive(Drop)]
@@ -40,7 +40,7 @@ impl ConstKit {
 fn load_trees(alloc: Global, input: &LoadInput, trees: &[FileTree]) -> Result<Load<()>, NoMemory>
     requires files { AreFilesOf (map text_of input.now.files) trees.now }
     requires few { length input.now.files < 2 ^ 32 }
-    ensures right { IsLawful input.now → IfOk result (λ load. IsOutcome input.now (load_text load)) }
+    ensures read { IsReadable input.now → IfOk result (λ load. IsOutcome input.now (load_text load)) }
     ensures unread { HasNoEnv input.now → IfOk result (λ load. RefusesUnmarked (load_text load)) }
 {
     let read = read_env(alloc, input.env.as_slice())?;
@@ -59,7 +59,7 @@ fn load_trees(alloc: Global, input: &LoadInput, trees: &[FileTree]) -> Result<Lo
 
 /// What comes of a package.
 fn load_package(alloc: Global, input: &LoadInput) -> Result<Load<()>, NoMemory>
-    ensures right { IsLawful input.now → IfOk result (λ load. IsOutcome input.now (load_text load)) }
+    ensures read { IsReadable input.now → IfOk result (λ load. IsOutcome input.now (load_text load)) }
     ensures unread { IsUnread input.now → IfOk result (λ load. RefusesUnmarked (load_text load)) }
 {
     let files = input.files.as_slice();
@@ -90,6 +90,7 @@ impl Kit for ConstKit {
     fn load(&mut self, input: &LoadInput) -> Result<Load<()>, NoMemory>
         requires { self.old.loads < 2 ^ 63 }
         ensures right { IsLawful input.now → IfOk result (λ load. IsOutcome input.now (load_text load)) }
+        ensures read { IsReadable input.now → IfOk result (λ load. IsOutcome input.now (load_text load)) }
         ensures unread { IsUnread input.now → IfOk result (λ load. RefusesUnmarked (load_text load)) }
         ensures counted { OnOk result (self.new.loads ≡ self.old.loads + 1) }
         ensures refused { OnErr result (self.new.loads ≡ self.old.loads) }

@@ -2,6 +2,6 @@ use Rattle.action_graph.specs.Judging.{load_text}
 use Rattle.const_kit.proofs.LoadLemmas.{unread}
 use Rattle.const_kit.proofs.kit.load_package.Goals as goal
 
-pub returns-in_ok-load-in-None-clause-right : goal.returns-in_ok-load-in-None-clause-right
-returns-in_ok-load-in-None-clause-right c =
+pub returns-in_ok-load-in-None-clause-read : goal.returns-in_ok-load-in-None-clause-read
+returns-in_ok-load-in-None-clause-read c =
     unread c.args.input.now c.as_slice-files.result.now (load_text c.in_ok-load-in-None.load) c.as_slice-files.ensures (rw c.in-None.is at c.in_ok-read.ensures)
