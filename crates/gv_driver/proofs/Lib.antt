@@ -9,3 +9,4 @@ mod ReportLaws
 pub mod RunLaws
 pub mod OnceLaws
 mod PerformLaws
+pub mod ExistenceLaws

@@ -1,5 +1,7 @@
 -- A package has one finding, and a load one input.
 use Rattle.std.proofs.Common.{◌≡◌, ℕ, ◌<◌, ◌+◌, ◌⊎◌, inl, inr, true, false, Option, Some, List, [], ◌∷◌, ◌++◌, length, slice_get, refl, sym, ap, ◌∙◌, subst, arith, zero, suc}
+use Rattle.std.specs.List.{Contains}
+use Rattle.std.proofs.lemmas.Bool.{cases_lt}
 use Rattle.std.proofs.lemmas.Option.{same_Some, slice_get_within}
 use Rattle.gv_base.specs.Files.{is_before}
 use Rattle.gv_base.proofs.FileLemmas.{before-flip}
@@ -7,16 +9,16 @@ use Rattle.export_data.specs.declared.constants.ConstInterface.{ConstInterface}
 use Rattle.export_data.specs.Spelling.{IsSpelled, interface}
 use Rattle.action_graph.specs.declared.kit.LoadInput.{LoadInput}
 use Rattle.action_graph.specs.Nodes.{Named, pairs, load_texts}
-use Rattle.action_graph.specs.Judging.{Judged, Env, Judges, AreInterfaces, IsOutcome, IsLawful, IsSource, Tells}
+use Rattle.action_graph.specs.Judging.{Judged, Env, Judges, AreInterfaces, ImportsPath, IsOutcome, IsLawful, IsSource, Tells}
 use Rattle.action_graph.specs.Judging.Judged.{Accepts}
 use Rattle.action_graph.proofs.JudgingLaws.{judges_once, same_accepts, accepts_path, one_face}
 use Rattle.fact_cache.specs.declared.texts.Input.{Input}
 use Rattle.gv_driver.specs.declared.tree.PackageTexts.{PackageTexts}
-use Rattle.gv_driver.specs.Trees.{IsTree}
+use Rattle.gv_driver.specs.Trees.{Imports, IsTree}
 use Rattle.gv_driver.specs.Whole.{Checked}
 use Rattle.gv_driver.specs.Whole.Checked.{checked}
-use Rattle.gv_driver.specs.Loads.{AreExports, IsLoadOf, IsInput, IsPlan}
-use Rattle.gv_driver.proofs.Places.{element, same-list, same-options}
+use Rattle.gv_driver.specs.Loads.{AreExports, IsExport, IsLoadOf, IsInput, IsPlan}
+use Rattle.gv_driver.proofs.Places.{at-contained, contains-at, element, same-list, same-options}
 
 pub same_pack : (tree : List PackageTexts) (p : ℕ) (a b : PackageTexts) → slice_get tree p ≡ Some a → slice_get tree p ≡ Some b → a ≡ b
 same_pack tree p a b e f = same_Some a b (sym e ∙ f)
@@ -139,16 +141,54 @@ collect (x ∷ xs) h =
     let more = collect xs (λ k y e. h (suc k) y e) in
     (one.0 ∷ more.0, (one.1, one.2, more.1))
 
+-- of which package something comes is sound
+sound-one : (tree : List PackageTexts) (p : ℕ) (v : Judged) → Checked tree p v → (pack : PackageTexts) × (slice_get tree p ≡ Some pack) × (pack.sound ≡ true)
+sound-one tree _ _ (checked p pack env v at sound size each judges) = (pack, at, sound)
+
+-- and doesn't import itself
+no-circle : (tree : List PackageTexts) (p : ℕ) (v : Judged) → Checked tree p v → Imports tree p p → ⊥
+no-circle tree _ _ (checked p pack env v at sound size each judges) (other, there, has) =
+    let c : Contains pack.imports p = subst (λ (x : PackageTexts). Contains x.imports p) (same_pack tree p other pack there at) has in
+    let low : c.0 < length pack.imports = c.1 in
+    let i = element env c.0 (omega (arith, low, size)) in
+    no-circle tree p (Accepts i.0) (each c.0 p i.0 (at-contained pack.imports p c) i.1) (other, there, has)
+
+not-before-itself : (p q : List ℕ) → p ≡ q → is_before p q ≡ true → ⊥
+not-before-itself p q e h =
+    let here : is_before q q ≡ true = subst (λ (x : List ℕ). is_before x q ≡ true) e h in
+    let flipped : is_before q q ≡ false = before-flip q q here in cc
+
+less-or : (p q : ℕ) → (p < q) ⊎ (q < p + 1)
+less-or p q = grind arith
+
+below-or : (q p : ℕ) → q < p + 1 → (q < p) ⊎ (q ≡ p)
+below-or q p h = grind arith
+
+-- packages of one path are one
+pub same-number : (tree : List PackageTexts) (p q : ℕ) (a b : PackageTexts) → IsTree tree → slice_get tree p ≡ Some a → slice_get tree q ≡ Some b → a.path ≡ b.path → p ≡ q
+same-number tree p q a b formed at_a at_b e = elim (less-or p q) [
+  | inl l ↦ absurd (not-before-itself a.path b.path e (formed.ordered p q a b l at_a at_b))
+  | inr h ↦ elim (below-or q p h) [
+    | inl l ↦ absurd (not-before-itself b.path a.path (sym e) (formed.ordered q p b a l at_b at_a))
+    | inr s ↦ sym s
+  ]
+]
+
 -- the input of a load is lawful
 pub load-lawful : (tree : List PackageTexts) (p : ℕ) (load : LoadInput) → IsTree tree → IsLoadOf tree p load → IsLawful load
 load-lawful tree p load formed is =
     let faces = collect load.env spelled-at in
-    record {
-      source = subst (λ (l : List Named). IsSource load.path l) (sym is.files) (subst (λ (l : List ℕ). IsSource l is.pack.files) (sym is.path) (formed.source p is.pack is.at is.sound));
-      env = faces.0;
-      faces = faces.1;
+    let made : LoadInput = record { path = is.pack.path; files = is.pack.files; env = load.env } in
+    let same : made ≡ load =
+    ap (λ (l : List ℕ). record { path = l; files = is.pack.files; env = load.env }) (sym is.path) ∙ ap (λ (l : List Named). record { path = load.path; files = l; env = load.env }) (sym is.files) in
+    let source = formed.source p is.pack is.at is.sound in
+    subst IsLawful same (record {
+      read = record { few = source.few; short = source.short; pack = source.pack; of = source.of; env = faces.0; faces = faces.1 };
+      source = source;
       ordered = λ j k x y l a b. in-order j k x y l a b;
-    }
+      others = λ x has. (has-path x has, apart x has);
+      imports = λ path imported. has-text path imported;
+    })
   where
     import-at : (k : ℕ) (x : Named) → slice_get load.env k ≡ Some x → (q : ℕ) × (slice_get is.pack.imports k ≡ Some q)
     import-at k x e =
@@ -172,23 +212,34 @@ load-lawful tree p load formed is =
         subst (λ (z : List ℕ). is_before z y.0 ≡ true) (sym ex.path)
         (subst (λ (z : List ℕ). is_before ex.other.path z ≡ true) (sym ey.path) (formed.ordered q.0 r.0 ex.other ey.other less ex.at ey.at))
 
-not-before-itself : (p q : List ℕ) → p ≡ q → is_before p q ≡ true → ⊥
-not-before-itself p q e h =
-    let here : is_before q q ≡ true = subst (λ (x : List ℕ). is_before x q ≡ true) e h in
-    let flipped : is_before q q ≡ false = before-flip q q here in cc
+    -- whose text it is
+    text-of : (x : Named) (has : Contains load.env x) → (q : ℕ) × (slice_get is.pack.imports has.0 ≡ Some q) × IsExport tree q x
+    text-of x has =
+        let at = at-contained load.env x has in
+        let q = import-at has.0 x at in
+        (q.0, q.1, is.env.each has.0 q.0 x q.1 at)
 
-less-or : (p q : ℕ) → (p < q) ⊎ (q < p + 1)
-less-or p q = grind arith
+    has-path : (x : Named) → Contains load.env x → x.0 ≡ [] → ⊥
+    has-path x has e =
+        let t = text-of x has in
+        let good = sound-one tree t.0 (Accepts t.2.face) t.2.good in
+        (formed.source t.0 good.0 good.1 good.2).has_path
+        (ap (λ (z : PackageTexts). z.path) (same_pack tree t.0 good.0 t.2.other good.1 t.2.at) ∙ (sym t.2.path ∙ e))
 
-below-or : (q p : ℕ) → q < p + 1 → (q < p) ⊎ (q ≡ p)
-below-or q p h = grind arith
+    apart : (x : Named) → Contains load.env x → x.0 ≡ is.pack.path → ⊥
+    apart x has e =
+        let t = text-of x has in
+        let same : t.2.other.path ≡ is.pack.path = sym t.2.path ∙ e in
+        let one : t.0 ≡ p = same-number tree t.0 p t.2.other is.pack formed t.2.at is.at same in
+        no-circle tree t.0 (Accepts t.2.face) t.2.good (is.pack, subst (λ (n : ℕ). slice_get tree n ≡ Some is.pack) (sym one) is.at, contains-at is.pack.imports has.0 t.0 t.1)
 
--- packages of one path are one
-pub same-number : (tree : List PackageTexts) (p q : ℕ) (a b : PackageTexts) → IsTree tree → slice_get tree p ≡ Some a → slice_get tree q ≡ Some b → a.path ≡ b.path → p ≡ q
-same-number tree p q a b formed at_a at_b e = elim (less-or p q) [
-  | inl l ↦ absurd (not-before-itself a.path b.path e (formed.ordered p q a b l at_a at_b))
-  | inr h ↦ elim (below-or q p h) [
-    | inl l ↦ absurd (not-before-itself b.path a.path (sym e) (formed.ordered q p b a l at_b at_a))
-    | inr s ↦ sym s
-  ]
-]
+    has-text : (path : List ℕ) → ImportsPath (formed.source p is.pack is.at is.sound).pack path → (x : Named) × Contains load.env x × (x.0 ≡ path)
+    has-text path imported =
+        let source = formed.source p is.pack is.at is.sound in
+        let found = formed.imports p is.pack source.pack path is.at is.sound source.of imported in
+        let here = at-contained is.pack.imports found.0 found.2 in
+        let size : length load.env ≡ length is.pack.imports = is.env.size in
+        let low : found.2.0 < length is.pack.imports = found.2.1 in
+        let x = element load.env found.2.0 (omega (arith, size, low)) in
+        let ex = is.env.each found.2.0 found.0 x.0 here x.1 in
+        (x.0, contains-at load.env found.2.0 x.0 x.1, ex.path ∙ (ap (λ (z : PackageTexts). z.path) (same_pack tree found.0 ex.other found.1 ex.at found.3) ∙ found.4))

@@ -6,3 +6,4 @@ pub mod Tables
 pub mod Standing
 pub mod Reports
 pub mod Runs
+pub mod Existence

@@ -5,8 +5,10 @@ ghost use Rattle.fact_cache.specs.declared.texts.Input.{Input};
 ghost use Rattle.gv_driver.specs.declared.reply.Verdict.{Verdict};
 ghost use Rattle.gv_driver.specs.declared.tree.PackageTexts.{PackageTexts};
 ghost use Rattle.gv_driver.specs.Caches.{IsCacheAfter, IsHonest};
+ghost use Rattle.gv_driver.specs.Existence.{AllHaveOutcomes, HasRun};
 ghost use Rattle.gv_driver.specs.Loads.{IsPlan};
 ghost use Rattle.gv_driver.specs.Reports.{IsReport};
+ghost use Rattle.gv_driver.specs.Trees.{IsTree};
 
 /// A tree has one plan.
 pub fn one_plan()
@@ -22,4 +24,9 @@ pub fn one_report()
 pub fn one_cache()
     ensures one { (before a b : List Entry) (inputs : List (Option Input)) → IsCacheAfter before a inputs → IsCacheAfter before b inputs → a ≡ b }
     ensures honest { (before after : List Entry) (inputs : List (Option Input)) → IsHonest before → IsCacheAfter before after inputs → IsHonest after }
+{}
+
+/// Where no lawful load is without an outcome, no tree is without verdicts, inputs of its loads, and a cache that a run leaves.
+pub fn a_tree_has_a_report()
+    ensures { AllHaveOutcomes → (tree : List PackageTexts) → IsTree tree → (before : List Entry) → HasRun tree before }
 {}
