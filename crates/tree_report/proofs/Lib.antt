@@ -3,7 +3,9 @@ pub mod ReadLemmas
 pub mod LineLemmas
 pub mod OnceLemmas
 pub mod SourceLemmas
+pub mod HeadLemmas
 pub mod TreeLemmas
 pub mod OrderLemmas
 pub mod StandLemmas
 pub mod StopLemmas
+pub mod ExistenceLemmas

@@ -3,3 +3,4 @@ pub mod Form
 pub mod Lines
 pub mod Reports
 pub mod Formed
+pub mod Existence

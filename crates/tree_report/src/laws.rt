@@ -1,15 +1,18 @@
 //! What follows from the definitions alone. The bodies are empty: the contracts are the laws.
 ghost use Rattle.std.specs.Prelude.{◌≡◌, List, [], true, false};
-ghost use Rattle.gv_base.specs.Files.{Entry};
+ghost use Rattle.gv_base.specs.Files.{AreInOrder, Entry};
 ghost use Rattle.typed_tree.specs.RuleTexts.{rule_text, limit_text};
 ghost use Rattle.typed_tree.specs.declared.rule.Limit.{Limit};
 ghost use Rattle.typed_tree.specs.declared.rule.Rule.{Rule};
 ghost use Rattle.const_check.specs.Refusals.{limit_number};
 ghost use Rattle.fact_cache.specs.declared.list.Entry.{Entry as Kept};
+ghost use Rattle.tree_report.specs.Existence.{AllHaveOutcomes, HasReport};
 ghost use Rattle.tree_report.specs.Form.{IsBuilt};
 ghost use Rattle.tree_report.specs.Lines.{mark_text};
 ghost use Rattle.tree_report.specs.Reports.{IsHonest, Reports};
 ghost use Rattle.tree_report.specs.declared.print.TreeReport.{TreeReport};
+
+use gv_driver::a_tree_has_a_report;
 
 /// Over one cache a tree has one report and leaves one cache, and from an honest one an honest one; a cache without
 /// entries is honest. A tree that has a report is built.
@@ -26,3 +29,10 @@ pub fn each_mark_has_its_text()
     ensures rule { (rule : Rule) → mark_text false rule.0 ≡ rule_text rule }
     ensures limit { (limit : Limit) → mark_text true (limit_number limit) ≡ limit_text limit }
 {}
+
+/// Where no lawful load is without an outcome, no tree that is built is without a report, over any cache.
+pub fn a_built_tree_has_a_report()
+    ensures { AllHaveOutcomes → (tree : List Entry) → AreInOrder tree → (before : List Kept) → HasReport tree before }
+{
+    a_tree_has_a_report();
+}

@@ -14,7 +14,7 @@ mod run;
 mod states;
 mod texts;
 
-pub use laws::{each_mark_has_its_text, one_report_of_a_tree};
+pub use laws::{a_built_tree_has_a_report, each_mark_has_its_text, one_report_of_a_tree};
 pub use print::TreeReport;
 pub use run::{Answer, report_on};
 

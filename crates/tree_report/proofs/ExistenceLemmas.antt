@@ -1,0 +1,51 @@
+-- Where no lawful load is without an outcome, no tree that is built is without a report.
+use Rattle.std.proofs.Common.{◌≡◌, ℕ, List, Option, map, length, refl, sum_by}
+use Rattle.gv_base.specs.Files.{Entry, AreInOrder}
+use Rattle.analysis_core.specs.declared.reply.Counts.{Counts}
+use Rattle.analysis_core.specs.declared.reply.Reply.{Reply}
+use Rattle.analysis_core.specs.Replies.{is_found, reply_text}
+use Rattle.fact_cache.specs.declared.list.Entry.{Entry as Kept}
+use Rattle.gv_driver.specs.declared.tree.PackageTexts.{PackageTexts}
+use Rattle.gv_driver.specs.Trees.{IsTree}
+use Rattle.gv_driver.specs.Caches.{missing_of}
+use Rattle.gv_driver.specs.Runs.{some_in}
+use Rattle.gv_driver.specs.Existence.{AllHaveOutcomes, HasRun}
+use Rattle.tree_report.specs.Existence.{HasReport}
+use Rattle.tree_report.specs.Lines.{error_lines}
+use Rattle.tree_report.specs.Reports.{Reports, texts_of}
+use Rattle.tree_report.proofs.TreeLemmas.{is-tree}
+
+-- what comes of the packages of a tree comes of each
+abbrev pub EachHasRun : Type 0
+EachHasRun = AllHaveOutcomes → (tree : List PackageTexts) → IsTree tree → (before : List Kept) → HasRun tree before
+
+pub report-exists : EachHasRun → AllHaveOutcomes → (tree : List Entry) → AreInOrder tree → (before : List Kept) → HasReport tree before
+report-exists runs outcomes tree ordered before built none =
+    let verdicts = built.0 in
+    let heads = built.1.0 in
+    let packages = built.1.1.0 in
+    let form = built.1.1.1 in
+    runs outcomes (map (texts_of tree) packages) (is-tree tree verdicts heads packages ordered form) before (λ found inputs after is plan cache.
+    let counts : Counts = record { nodes = sum_by some_in inputs; missing = length (missing_of before inputs); loads = length (missing_of before inputs); runs = 0 } in
+    let reply : Reply = record { packages = length packages; errors = error_lines heads verdicts packages found; counts = counts } in
+    none after (record { text = reply_text tree reply; found = is_found reply; counts = counts }) (record {
+      verdicts = verdicts;
+      heads = heads;
+      packages = packages;
+      form = form;
+      outcomes = found;
+      outcome = is;
+      inputs = inputs;
+      plan = plan;
+      cache = cache;
+      reply = reply;
+      size = refl;
+      errors = refl;
+      nodes = refl;
+      missing = refl;
+      loads = refl;
+      runs = refl;
+      text = refl;
+      found = refl;
+      counts = refl;
+    }))
