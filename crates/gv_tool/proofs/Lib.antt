@@ -12,4 +12,5 @@ pub mod Course
 pub mod PrefixLaws
 pub mod DueLaws
 pub mod OutputLaws
+pub mod ExistenceLaws
 pub mod HeadlineLaws

@@ -5,6 +5,7 @@ use Rattle.fact_cache.specs.declared.list.Entry.{Entry as Kept}
 pub use Rattle.tree_report.specs.declared.print.TreeReport.{TreeReport}
 pub use Rattle.tree_report.specs.Form.{IsBuilt}
 pub use Rattle.tree_report.specs.Reports.{IsHonest, Reports}
+pub use Rattle.tree_report.specs.Existence.{AllHaveOutcomes, HasReport}
 
 abbrev pub Tree : Type 0
 Tree = List Entry

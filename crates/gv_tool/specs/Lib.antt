@@ -10,3 +10,4 @@ pub mod Desk
 pub mod Outcome
 pub mod Turn
 pub mod Headline
+pub mod Existence
