@@ -2,4 +2,7 @@ mod AroundLemmas
 mod RowLemmas
 mod SearchLemmas
 mod GraphLemmas
-mod LawLemmas
+pub mod LawLemmas
+mod PassingLemmas
+mod CutLemmas
+mod MentionLemmas

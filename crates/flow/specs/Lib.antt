@@ -3,3 +3,4 @@ pub mod Edges
 pub mod Around
 pub mod Flow
 pub mod Search
+pub mod Passing

@@ -1,9 +1,11 @@
 -- How far a search has come.
-use Rattle.std.specs.Prelude.{ℕ, suc, ◌≡◌, ◌⊎◌, ◌<◌, ◌≤◌, ◌+◌, ◌↔◌, Bool, true, false, List, [], ◌∷◌, ◌++◌, length, get_or, slice_index_or, cond, nat_eq, Option}
+use Rattle.std.specs.Prelude.{ℕ, suc, ◌≡◌, ◌⊎◌, ◌<◌, ◌≤◌, ◌+◌, ◌/◌, ◌%◌, ◌==◌, ◌↔◌, Bool, true, false, List, [], ◌∷◌, ◌++◌, length, get_or, slice_index_or, cond, nat_eq, Option, Some, None}
 use Rattle.std.specs.List.{Contains}
 use Rattle.std.specs.HashSet.{HashSet, contains_by}
 use Rattle.go_tree.specs.declared.tree.FileTree.{FileTree}
-use Rattle.flow.specs.Flow.{Reached, Leads, is_stopped}
+use Rattle.flow.specs.declared.point.Call.{Call}
+use Rattle.flow.specs.declared.point.Call.TheVariants as c
+use Rattle.flow.specs.Flow.{Reached, Leads, is_stopped, call_at}
 
 -- the targets of a point
 abbrev pub row_at : List (List ℕ) → ℕ → List ℕ
@@ -57,3 +59,22 @@ pub record IsSearch (targets : ℕ → List ℕ) (start : ℕ) (seen : ℕ → B
   pub marked : (q : ℕ) → Contains found q → seen q ≡ true
   pub sound : (q : ℕ) → Contains found q → Reached (λ p r. Contains (targets p) r) start q
   pub settled : (k q : ℕ) → k < next → k < length found → Contains (targets (get_or found k 0)) q → seen q ≡ true
+
+-- the function that is called, if it is one of those that have a number
+abbrev pub function_of : Call → Option ℕ
+function_of c.Passes = None
+function_of c.Stops = None
+function_of (c.Function f) = Some f
+
+-- the function that the statement behind a point calls
+abbrev pub called_at : List Call → ℕ → Option ℕ
+called_at calls p = cond (p % 2 == 0) (function_of (call_at calls (p / 2))) None
+
+abbrev pub with_one : List ℕ → Option ℕ → List ℕ
+with_one found None = found
+with_one found (Some f) = found ++ f ∷ []
+
+-- what is called behind the first few points
+pub record AreCalled (calls : List Call) (points : List ℕ) (few : ℕ) (found : List ℕ) : Type 0 where
+  pub each : (f : ℕ) → Contains found f → (p : ℕ) × Contains points p × (called_at calls p ≡ Some f)
+  pub every : (i f : ℕ) → i < few → called_at calls (get_or points i 0) ≡ Some f → Contains found f

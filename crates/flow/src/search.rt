@@ -87,7 +87,7 @@ fn stops_by(members: &[bool], call: Call) -> bool
     }
 }
 
-fn call_at(calls: &[Call], n: usize) -> Call
+pub(crate) fn call_at(calls: &[Call], n: usize) -> Call
     ensures { result ≡ call_at calls.now n }
 {
     if n < calls.len() {

@@ -73,7 +73,7 @@ fn labeled_target(tree: &FileTree, kind: NodeKind, l: u32) -> Option<usize>
     None
 }
 
-fn label_at(labels: &[Option<u32>], j: u32) -> Option<u32>
+pub(crate) fn label_at(labels: &[Option<u32>], j: u32) -> Option<u32>
     ensures { result ≡ label_at labels.now j }
 {
     if (j as usize) < labels.len() {

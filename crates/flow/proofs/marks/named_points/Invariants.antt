@@ -1,0 +1,6 @@
+use Rattle.std.proofs.Common.{◌≤◌, ◌*◌, length}
+use Rattle.flow.specs.Passing.{AreMarked, Names}
+use Rattle.flow.proofs.marks.named_points.Given as goal
+
+abbrev pub invariant-loop-n : goal.invariant-loop-n
+invariant-loop-n l = AreMarked (Names l.tree l.labels) l.n (2 * length l.tree.nodes) l.marks.items
