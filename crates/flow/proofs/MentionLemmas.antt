@@ -9,9 +9,9 @@ use Rattle.flow.specs.declared.point.Call.{Call}
 use Rattle.flow.specs.declared.point.Call.TheVariants as c
 use Rattle.flow.specs.Edges.{before}
 use Rattle.flow.specs.Flow.{Leads, Flow, Reached, Mentions, call_at, stops_by, stops_of, is_stopped}
-use Rattle.flow.specs.Search.{IsGraph, targets_from, function_of, called_at, with_one, AreCalled}
+use Rattle.flow.specs.Search.{IsGraph, StepsBy, MentionsBy, targets_from, function_of, called_at, with_one, AreCalled}
 use Rattle.flow.proofs.AroundLemmas.{either, same_some}
-use Rattle.flow.proofs.SearchLemmas.{no_truth, by_bool, reached_so, flow_by, target_by}
+use Rattle.flow.proofs.SearchLemmas.{no_truth, by_bool, reached_so, flow_by, target_by, stops_or, to_target}
 
 pub none_called : (calls : List Call) (points found : List ℕ) → found ≡ [] → AreCalled calls points 0 found
 none_called calls points found is = record {
@@ -101,6 +101,29 @@ mentions_are tree labels rows calls members body start points found graph at rea
         (reached_so (Leads tree labels) (λ p r. Contains (targets_from rows (stops_of [] members) p) r) start
         (λ p q l. target_by tree labels (stops_of [] members) rows graph p q (never_stopped members p, l))
         (subst (λ s. Reached (Leads tree labels) s (before m.0)) (sym at) m.1)),
+    before_called calls m.0 f m.2,
+  ),
+)
+
+-- the same by the rows alone
+pub mentions_by : (rows : List (List ℕ)) (calls : List Call) (members : ℕ → Bool) (body start : ℕ) (points found : List ℕ) → start ≡ before body
+    → ((q : ℕ) → Contains points q ↔ Reached (λ p r. Contains (targets_from rows (stops_of [] members) p) r) start q)
+    → ((f : ℕ) → Contains found f ↔ ((p : ℕ) × Contains points p × (called_at calls p ≡ Some f)))
+    → (f : ℕ) → Contains found f ↔ MentionsBy rows calls body f
+mentions_by rows calls members body start points found at reached has f = (
+  λ w. let p = (has f).0 w in
+      let b = called_before calls p.0 f p.2 in
+      let way : Reached (StepsBy rows) (before body) p.0 =
+      subst (λ s. Reached (StepsBy rows) s p.0) at
+      (reached_so (λ p r. Contains (targets_from rows (stops_of [] members) p) r) (StepsBy rows) start
+      (λ p q c. (stops_or rows (stops_of [] members) p q c).1) ((reached p.0).0 p.1)) in
+      (p.0 / 2, subst (λ k. Reached (StepsBy rows) (before body) k) b.0 way, b.1),
+  λ m. (has f).1 (
+    before m.0,
+    (reached (before m.0)).1
+        (reached_so (StepsBy rows) (λ p r. Contains (targets_from rows (stops_of [] members) p) r) start
+        (λ p q l. to_target rows (stops_of [] members) p q (never_stopped members p, l))
+        (subst (λ s. Reached (StepsBy rows) s (before m.0)) (sym at) m.1)),
     before_called calls m.0 f m.2,
   ),
 )

@@ -10,7 +10,7 @@ use Rattle.go_tree.specs.declared.tree.FileTree.{FileTree}
 use Rattle.flow.specs.Edges.{before}
 use Rattle.flow.specs.Flow.{Reached, Flow, NeverReturns, is_stopped, is_exit}
 use Rattle.flow.specs.Flow.Reached.{here, further}
-use Rattle.flow.specs.Search.{row_at, IsGraph, targets_from, IsVisited, unseen, all_unseen, IsFollowed, IsSearch}
+use Rattle.flow.specs.Search.{row_at, IsGraph, targets_from, FlowBy, NeverBy, IsVisited, unseen, all_unseen, IsFollowed, IsSearch}
 use Rattle.flow.proofs.AroundLemmas.{either}
 
 pub no_truth : {C : Type 0} → false ≡ true → C
@@ -271,7 +271,7 @@ pub reached_so : (S T : ℕ → ℕ → Type 0) (start : ℕ) → ((p q : ℕ) �
 reached_so S T start h here = here
 reached_so S T start h (further {p = p} {q = q} r s) = further (reached_so S T start h r) (h p q s)
 
-stops_or : (rows : List (List ℕ)) (stops : ℕ → Bool) (p q : ℕ) → Contains (targets_from rows stops p) q → (is_stopped stops p ≡ false) × Contains (row_at rows p) q
+pub stops_or : (rows : List (List ℕ)) (stops : ℕ → Bool) (p q : ℕ) → Contains (targets_from rows stops p) q → (is_stopped stops p ≡ false) × Contains (row_at rows p) q
 stops_or rows stops p q c = by_bool (is_stopped stops p)
     (λ is. absurd (let nothing = subst (λ l. Contains l q) (taken (is_stopped stops p) [] (row_at rows p) is) c in omega (arith, nothing.1)))
     (λ goes. (goes, subst (λ l. Contains l q) (left_out (is_stopped stops p) [] (row_at rows p) goes) c))
@@ -303,6 +303,30 @@ decided tree labels stops rows body found start false graph at marked is = (
     p,
     (marked p).1 (reached_so (Flow tree labels stops) (λ p r. Contains (targets_from rows stops p) r) start (target_by tree labels stops rows graph)
         (subst (λ k. Reached (Flow tree labels stops) k p) (sym at) r)),
+    exit,
+  )),
+  λ never. refl,
+)
+
+pub to_target : (rows : List (List ℕ)) (stops : ℕ → Bool) (p q : ℕ) → FlowBy rows stops p q → Contains (targets_from rows stops p) q
+to_target rows stops p q f = subst (λ l. Contains l q) (sym (left_out (is_stopped stops p) [] (row_at rows p) f.0)) f.1
+
+-- what a search decides, by the rows alone
+pub decided_by : (tree : FileTree) (stops : ℕ → Bool) (rows : List (List ℕ)) (body : ℕ) (found : List ℕ) (start : ℕ) (some : Bool) → start ≡ before body
+    → ((q : ℕ) → Contains found q ↔ Reached (λ p r. Contains (targets_from rows stops p) r) start q)
+    → ((some ≡ true) ↔ ((p : ℕ) × Contains found p × (is_exit tree body p ≡ true)))
+    → IsTrue (not some) ↔ NeverBy tree rows stops body
+decided_by tree stops rows body found start true at marked is = (
+  λ t. no_truth t,
+  λ never. absurd (let w = is.0 refl in never w.0 w.2
+      (subst (λ k. Reached (FlowBy rows stops) k w.0) at
+      (reached_so (λ p r. Contains (targets_from rows stops p) r) (FlowBy rows stops) start (stops_or rows stops) ((marked w.0).0 w.1)))),
+)
+decided_by tree stops rows body found start false at marked is = (
+  λ t p exit r. no_truth (is.1 (
+    p,
+    (marked p).1 (reached_so (FlowBy rows stops) (λ p r. Contains (targets_from rows stops p) r) start (to_target rows stops)
+        (subst (λ k. Reached (FlowBy rows stops) k p) (sym at) r)),
     exit,
   )),
   λ never. refl,

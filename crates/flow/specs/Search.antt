@@ -5,7 +5,8 @@ use Rattle.std.specs.HashSet.{HashSet, contains_by}
 use Rattle.go_tree.specs.declared.tree.FileTree.{FileTree}
 use Rattle.flow.specs.declared.point.Call.{Call}
 use Rattle.flow.specs.declared.point.Call.TheVariants as c
-use Rattle.flow.specs.Flow.{Reached, Leads, is_stopped, call_at}
+use Rattle.flow.specs.Edges.{before}
+use Rattle.flow.specs.Flow.{Reached, Leads, is_stopped, call_at, is_exit}
 
 -- the targets of a point
 abbrev pub row_at : List (List ℕ) → ℕ → List ℕ
@@ -78,3 +79,17 @@ with_one found (Some f) = found ++ f ∷ []
 pub record AreCalled (calls : List Call) (points : List ℕ) (few : ℕ) (found : List ℕ) : Type 0 where
   pub each : (f : ℕ) → Contains found f → (p : ℕ) × Contains points p × (called_at calls p ≡ Some f)
   pub every : (i f : ℕ) → i < few → called_at calls (get_or points i 0) ≡ Some f → Contains found f
+
+-- the same as definitions of flow, of a graph's rows in place of a tree's statements
+
+-- control may pass from one point to another
+abbrev pub FlowBy : List (List ℕ) → (ℕ → Bool) → ℕ → ℕ → Type 0
+FlowBy rows stops p q = (is_stopped stops p ≡ false) × StepsBy rows p q
+
+-- neither a return nor the end is reached from the start of the body
+abbrev pub NeverBy : FileTree → List (List ℕ) → (ℕ → Bool) → ℕ → Type 0
+NeverBy tree rows stops body = (p : ℕ) → is_exit tree body p ≡ true → Reached (FlowBy rows stops) (before body) p → ⊥
+
+-- the function of this number is called by a statement to which the body's control leads where no call stops it
+abbrev pub MentionsBy : List (List ℕ) → List Call → ℕ → ℕ → Type 0
+MentionsBy rows calls body f = (n : ℕ) × Reached (StepsBy rows) (before body) (before n) × (call_at calls n ≡ c.Function f)

@@ -2,7 +2,7 @@
 ghost use Rattle.std.specs.Prelude.{◌≡◌, ◌↔◌, ℕ, List, Option, Some, IfOk, OnOk, Contains};
 ghost use Rattle.flow.specs.Flow.{Mentions};
 ghost use Rattle.go_tree.specs.declared.tree.FileTree.{FileTree};
-ghost use Rattle.flow.specs.Search.{IsGraph, function_of, called_at, with_one};
+ghost use Rattle.flow.specs.Search.{IsGraph, function_of, called_at, with_one, MentionsBy};
 
 use crate::edges::before;
 use crate::graph::Graph;
@@ -61,7 +61,8 @@ pub fn mentioned(
     calls: &[Call],
     body: u32,
 ) -> Result<Vec<u32>, NoMemory>
-    ensures { IfOk result (λ found. (tree : FileTree) (labels : List (Option ℕ)) → IsGraph tree labels graph.now → (f : ℕ) → Contains found.items f ↔ Mentions tree labels calls.now body f) }
+    ensures rows { IfOk result (λ found. (f : ℕ) → Contains found.items f ↔ MentionsBy graph.now calls.now body f) }
+    ensures graph { IfOk result (λ found. (tree : FileTree) (labels : List (Option ℕ)) → IsGraph tree labels graph.now → (f : ℕ) → Contains found.items f ↔ Mentions tree labels calls.now body f) }
 {
     let points = reach(alloc, graph.rows(), &[], &[], before(body))?;
     let found = called(alloc, calls, &points)?;

@@ -1,7 +1,7 @@
 //! Whether a body never returns.
 ghost use Rattle.std.specs.Prelude.{◌≡◌, ◌↔◌, ℕ, List, Option, true, IsTrue, IfOk, slice_get, slice_index_or, false, option_map, Contains};
 ghost use Rattle.flow.specs.Flow.{is_return, returns_at, is_before_return, is_exit, NeverReturns, stops_of};
-ghost use Rattle.flow.specs.Search.{IsGraph};
+ghost use Rattle.flow.specs.Search.{IsGraph, NeverBy};
 
 use crate::edges::{after, before};
 use crate::graph::Graph;
@@ -61,7 +61,8 @@ pub fn never_returns(
     members: &[bool],
     body: u32,
 ) -> Result<bool, NoMemory>
-    ensures { IfOk result (λ never. (labels : List (Option ℕ)) → IsGraph tree.now labels graph.now → IsTrue never ↔ NeverReturns tree.now labels (stops_of calls.now (λ f. slice_index_or members.now f false)) body) }
+    ensures rows { IfOk result (λ never. IsTrue never ↔ NeverBy tree.now graph.now (stops_of calls.now (λ f. slice_index_or members.now f false)) body) }
+    ensures graph { IfOk result (λ never. (labels : List (Option ℕ)) → IsGraph tree.now labels graph.now → IsTrue never ↔ NeverReturns tree.now labels (stops_of calls.now (λ f. slice_index_or members.now f false)) body) }
 {
     let found = reach(alloc, graph.rows(), calls, members, before(body))?;
     Ok(!some_exit(tree, body, &found))
