@@ -10,10 +10,10 @@ use Rattle.least.specs.Staged.{IsLocal}
 use Rattle.least.specs.Tables.{Member, home}
 use Rattle.never_returns.specs.Admits.{Callee, Other, Panic, Named, stops, Body, Admits, Calls, SeeTheirCallees}
 
-no_truth : {C : Type 0} → false ≡ true → C
+pub no_truth : {C : Type 0} → false ≡ true → C
 no_truth e = absurd cc
 
-by_bool : {C : Type 0} (b : Bool) → (b ≡ true → C) → (b ≡ false → C) → C
+pub by_bool : {C : Type 0} (b : Bool) → (b ≡ true → C) → (b ≡ false → C) → C
 by_bool true f g = f refl
 by_bool false f g = g refl
 
@@ -33,7 +33,7 @@ halves : (p : ℕ) → (p % 2 == 0) ≡ true → p ≡ before (p / 2)
 halves p e = let even : p % 2 ≡ 0 = eqb-true (p % 2) 0 e in omega arith
 
 -- what stops here stops there too, at the statements to which the body's control leads
-abbrev Covers : FileTree → List (Option ℕ) → ℕ → (ℕ → Bool) → (ℕ → Bool) → Type 0
+abbrev pub Covers : FileTree → List (Option ℕ) → ℕ → (ℕ → Bool) → (ℕ → Bool) → Type 0
 Covers tree labels block s t = (n : ℕ) → Reached (Leads tree labels) (before block) (before n) → s n ≡ true → t n ≡ true
 
 goes_too : (tree : FileTree) (labels : List (Option ℕ)) (block : ℕ) (s t : ℕ → Bool) → Covers tree labels block s t → (p : ℕ)
@@ -52,7 +52,7 @@ less_reached tree labels block s t h (further {p = p} {q = q} r step) =
     let both = less_reached tree labels block s t h r in
     (further both.0 step.1, further both.1 (goes_too tree labels block s t h p both.0 step.0, step.1))
 
-never_still : (tree : FileTree) (labels : List (Option ℕ)) (block : ℕ) (s t : ℕ → Bool) → Covers tree labels block s t
+pub never_still : (tree : FileTree) (labels : List (Option ℕ)) (block : ℕ) (s t : ℕ → Bool) → Covers tree labels block s t
     → NeverReturns tree labels s block → NeverReturns tree labels t block
 never_still tree labels block s t h never p exit r = never p exit (less_reached tree labels block s t h r).1
 

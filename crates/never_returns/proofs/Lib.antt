@@ -1,1 +1,3 @@
 mod AdmitsLemmas
+mod NumberLemmas
+mod ReaderLemmas

@@ -1,1 +1,3 @@
 pub mod Admits
+pub mod Bodies
+pub mod Laws

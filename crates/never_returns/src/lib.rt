@@ -1,12 +1,22 @@
-//! Functions that never return, over a tree of packages: what admits one, and that the sets found in
-//! turn over packages are the set of the tree. The bodies are empty: the contracts are the laws.
+//! Functions that never return: those of a package, over those of the packages that it imports, and that
+//! the sets found in turn over packages are the set of the tree. The bodies of the laws are empty: their
+//! contracts are the laws.
 #![tactic(auto)]
+
+mod files;
+mod functions;
+mod numbers;
+mod readers;
 
 ghost use Rattle.std.specs.Prelude.{◌≡◌, ℕ, Bool, List, Option};
 ghost use Rattle.least.specs.Least.{IsMonotone, IsLeast};
 ghost use Rattle.least.specs.Staged.{IsLocal, IsOrder, AreStaged, IsLeastIn};
 ghost use Rattle.least.specs.Tables.{Member, Table, home, AreFoundByTables};
 ghost use Rattle.never_returns.specs.Admits.{Body, Admits, Has, SeeTheirCallees};
+
+pub use files::{Block, FileFlow, Function};
+pub use functions::never_returning;
+pub use numbers::{found_by_numbers, found_by_numbers_in_turn};
 
 /// More members never take an admitted function away.
 pub fn admission_is_monotone()
