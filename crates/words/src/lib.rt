@@ -1,0 +1,16 @@
+//! The words of the command line, read by their written grammar.
+#![tactic(auto)]
+
+mod asked;
+mod draft;
+mod laws;
+mod number;
+mod only;
+mod reading;
+#[cfg(test)]
+mod tests;
+mod word;
+
+pub use asked::{Asked, Usage, Words};
+pub use laws::one_reading;
+pub use reading::read_words;
