@@ -1,0 +1,5 @@
+pub mod Kinds
+pub mod UnitLaws
+pub mod WrapLaws
+pub mod Tables
+pub mod Texts
