@@ -1,10 +1,16 @@
 //! The bytes of a run's reply.
 #![tactic(auto)]
 
+mod json;
 mod print;
+mod run_print;
+mod said;
 mod stand;
 #[cfg(test)]
 mod tests;
+mod whole;
 
 pub use print::{stats, text};
+pub use said::run_json;
 pub use stand::all_stand;
+pub use whole::run_text;

@@ -16,7 +16,7 @@ pub struct Hand {
 }
 
 /// The lines of this file: those at hand, where they are its.
-fn turn_to(alloc: Global, files: &Files, hand: Hand, file: u32) -> Result<Hand, NoMemory>
+pub(crate) fn turn_to(alloc: Global, files: &Files, hand: Hand, file: u32) -> Result<Hand, NoMemory>
     requires within { file < length files.now }
     requires short { length (file_numbered files.now file).1 ≤ 2 ^ 31 }
     requires hand { IsHand files.now hand }
@@ -31,7 +31,12 @@ fn turn_to(alloc: Global, files: &Files, hand: Hand, file: u32) -> Result<Hand, 
 }
 
 /// A place as path, line and column, by the lines of its file.
-fn place_text(alloc: Global, files: &Files, lines: &Lines, place: Place) -> Result<String, NoMemory>
+pub(crate) fn place_text(
+    alloc: Global,
+    files: &Files,
+    lines: &Lines,
+    place: Place,
+) -> Result<String, NoMemory>
     requires lies { LiesIn files.now place }
     requires lines { IsTableOf (file_numbered files.now place.file).1 lines.now }
     ensures { IfOk result (λ text. string_bytes text ≡ place_text files.now place) }
@@ -82,7 +87,7 @@ fn push_error(
     }
 }
 
-fn push_errors(
+pub(crate) fn push_errors(
     alloc: Global,
     files: &Files,
     out: &mut Vec<u8>,
