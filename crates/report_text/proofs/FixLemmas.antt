@@ -1,7 +1,7 @@
 -- Fixes and what becomes of them.
 use Rattle.std.proofs.Common.{◌≡◌, ℕ, zero, suc, ◌+◌, ◌<◌, List, [], ◌∷◌, ◌++◌, length, map, flat_map, Option, Some, None, All, get_or, refl, sym, ap, ◌∙◌, subst, arith, append_assoc, take}
 use Rattle.std.proofs.lemmas.List.{length-map, take_more, flat_map_more}
-use Rattle.std.proofs.lemmas.List.Elements.{All-append, All-cons, All-tail}
+use Rattle.std.proofs.lemmas.List.Elements.{All-append, All-cons, All-more, All-tail}
 use Rattle.gv_base.specs.Files.{Entry}
 use Rattle.fix_apply.specs.declared.edits.Fix.{Fix}
 use Rattle.fix_apply.specs.declared.choices.Choice.{Choice}
@@ -66,3 +66,7 @@ pub written_more : {A : Type 0} (f : A → List ℕ) (front : List ℕ) (xs : Li
 written_more {A} f front xs n x out new lt is so_far grown =
     let more : take (n + 1) xs ≡ take n xs ++ x ∷ [] = take_more xs n x lt ∙ ap (λ (y : A). take n xs ++ y ∷ []) (sym is) in
     grown ∙ (ap (λ (l : List ℕ). l ++ f x) so_far ∙ (flat_map_more f front (take n xs) x ∙ ap (λ (l : List A). front ++ flat_map f l) (sym more)))
+
+-- what holds of each is so of one more
+pub holds_more : {A : Type 0} (P : A → Type 0) (xs : List A) (n : ℕ) (x : A) → n < length xs → All P (take n xs) → x ≡ get_or xs n x → P x → All P (take (n + 1) xs)
+holds_more P xs n x lt old is one = All-more P xs n x lt old (subst P is one)

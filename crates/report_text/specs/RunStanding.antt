@@ -1,7 +1,8 @@
 -- Where the places of a run's reply stand.
-use Rattle.std.specs.Prelude.{◌≡◌, ◌<◌, ℕ, List, length, map, All, Some}
+use Rattle.std.specs.Prelude.{◌≡◌, ◌<◌, ℕ, List, length, map, All, Option, Some, None, Bool, true, false}
 use Rattle.gv_base.specs.Files.{Entry}
 use Rattle.gv_base.specs.declared.place.Place.{Place}
+use Rattle.fix_apply.specs.declared.edits.Fix.{Fix}
 use Rattle.fix_apply.specs.declared.choices.Choice.{Choice}
 use Rattle.fix_apply.specs.declared.choices.Choice.TheVariants.{Applied, Overlaps}
 use Rattle.analysis_core.specs.declared.command.Command.{Command}
@@ -30,6 +31,10 @@ spots_of spots = map spot_of spots
 abbrev pub Earlier : ℕ → Choice → Type 0
 Earlier n Applied = Unit {0}
 Earlier n (Overlaps first) = first < n
+
+abbrev pub is_fixed : Option Fix → Bool
+is_fixed None = false
+is_fixed (Some fix) = true
 
 -- there is a choice for each fix, and each one that it overlaps is one of them
 pub record FixesStand (r : RunReply) : Type 0 where

@@ -4,6 +4,9 @@
 mod json;
 mod print;
 mod run_print;
+mod run_stand;
+#[cfg(test)]
+mod run_tests;
 mod said;
 mod stand;
 #[cfg(test)]
@@ -11,6 +14,7 @@ mod tests;
 mod whole;
 
 pub use print::{stats, text};
+pub use run_stand::run_stands;
 pub use said::run_json;
 pub use stand::all_stand;
 pub use whole::run_text;

@@ -16,7 +16,7 @@ fn reach(bytes: &[u8], offset: u32) -> bool
 }
 
 /// Whether a place lies in one of the files.
-fn lies(files: &Files, place: Place) -> bool
+pub(crate) fn lies(files: &Files, place: Place) -> bool
     ensures { IsTrue result ↔ LiesIn files.now place }
 {
     if place.file >= files.count() {
