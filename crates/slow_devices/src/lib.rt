@@ -1,0 +1,10 @@
+//! Devices that give and take little at a time, over others: for tests of short reads and short writes.
+#![tactic(auto)]
+
+mod sink;
+mod source;
+#[cfg(test)]
+mod tests;
+
+pub use sink::SlowSink;
+pub use source::SlowSource;
