@@ -1,0 +1,9 @@
+pub mod Members
+pub mod PathTests
+pub mod Taking
+pub mod Below
+pub mod Progressing
+pub mod Waiting
+pub mod Besides
+pub mod ReplaceLaws
+pub mod MemoryLaws
