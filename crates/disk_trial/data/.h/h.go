@@ -1,0 +1,1 @@
+package p // .h/h.go

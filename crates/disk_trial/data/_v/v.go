@@ -1,0 +1,1 @@
+package p // _v/v.go

@@ -1,0 +1,1 @@
+package p // two words/s.go

@@ -1,0 +1,1 @@
+package p // vendor/x/w.go
