@@ -3,6 +3,7 @@ mod RowLemmas
 mod SearchLemmas
 mod GraphLemmas
 pub mod LawLemmas
+mod MarkLemmas
 mod PassingLemmas
 mod CutLemmas
 mod MentionLemmas

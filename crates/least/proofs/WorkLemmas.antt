@@ -138,25 +138,32 @@ none_set zero i e = no_truth e
 none_set (suc n) zero e = no_truth e
 none_set (suc n) (suc i) e = none_set n i e
 
-all_set : (count i : ℕ) → set_of (replicate count true) i ≡ true → i < count
-all_set zero i e = no_truth e
-all_set (suc n) zero e = omega arith
-all_set (suc n) (suc i) e = let lt = all_set n i e in omega arith
-
 -- at the beginning no flag is set, and all wait
 pub begun : (count : ℕ) (admits : (ℕ → Bool) → ℕ → Type 0) (flags marks : List Bool) (queue : List ℕ)
-    → flags ≡ replicate count false → marks ≡ replicate count true
+    → flags ≡ replicate count false → length marks ≡ count → IsMarked marks queue
     → ((i : ℕ) → i < count → Contains queue i)
     → ((i : ℕ) → Contains queue i → i < count)
     → IsSoFar count admits flags marks queue
-begun count admits flags marks queue blank full each items = record {
+begun count admits flags marks queue blank size marked each items = record {
   size = omega (arith, ap length blank, length-replicate count false);
-  marks_size = omega (arith, ap length full, length-replicate count true);
+  marks_size = size;
   sound = λ M closed i is. absurd (none_set count i (subst (λ l. set_of l i ≡ true) blank is));
   settled = λ i lt a. inr (each i lt);
   items = items;
-  marked = λ i is. each i (all_set count i (subst (λ l. set_of l i ≡ true) full is));
+  marked = marked;
 }
+
+-- these wait too, and then all
+pub all_wait : (count : ℕ) (first all : List ℕ) (marks marks1 marks2 : List Bool) (queue queue1 queue2 : List ℕ)
+    → ((i : ℕ) → Contains first i → i < count) → ((i : ℕ) → i < count → Contains all i) → ((i : ℕ) → Contains all i → i < count) → ((i : ℕ) → Contains queue i → i < count)
+    → IsQueued first marks queue marks1 queue1 → IsQueued all marks1 queue1 marks2 queue2
+    → ((i : ℕ) → i < count → Contains queue2 i) × ((i : ℕ) → Contains queue2 i → i < count)
+all_wait count first all marks marks1 marks2 queue queue1 queue2 below each items old a b = (
+  λ i lt. b.each i (each i lt),
+  λ i w. either (b.only i w)
+      (λ was. either (a.only i was) (λ o. old i o) (λ f. below i f))
+      (λ new. items i new),
+)
 
 pub each_more : (xs : List ℕ) (n : ℕ) → ((i : ℕ) → i < n → Contains xs i) → (i : ℕ) → i < n + 1 → Contains (xs ++ n ∷ []) i
 each_more xs n each i lt = either (cases_eq n i)

@@ -7,21 +7,21 @@ use gv_base::NoMemory;
 use std::alloc::Global;
 use std::collections::VecDeque;
 
-/// As many flags, all of this value.
-pub(crate) fn flags_of(alloc: Global, count: u32, value: bool) -> Result<Vec<bool>, NoMemory>
-    ensures { IfOk result (λ v. v.items ≡ replicate count value) }
+/// As many flags, none of them set.
+pub(crate) fn flags_of(alloc: Global, count: u32) -> Result<Vec<bool>, NoMemory>
+    ensures { IfOk result (λ v. v.items ≡ replicate count false) }
 {
-    let flags = vec![in alloc; value; count as usize]?;
+    let flags = vec![in alloc; false; count as usize]?;
     Ok(flags)
 }
 
-pub(crate) fn all_items(alloc: Global, count: u32) -> Result<VecDeque<u32>, NoMemory>
-    ensures each { IfOk result (λ q. (i : ℕ) → i < count → Contains q.items i) }
-    ensures items { IfOk result (λ q. (i : ℕ) → Contains q.items i → i < count) }
+fn all_items(alloc: Global, count: u32) -> Result<Vec<u32>, NoMemory>
+    ensures each { IfOk result (λ all. (i : ℕ) → i < count → Contains all.items i) }
+    ensures items { IfOk result (λ all. (i : ℕ) → Contains all.items i → i < count) }
 {
-    let mut items = VecDeque::new(alloc);
+    let mut items = Vec::new(alloc);
     for i in 0..count {
-        items.push_back(i)?;
+        items.push(i)?;
     }
     Ok(items)
 }
@@ -67,5 +67,28 @@ pub(crate) fn wait_too(
     for item in more {
         wait(marks, queue, *item)?;
     }
+    Ok(())
+}
+
+/// All items wait, each once: these first, in their order, and the others behind them.
+pub(crate) fn wait_all(
+    alloc: Global,
+    count: u32,
+    first: &[u32],
+    marks: &mut Vec<bool>,
+    queue: &mut VecDeque<u32>,
+) -> Result<(), NoMemory>
+    requires first { (i : ℕ) → Contains first.now i → i < count }
+    requires marks { length marks.old.items ≡ count }
+    requires marked { IsMarked marks.old.items queue.old.items }
+    requires items { (i : ℕ) → Contains queue.old.items i → i < count }
+    ensures size { OnOk result (length marks.new.items ≡ count) }
+    ensures marked { OnOk result (IsMarked marks.new.items queue.new.items) }
+    ensures each { OnOk result ((i : ℕ) → i < count → Contains queue.new.items i) }
+    ensures items { OnOk result ((i : ℕ) → Contains queue.new.items i → i < count) }
+{
+    let all = all_items(alloc, count)?;
+    wait_too(marks, queue, first)?;
+    wait_too(marks, queue, &all)?;
     Ok(())
 }

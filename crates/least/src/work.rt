@@ -4,7 +4,7 @@ ghost use Rattle.std.specs.List.{Contains};
 ghost use Rattle.least.specs.Least.{IsLeast, IsMonotone};
 ghost use Rattle.least.specs.Work.{set_of, among, IsSoFar, left_to_do};
 
-use crate::queue::{all_items, flags_of, is_set, set, wait_too};
+use crate::queue::{flags_of, is_set, set, wait_all, wait_too};
 use gv_base::NoMemory;
 use std::alloc::Global;
 use std::collections::VecDeque;
@@ -70,16 +70,24 @@ fn look<A: Admission>(
     Ok(())
 }
 
-/// The least set of the items, a flag for each. An item is looked at once, and again only where
-/// members that it reads have joined since: all that joined meanwhile count as one.
-pub fn least<A: Admission>(alloc: Global, admission: &A) -> Result<Vec<bool>, NoMemory>
+/// The least set of the items, a flag for each. `first` are looked at first, in their order, and then the
+/// others. An item is looked at once, and again only where members that it reads have joined since: all
+/// that joined meanwhile count as one. So where `first` has items behind those that they read, none of
+/// them is looked at twice.
+pub fn least<A: Admission>(
+    alloc: Global,
+    admission: &A,
+    first: &[u32],
+) -> Result<Vec<bool>, NoMemory>
+    requires { (i : ℕ) → Contains first.now i → i < A.count admission.now }
     ensures size { IfOk result (λ flags. length flags.items ≡ A.count admission.now) }
     ensures least { IfOk result (λ flags. IsLeast (among (A.count admission.now) (A.admits admission.now)) (set_of flags.items)) }
 {
     let count = admission.count();
-    let mut flags = flags_of(alloc, count, false)?;
-    let mut marks = flags_of(alloc, count, true)?;
-    let mut queue = all_items(alloc, count)?;
+    let mut flags = flags_of(alloc, count)?;
+    let mut marks = flags_of(alloc, count)?;
+    let mut queue = VecDeque::new(alloc);
+    wait_all(alloc, count, first, &mut marks, &mut queue)?;
     while let Some(at) = queue.pop_front() {
         look(admission, &mut flags, &mut marks, &mut queue, at)?;
     }

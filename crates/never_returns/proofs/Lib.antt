@@ -1,3 +1,4 @@
 mod AdmitsLemmas
 mod NumberLemmas
 mod ReaderLemmas
+mod LookLemmas

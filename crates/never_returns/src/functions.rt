@@ -6,6 +6,7 @@ ghost use Rattle.never_returns.specs.Bodies.{AreGraphs, AreReaders, AdmitsAt, Ad
 ghost use Rattle.never_returns.specs.Laws.{more_admitted, same_admitted};
 
 use crate::files::{Block, FileFlow, Function};
+use crate::looks::first_looks;
 use crate::readers::{Readers, readers_of};
 use flow::never_returns;
 use gv_base::NoMemory;
@@ -112,7 +113,7 @@ impl<'a> Admission for Functions<'a> {
 
 /// Which of the functions of a package never return: the least set, a flag for each. A call of a function
 /// of another package is `Call::Stops` or `Call::Passes`, by what is known of that package. A body is
-/// searched once, and again where functions that it mentions joined since.
+/// searched once, and again where functions that it mentions and that lead back to it joined since.
 pub fn never_returning(
     alloc: Global,
     files: &[FileFlow],
@@ -124,12 +125,13 @@ pub fn never_returning(
     ensures least { IfOk result (λ flags. IsLeast (among (length functions.now) (AdmitsAt files.now functions.now)) (set_of flags.items)) }
 {
     let rows = readers_of(alloc, files, functions)?;
+    let first = first_looks(alloc, &rows)?;
     let all = Functions {
         alloc,
         files,
         functions,
         rows,
     };
-    let flags = least(alloc, &all)?;
+    let flags = least(alloc, &all, &first)?;
     Ok(flags)
 }

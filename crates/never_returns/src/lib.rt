@@ -5,6 +5,7 @@
 
 mod files;
 mod functions;
+mod looks;
 mod numbers;
 mod readers;
 

@@ -2,7 +2,7 @@ use Rattle.std.proofs.Common.{◌≡◌, ◌*◌, ◌∙◌, length, sym, ap, ar
 use Rattle.flow.specs.Around.{around_at}
 use Rattle.flow.specs.Passing.{break_point, Leaves}
 use Rattle.flow.proofs.AroundLemmas.{read_at}
-use Rattle.flow.proofs.PassingLemmas.{marked_more, all_marked_so, leaves_by, by_leaves}
+use Rattle.flow.proofs.MarkLemmas.{marked_more, all_marked_so, leaves_by, by_leaves}
 use Rattle.flow.proofs.marks.left_points.Goals as goal
 
 pub loop-n-preserved : goal.loop-n-preserved

@@ -1,7 +1,7 @@
 use Rattle.std.proofs.Common.{◌≡◌, ◌*◌, ◌∙◌, length, sym, ap, arith}
 use Rattle.flow.specs.Passing.{goto_point, Names}
 use Rattle.flow.proofs.AroundLemmas.{read_at}
-use Rattle.flow.proofs.PassingLemmas.{marked_more, all_marked_so, by_names}
+use Rattle.flow.proofs.MarkLemmas.{marked_more, all_marked_so, by_names}
 use Rattle.flow.proofs.marks.named_points.Goals as goal
 
 pub loop-n-preserved : goal.loop-n-preserved

@@ -3,7 +3,7 @@ use Rattle.std.proofs.lemmas.Option.{slice_get_read}
 use Rattle.flow.specs.Edges.{before}
 use Rattle.flow.specs.Passing.{flag_of, IsCutOffIn}
 use Rattle.flow.proofs.CutLemmas.{cut_more}
-use Rattle.flow.proofs.PassingLemmas.{all_marked_so}
+use Rattle.flow.proofs.MarkLemmas.{all_marked_so}
 use Rattle.flow.proofs.statements.cut_off.Goals as goal
 
 pub loop-n-preserved : goal.loop-n-preserved

@@ -4,8 +4,8 @@ use Rattle.least.proofs.queue.all_items.Goals as goal
 
 pub loop-i-preserved : goal.loop-i-preserved
 loop-i-preserved c = record {
-  each = rw c.in_ok-push_back.ensures.items (each_more _ _ c.loop-i.invariant.each);
-  items = rw c.in_ok-push_back.ensures.items (items_more _ _ c.loop-i.invariant.items);
+  each = rw c.in_ok-push.ensures.items (each_more _ _ c.loop-i.invariant.each);
+  items = rw c.in_ok-push.ensures.items (items_more _ _ c.loop-i.invariant.items);
 }
 
 pub returns-clause-items : goal.returns-clause-items
