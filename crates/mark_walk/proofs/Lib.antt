@@ -1,3 +1,4 @@
 pub mod AskLaws
 mod LinkLemmas
+pub mod TellLaws
 pub mod WaitLemmas

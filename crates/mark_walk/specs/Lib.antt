@@ -1,4 +1,5 @@
 pub mod Asks
 pub mod Links
 pub mod Marking
+pub mod Telling
 pub mod Waiting

@@ -1,0 +1,97 @@
+-- Cells: none is filled, one is.
+use Rattle.std.proofs.Common.{◌≡◌, ◌⊎◌, ℕ, zero, suc, ◌+◌, take, ◌<◌, Bool, true, false, List, [], ◌∷◌, ◌++◌, length, set, slice_get, Option, Some, None, option_map, option_and_then, if◌then◌else◌, refl, sym, ap, ◌∙◌, subst, inl, inr, arith}
+use Rattle.gv_base.specs.declared.constant.Const.{Const}
+use Rattle.gv_base.proofs.Lists.{push_cases, get_set_same, get_set_other, same_some}
+use Rattle.mark_walk.specs.Asks.{Adds, Stays}
+use Rattle.type_model.specs.declared.table.TypeTable.{TypeTable}
+use Rattle.typed_marks.specs.declared.item.Item.{Item}
+use Rattle.typed_marks.specs.declared.item.Block.{Block}
+use Rattle.typed_marks.specs.declared.mark.Mark.{Mark}
+use Rattle.typed_marks.specs.Items.{is_item, IsItem, number_of, AreBlocks}
+use Rattle.typed_marks.specs.Meanings.{Meaning, mark_in, IsMarkIn}
+use Rattle.typed_marks.specs.States.{cell, kept, said_over, AllNone}
+use Rattle.typed_marks.proofs.NumberLemmas.{one_item, number_below}
+
+-- the first items, and one more
+pub take_on : {X : Type 0} (xs : List X) (k : ℕ) (x : X) → slice_get xs k ≡ Some x → take (k + 1) xs ≡ take k xs ++ x ∷ []
+take_on [] k x e = absurd cc
+take_on (y ∷ xs) zero x e = let same : y ≡ x = cc in ap (λ z. z ∷ []) same
+take_on (y ∷ xs) (suc k) x e = let next : suc k + 1 ≡ suc (k + 1) = omega arith in rw next (ap (λ l. y ∷ l) (take_on xs k x e))
+
+pub none_at_first : AllNone []
+none_at_first n = refl
+
+pub none_more : (old new : List (Option Mark)) → new ≡ old ++ None ∷ [] → AllNone old → AllNone new
+none_more old new is none n = by (slice_get new n) refl where
+  by : (o : Option (Option Mark)) → slice_get new n ≡ o → cell new n ≡ None
+  by None e = ap (λ o. option_and_then (λ (x : Option Mark). x) o) e
+  by (Some x) e = elim (push_cases old None x n (ap (λ (xs : List (Option Mark)). slice_get xs n) (sym is) ∙ e)) [
+    | inl was ↦ ap (λ o. option_and_then (λ (x : Option Mark). x) o) (e ∙ sym was) ∙ none n
+    | inr (last, same) ↦ ap (λ o. option_and_then (λ (x : Option Mark). x) o) e ∙ sym same
+  ]
+
+-- where no cell is filled, nothing is marked
+pub nothing_marked : (t : TypeTable) (constants : List Const) (blocks : List Block) (cells : List (Option Mark)) → AllNone cells → (i : Item) → said_over t constants blocks cells i ≡ None
+nothing_marked t constants blocks cells none i = ap (option_map (mark_in t constants)) (by (is_item blocks i)) where
+  by : (b : Bool) → (if b then cell cells (number_of blocks i) else None) ≡ None
+  by true = none (number_of blocks i)
+  by false = refl
+
+pub none_over : (t : TypeTable) (constants : List Const) (cells : List (Option Mark)) → AllNone cells → (n : ℕ) (mark : Mark) → cell cells n ≡ Some mark → IsMarkIn t constants mark
+none_over t constants cells none n mark e = absurd (let is = none n in cc)
+
+set_here : (cells : List (Option Mark)) (n : ℕ) (mark : Mark) → n < length cells → cell (set cells n (Some mark)) n ≡ Some mark
+set_here cells n mark low = ap (λ o. option_and_then (λ (x : Option Mark). x) o) (get_set_same cells n (Some mark) low)
+
+set_there : (cells : List (Option Mark)) (n k : ℕ) (mark : Mark) → (k ≡ n → ⊥) → cell (set cells n (Some mark)) k ≡ cell cells k
+set_there cells n k mark apart = ap (λ o. option_and_then (λ (x : Option Mark). x) o) (get_set_other cells n k (Some mark) apart)
+
+same_or_not : (a b : ℕ) → (a ≡ b) ⊎ (a ≡ b → ⊥)
+same_or_not a b = elim (order a b) [
+  | inl less ↦ inr (λ e. omega arith)
+  | inr (inl same) ↦ inl same
+  | inr (inr more) ↦ inr (λ e. omega arith)
+] where
+  order : (a b : ℕ) → (a < b) ⊎ ((a ≡ b) ⊎ (b < a))
+  order a b = grind arith
+
+-- what is kept of an item, by whether there is one
+kept_true : (blocks : List Block) (cells : List (Option Mark)) (i : Item) → IsItem blocks i → kept blocks cells i ≡ cell cells (number_of blocks i)
+kept_true blocks cells i is = ap (λ (b : Bool). if b then cell cells (number_of blocks i) else None) is
+
+-- a mark that is over the tables still when it is set
+pub over_set : (t : TypeTable) (constants : List Const) (cells : List (Option Mark)) (n : ℕ) (mark : Mark) → n < length cells
+    → ((k : ℕ) (m : Mark) → cell cells k ≡ Some m → IsMarkIn t constants m) → IsMarkIn t constants mark
+    → (k : ℕ) (m : Mark) → cell (set cells n (Some mark)) k ≡ Some m → IsMarkIn t constants m
+over_set t constants cells n mark low all is k m e = elim (same_or_not k n) [
+  | inl same ↦ subst (IsMarkIn t constants) (same_some (cell (set cells n (Some mark)) k) mark m (ap (cell (set cells n (Some mark))) same ∙ set_here cells n mark low) e) is
+  | inr apart ↦ all k m (sym (set_there cells n k mark apart) ∙ e)
+]
+
+module _ (t : TypeTable) (constants : List Const) (blocks : List Block) (cells : List (Option Mark)) (i : Item) (mark : Mark)
+    (are : AreBlocks blocks (length cells)) (item : IsItem blocks i) (unmarked : said_over t constants blocks cells i ≡ None) where
+  abbrev pub new : List (Option Mark)
+  new = set cells (number_of blocks i) (Some mark)
+
+  here : said_over t constants blocks new i ≡ Some (mark_in t constants mark)
+  here = ap (option_map (mark_in t constants)) (kept_true blocks new i item ∙ set_here cells (number_of blocks i) mark (number_below blocks (length cells) i are item))
+
+  by_item : (j : Item) → (b : Bool) → is_item blocks j ≡ b → (j ≡ i) ⊎ (kept blocks new j ≡ kept blocks cells j)
+  by_item j false e = inr (ap (λ (b : Bool). if b then cell new (number_of blocks j) else None) e ∙ sym (ap (λ (b : Bool). if b then cell cells (number_of blocks j) else None) e))
+  by_item j true e = elim (same_or_not (number_of blocks j) (number_of blocks i)) [
+    | inl same ↦ inl (one_item blocks (length cells) are j i e item same)
+    | inr apart ↦ inr (kept_true blocks new j e ∙ set_there cells (number_of blocks i) (number_of blocks j) mark apart ∙ sym (kept_true blocks cells j e))
+  ]
+
+  pub adds_cell : Adds (said_over t constants blocks cells) (said_over t constants blocks new) i (mark_in t constants mark)
+  adds_cell = record {
+    new = here;
+    stays = λ j n e. elim (by_item j (is_item blocks j) refl) [
+      | inl same ↦ absurd (let none : said_over t constants blocks cells j ≡ None = ap (said_over t constants blocks cells) same ∙ unmarked in cc)
+      | inr is ↦ ap (option_map (mark_in t constants)) is ∙ e
+    ];
+    only = λ j n e. elim (by_item j (is_item blocks j) refl) [
+      | inl same ↦ inl same
+      | inr is ↦ inr (sym (ap (option_map (mark_in t constants)) is) ∙ e)
+    ];
+  }

@@ -1,0 +1,61 @@
+//! Items by number.
+ghost use Rattle.std.specs.Prelude.{◌≡◌, ◌<◌, ◌≤◌, ◌+◌, ◌*◌, true, slice_get, length};
+ghost use Rattle.typed_marks.specs.Items.{is_in, is_item, IsItem, stage_number, number_in, number_of, AreBlocks};
+
+use crate::item::{Block, Item, Stage};
+
+fn is_in(node: usize, block: Block) -> bool
+    ensures { result ≡ is_in node block }
+{
+    block.low <= node && node - block.low < block.size
+}
+
+fn block_at(blocks: &[Block], block: usize) -> Option<Block>
+    ensures { result ≡ slice_get blocks.now block }
+{
+    blocks.get(block).copied()
+}
+
+/// Whether there is such an item.
+pub fn is_item(blocks: &[Block], item: Item) -> bool
+    ensures { result ≡ is_item blocks.now item }
+{
+    match block_at(blocks, item.block) {
+        Some(block) => is_in(item.node, block),
+        None => false,
+    }
+}
+
+fn stage_number(stage: Stage) -> usize
+    ensures { result ≡ stage_number stage }
+{
+    match stage {
+        Stage::Before => 0,
+        Stage::Wanted => 1,
+        Stage::Placed => 2,
+        Stage::Object => 3,
+        Stage::Under => 4,
+    }
+}
+
+fn number_in(stage: Stage, node: usize, block: Block, count: usize) -> usize
+    requires within { block.start + 5 * block.size ≤ count }
+    requires is { is_in node block ≡ true }
+    ensures number { result ≡ number_in stage node block }
+    ensures low { result < count }
+{
+    block.start + 5 * (node - block.low) + stage_number(stage)
+}
+
+/// The number of an item among all; `count` is how many there are.
+pub fn number_of(blocks: &[Block], item: Item, count: usize) -> usize
+    requires blocks { AreBlocks blocks.now count }
+    requires item { IsItem blocks.now item }
+    ensures number { result ≡ number_of blocks.now item }
+    ensures low { result < count }
+{
+    match block_at(blocks, item.block) {
+        Some(block) => number_in(item.stage, item.node, block, count),
+        None => unreachable!(),
+    }
+}

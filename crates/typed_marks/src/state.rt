@@ -1,0 +1,232 @@
+//! The marks so far, with the types and constants that stand in them.
+ghost use Rattle.std.specs.Prelude.{◌≡◌, ◌<◌, ◌≤◌, ◌+◌, ◌*◌, ◌++◌, ◌∷◌, [], ℕ, Some, None, false, length, map, option_map, set, slice_get, IfOk, IfSome, OnOk, IsTrue, ◌↔◌};
+ghost use Rattle.gv_base.specs.declared.constant.Const.{Const};
+ghost use Rattle.mark_walk.specs.Asks.{Adds, Stays, IsMarked};
+ghost use Rattle.type_model.specs.GoTypes.{IsOver, MethodsBelow, DefinedType, is_defined, nodes, type_at, type_of};
+ghost use Rattle.type_model.specs.Declarations.{Meets};
+ghost use Rattle.type_model.specs.Orders.{IsOrdered};
+ghost use Rattle.type_model.specs.Tables.{IsTable, Grown, IsAdded, Declares, types_in, count, declarations_in, declaration_of};
+ghost use Rattle.type_model.specs.declared.term.TypeName.{TypeName};
+ghost use Rattle.typed_marks.specs.declared.item.Item.{Item};
+ghost use Rattle.typed_marks.specs.declared.item.Block.{Block};
+ghost use Rattle.typed_marks.specs.Items.{IsItem, number_of as number_in_blocks, AreBlocks};
+ghost use Rattle.typed_marks.specs.Meanings.{mark_in, IsMarkIn, Declares as TypeDeclares};
+ghost use Rattle.typed_marks.specs.States.{cell, kept, so_far, IsState, AllNone, span_of, HasGrown};
+
+use crate::item::{Block, Item, Span};
+use crate::mark::{ConstId, Mark};
+use crate::numbers::{is_item, number_of};
+use gv_base::{Const, NoMemory};
+use std::alloc::Global;
+use type_model::{Added, Method, Term, TypeId, TypeName, TypeTable};
+
+/// The types and constants that have been met, and the marks of items.
+#[derive(Drop)]
+pub struct State {
+    pub table: TypeTable,
+    pub constants: Vec<Const>,
+    pub blocks: Vec<Block>,
+    pub cells: Vec<Option<Mark>>,
+}
+
+fn add_one(cells: &mut Vec<Option<Mark>>) -> Result<(), NoMemory>
+    ensures length { OnOk result (length cells.new.items ≡ length cells.old.items + 1) }
+    ensures none { OnOk result (AllNone cells.old.items → AllNone cells.new.items) }
+{
+    cells.push(None)?;
+    Ok(())
+}
+
+/// Cells for the items of one node.
+fn add_five(cells: &mut Vec<Option<Mark>>) -> Result<(), NoMemory>
+    ensures length { OnOk result (length cells.new.items ≡ length cells.old.items + 5) }
+    ensures none { OnOk result (AllNone cells.old.items → AllNone cells.new.items) }
+{
+    add_one(cells)?;
+    add_one(cells)?;
+    add_one(cells)?;
+    add_one(cells)?;
+    add_one(cells)?;
+    Ok(())
+}
+
+/// Cells for the items of so many nodes.
+fn add_cells(cells: &mut Vec<Option<Mark>>, size: usize) -> Result<(), NoMemory>
+    ensures length { OnOk result (length cells.new.items ≡ length cells.old.items + 5 * size) }
+    ensures none { OnOk result (AllNone cells.old.items → AllNone cells.new.items) }
+{
+    for n in 0..size {
+        let _ = n;
+        add_five(cells)?;
+    }
+    Ok(())
+}
+
+/// One block more, with cells for its items.
+fn add_block(
+    blocks: &mut Vec<Block>,
+    cells: &mut Vec<Option<Mark>>,
+    span: Span,
+) -> Result<(), NoMemory>
+    requires blocks { AreBlocks blocks.old.items (length cells.old.items) }
+    ensures blocks { OnOk result (AreBlocks blocks.new.items (length cells.new.items)) }
+    ensures spans { OnOk result (map span_of blocks.new.items ≡ map span_of blocks.old.items ++ span ∷ []) }
+    ensures none { OnOk result (AllNone cells.old.items → AllNone cells.new.items) }
+{
+    let start = cells.len();
+    add_cells(cells, span.size)?;
+    blocks.push(Block {
+        low: span.low,
+        size: span.size,
+        start,
+    })?;
+    Ok(())
+}
+
+fn span_at(spans: &[Span], k: usize) -> Span
+    requires { k < length spans.now }
+    ensures { slice_get spans.now k ≡ Some result }
+{
+    spans[k]
+}
+
+fn cell(cells: &Vec<Option<Mark>>, number: usize) -> Option<Mark>
+    ensures { result ≡ cell cells.now.items number }
+{
+    match cells.get(number) {
+        Some(cell) => *cell,
+        None => None,
+    }
+}
+
+fn put(cells: &mut Vec<Option<Mark>>, number: usize, mark: Mark)
+    requires { number < length cells.old.items }
+    ensures { cells.new.items ≡ set cells.old.items number (Some mark) }
+{
+    cells[number] = Some(mark);
+}
+
+impl State {
+    /// No marks, of items in blocks of these spans.
+    pub fn new(alloc: Global, table: TypeTable, spans: &[Span]) -> Result<State, NoMemory>
+        requires { IsTable table }
+        ensures state { IfOk result (λ s. IsState s) }
+        ensures table { IfOk result (λ s. s.table ≡ table) }
+        ensures constants { IfOk result (λ s. s.constants.items ≡ []) }
+        ensures spans { IfOk result (λ s. map span_of s.blocks.items ≡ spans.now) }
+        ensures unmarked { IfOk result (λ s. (i : Item) → so_far s i ≡ None) }
+    {
+        let mut blocks = Vec::new(alloc);
+        let mut cells = Vec::new(alloc);
+        for k in 0..spans.len() {
+            let span = span_at(spans, k);
+            add_block(&mut blocks, &mut cells, span)?;
+        }
+        Ok(State {
+            table,
+            constants: Vec::new(alloc),
+            blocks,
+            cells,
+        })
+    }
+
+    fn kept(&self, item: Item) -> Option<Mark>
+        requires { IsState self.now }
+        ensures { result ≡ kept self.now.blocks.items self.now.cells.items item }
+    {
+        if is_item(&self.blocks, item) {
+            cell(&self.cells, number_of(&self.blocks, item, self.cells.len()))
+        } else {
+            None
+        }
+    }
+
+    /// The mark of an item; None exactly where it has none.
+    pub fn see(&self, item: Item) -> Option<Mark>
+        requires { IsState self.now }
+        ensures is { option_map (mark_in self.now.table self.now.constants.items) result ≡ so_far self.now item }
+        ensures over { IfSome result (IsMarkIn self.now.table self.now.constants.items) }
+    {
+        self.kept(item)
+    }
+
+    /// Whether an item is marked.
+    pub fn is_marked(&self, item: Item) -> bool
+        requires { IsState self.now }
+        ensures { IsTrue result ↔ IsMarked (so_far self.now) item }
+    {
+        self.see(item).is_some()
+    }
+
+    /// Marks an item that has no mark.
+    pub fn keep(&mut self, item: Item, mark: Mark)
+        requires state { IsState self.old }
+        requires item { IsItem self.old.blocks.items item }
+        requires unmarked { so_far self.old item ≡ None }
+        requires over { IsMarkIn self.old.table self.old.constants.items mark }
+        ensures state { IsState self.new }
+        ensures adds { Adds (so_far self.old) (so_far self.new) item (mark_in self.old.table self.old.constants.items mark) }
+        ensures table { self.new.table ≡ self.old.table }
+        ensures constants { self.new.constants ≡ self.old.constants }
+        ensures blocks { self.new.blocks ≡ self.old.blocks }
+    {
+        let number = number_of(&self.blocks, item, self.cells.len());
+        put(&mut self.cells, number, mark);
+    }
+
+    /// Adds a type to the table, unless it is there, and answers its number. The marks say what they said.
+    pub fn add(&mut self, term: Term) -> Result<Added, NoMemory>
+        requires state { IsState self.old }
+        requires over { IsOver (count self.old.table) term }
+        requires ordered { IsOrdered term }
+        ensures grown { OnOk result (HasGrown self.old self.new) }
+        ensures added { IfOk result (IsAdded self.old.table self.new.table term) }
+        ensures constants { self.new.constants ≡ self.old.constants }
+    {
+        let added = self.table.add(term)?;
+        Ok(added)
+    }
+
+    /// Adds a constant to the table, and answers its number. The marks say what they said.
+    pub fn add_constant(&mut self, constant: Const) -> Result<ConstId, NoMemory>
+        requires { IsState self.old }
+        ensures grown { OnOk result (HasGrown self.old self.new) }
+        ensures table { OnOk result (self.new.table ≡ self.old.table) }
+        ensures added { IfOk result (λ id. id.0 ≡ length self.old.constants.items) }
+        ensures constants { OnOk result (self.new.constants.items ≡ self.old.constants.items ++ constant ∷ []) }
+    {
+        let id = ConstId(self.constants.len());
+        self.constants.push(constant)?;
+        Ok(id)
+    }
+
+    /// Declares a defined type with its underlying type and its methods, and marks an item that has no mark as what declares it.
+    pub fn declare(
+        &mut self,
+        item: Item,
+        of: TypeId,
+        name: TypeName,
+        under: TypeId,
+        methods: Vec<Method>,
+    ) -> Result<(), NoMemory>
+        requires state { IsState self.old }
+        requires item { IsItem self.old.blocks.items item }
+        requires unmarked { so_far self.old item ≡ None }
+        requires within { of.0 < count self.old.table }
+        requires named { type_at (types_in self.old.table) of ≡ DefinedType name }
+        requires under { under.0 < count self.old.table }
+        requires methods { MethodsBelow (count self.old.table) methods.items }
+        requires fresh { declarations_in self.old.table name ≡ None }
+        requires plain { is_defined (type_at (types_in self.old.table) under) ≡ false }
+        requires apart { ¬ Meets (declarations_in self.old.table) name (type_at (types_in self.old.table) under) }
+        ensures state { OnOk result (IsState self.new) }
+        ensures adds { OnOk result (Adds (so_far self.old) (so_far self.new) item (TypeDeclares (declaration_of (types_in self.old.table) (record { under = under; methods = methods.items })))) }
+        ensures declares { OnOk result (Declares self.old.table self.new.table name under methods.items) }
+        ensures constants { OnOk result (self.new.constants ≡ self.old.constants) }
+        ensures blocks { OnOk result (self.new.blocks ≡ self.old.blocks) }
+    {
+        self.table.declare(name, under, methods)?;
+        self.keep(item, Mark::Declared(of));
+        Ok(())
+    }
+}
