@@ -1,0 +1,5 @@
+use Rattle.rel_growth.specs.Meeting.{AreVisited, has}
+use Rattle.rel_growth.proofs.meeting.visit_all.Given as goal
+
+abbrev pub invariant-loop-k : goal.invariant-loop-k
+invariant-loop-k l = AreVisited l.ids l.k (has l.initial.met) l.initial.list.items (has l.met) l.list.items

@@ -1,0 +1,5 @@
+pub mod Assign
+pub mod Compare
+pub mod Convert
+pub mod Implement
+pub mod Meeting
