@@ -1,11 +1,7 @@
 //! Selection by paths of embedded fields, and method sets.
 #![tactic(auto)]
 
-mod choosing;
-#[cfg(test)]
-mod growing_tests;
 mod laws;
-mod listing;
 mod look;
 mod member;
 mod note;
@@ -24,9 +20,7 @@ mod test_types;
 mod tests;
 mod walk;
 
-pub use choosing::choose;
-pub use laws::{examples_hold, one_method_set, one_selection, selection_lasts};
-pub use listing::list;
+pub use laws::{examples_hold, one_method_set, one_selection};
 pub use selecting::select;
 pub use selection::{Selected, Selection};
 pub use sets::method_set;
