@@ -1,0 +1,7 @@
+//! Tests of the crates that carry out a run, by their public calls, a module for each crate. There is nothing else here.
+#![tactic(auto)]
+
+#[cfg(test)]
+mod action_graph_tests;
+#[cfg(test)]
+mod const_kit_tests;
