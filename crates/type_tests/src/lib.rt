@@ -2,6 +2,8 @@
 #![tactic(auto)]
 
 #[cfg(test)]
+mod method_sets_tests;
+#[cfg(test)]
 mod type_model_tests;
 #[cfg(test)]
 mod type_rel_tests;
