@@ -14,6 +14,8 @@ mod gv_base_tests;
 #[cfg(test)]
 mod gv_bytes_tests;
 #[cfg(test)]
+mod mark_walk_tests;
+#[cfg(test)]
 mod need_order_tests;
 #[cfg(test)]
 mod printf_format_tests;
