@@ -2,6 +2,8 @@
 #![tactic(auto)]
 
 #[cfg(test)]
+mod analysis_core_tests;
+#[cfg(test)]
 mod const_eval_tests;
 #[cfg(test)]
 mod export_data_tests;
