@@ -23,3 +23,5 @@ mod need_order_tests;
 mod printf_format_tests;
 #[cfg(test)]
 mod settled_tests;
+#[cfg(test)]
+mod words_tests;
