@@ -5,3 +5,5 @@
 mod action_graph_tests;
 #[cfg(test)]
 mod const_kit_tests;
+#[cfg(test)]
+mod fact_cache_tests;
