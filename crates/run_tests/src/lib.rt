@@ -7,3 +7,5 @@ mod action_graph_tests;
 mod const_kit_tests;
 #[cfg(test)]
 mod fact_cache_tests;
+#[cfg(test)]
+mod report_text_tests;
