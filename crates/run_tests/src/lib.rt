@@ -9,3 +9,5 @@ mod const_kit_tests;
 mod fact_cache_tests;
 #[cfg(test)]
 mod report_text_tests;
+#[cfg(test)]
+mod tree_report_tests;
