@@ -7,8 +7,6 @@ mod imports;
 mod laws;
 mod places;
 mod table;
-#[cfg(test)]
-mod tests;
 mod tops;
 mod universe;
 mod uses;

@@ -18,6 +18,3 @@ pub use conversion::convert;
 pub use one_operand::unary;
 pub use operator::Operator;
 pub use two_operands::binary;
-
-#[cfg(test)]
-mod tests;

@@ -7,6 +7,3 @@ mod read;
 mod tell;
 
 pub use kit::ConstKit;
-
-#[cfg(test)]
-mod tests;

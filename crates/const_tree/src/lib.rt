@@ -8,8 +8,6 @@ mod operators;
 mod place;
 mod places;
 mod specs;
-#[cfg(test)]
-mod tests;
 
 pub use constant::{Constant, Spec};
 pub use form::{Class, are_constant_files, is_constant_file};

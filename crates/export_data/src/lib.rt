@@ -11,6 +11,3 @@ pub use constants::{ConstInterface, ConstOut};
 pub use laws::one_spelling;
 pub use reading::read_consts;
 pub use writing::export_consts;
-
-#[cfg(test)]
-mod tests;

@@ -15,6 +15,3 @@ pub use laws::{facts_are_read, one_fact_text};
 pub use table::FactTable;
 pub use units::{Never, NoFact};
 pub use wraps::{WrapKind, Wraps};
-
-#[cfg(test)]
-mod tests;

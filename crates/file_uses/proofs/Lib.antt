@@ -4,4 +4,3 @@ pub mod UseLemmas
 pub mod LocalLemmas
 pub mod AssignedLemmas
 pub mod FileLemmas
-pub mod SampleLemmas

@@ -5,8 +5,6 @@ mod assigned;
 mod file;
 mod locals;
 mod numbers;
-#[cfg(test)]
-mod tests;
 mod uses;
 
 pub use file::{Locals, nodes_show_trees, read_locals};

@@ -10,6 +10,3 @@ mod tree;
 pub use choices::{Choice, choose};
 pub use edits::{Edit, Fix, overlaps};
 pub use rewriting::rewrite;
-
-#[cfg(test)]
-mod tests;

@@ -8,6 +8,3 @@ mod pieces;
 mod token_classes;
 
 pub use chunk::{Chunk, Verdict, one_finding, one_tree, parse_chunk, parse_pieces};
-
-#[cfg(test)]
-mod tests;

@@ -15,7 +15,5 @@ pub mod pieces;
 pub mod script;
 pub mod session;
 pub mod status;
-#[cfg(test)]
-mod tests;
 pub mod top;
 pub mod word;

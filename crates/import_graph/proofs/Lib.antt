@@ -1,5 +1,4 @@
 pub mod SourceLemmas
-pub mod TestPaths
 pub mod ModuleLemmas
 pub mod OrderLemmas
 pub mod NameLemmas

@@ -26,6 +26,3 @@ pub use load_order::order;
 pub use names::place_in;
 pub use pack::{PackState, Package};
 pub use source::{directory_of, is_source, is_stub, package_of};
-
-#[cfg(test)]
-mod tests;

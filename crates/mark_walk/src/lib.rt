@@ -3,8 +3,6 @@
 
 mod laws;
 mod marking;
-#[cfg(test)]
-mod tests;
 mod walk;
 
 pub use laws::{no_marks_are_sound, ranked_rules_meet_no_circle, sound_marks_are_the_annotation};

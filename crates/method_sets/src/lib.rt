@@ -9,15 +9,7 @@ mod opening;
 mod search;
 mod selecting;
 mod selection;
-#[cfg(test)]
-mod selector_tests;
-#[cfg(test)]
-mod set_tests;
 mod sets;
-#[cfg(test)]
-mod test_types;
-#[cfg(test)]
-mod tests;
 mod walk;
 
 pub use laws::{examples_hold, one_method_set, one_selection};

@@ -11,8 +11,6 @@ mod pick;
 mod seeds;
 mod spot;
 mod tables;
-#[cfg(test)]
-mod tests;
 mod view;
 
 pub use laws::needs_are_of_four_cases;

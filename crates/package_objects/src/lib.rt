@@ -7,8 +7,6 @@ mod files;
 mod nodes;
 mod parameters;
 mod switch;
-#[cfg(test)]
-mod tests;
 mod valued;
 
 pub use constants::{list_at, next_source};

@@ -4,6 +4,3 @@
 mod verdict;
 
 pub use verdict::{FileVerdict, one_verdict, parse_file};
-
-#[cfg(test)]
-mod tests;

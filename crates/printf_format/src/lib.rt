@@ -13,6 +13,3 @@ mod turn;
 
 pub use format::{Directive, Format};
 pub use reading::directives;
-
-#[cfg(test)]
-mod tests;

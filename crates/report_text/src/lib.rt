@@ -5,12 +5,8 @@ mod json;
 mod print;
 mod run_print;
 mod run_stand;
-#[cfg(test)]
-mod run_tests;
 mod said;
 mod stand;
-#[cfg(test)]
-mod tests;
 mod whole;
 
 pub use print::{stats, text};

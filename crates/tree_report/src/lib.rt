@@ -17,6 +17,3 @@ mod texts;
 pub use laws::{a_built_tree_has_a_report, each_mark_has_its_text, one_report_of_a_tree};
 pub use print::TreeReport;
 pub use run::{Answer, report_on};
-
-#[cfg(test)]
-mod tests;

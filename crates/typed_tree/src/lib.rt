@@ -17,8 +17,6 @@ mod predeclare;
 mod rule;
 mod selection;
 mod shift;
-#[cfg(test)]
-mod tests;
 mod unary;
 mod universe;
 mod value;

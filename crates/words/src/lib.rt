@@ -7,8 +7,6 @@ mod laws;
 mod number;
 mod only;
 mod reading;
-#[cfg(test)]
-mod tests;
 mod word;
 
 pub use asked::{Asked, Usage, Words};

@@ -1,0 +1,352 @@
+//! Whole sessions over devices in memory. What no clause says is looked at here: that a call with
+//! ample memory answers, and the printed lines.
+use gv_base::{MemSink, MemSource, SureKeeper, SureTree};
+use gv_tool::adapters::{StdSink, StdSource};
+use gv_tool::call::{gvet, session};
+use gv_tool::options::ToolOptions;
+use gv_tool::status::{Status, status_name};
+use std::alloc::Global;
+use std::process::Abort;
+use std::test::Fail;
+use std::thread::Threads;
+
+/// Commands, and the reply to each.
+#[rattlefmt::skip]
+const COMMANDS: [(&[u8], &[u8]); 10] = [
+    (b"stats\n", b"nodes 0, missing 0, loads 0, runs 0\n"),
+    (b"check\n", b"packages 0, errors 0\n"),
+    (b"put a/b.go 23\npackage a\n\nconst A = A\n\n", b""),
+    (b"check\n", b"a/b.go:3:7: E4 declaration cycle\npackages 1, errors 1\n"),
+    (b"stats\n", b"nodes 1, missing 1, loads 1, runs 0\n"),
+    (b"put a/b.go 10\npackage a\n\n", b""),
+    (b"put a.b-c_d/+~@/...go 1\n\n\n", b""),
+    (b"check\n", b"packages 1, errors 0\n"),
+    (b"del a/b.go\n", b""),
+    (b"check\n", b"packages 0, errors 0\n"),
+];
+
+/// A script, its output and its status.
+type Case = (&'static [u8], &'static [u8], u8);
+
+/// Scripts, and the output and the status of each.
+#[rattlefmt::skip]
+const SCRIPTS: [Case; 25] = [
+    (b"", b"", 0),
+    (b"end\nrubbish", b"", 0),
+    (b"check\nput a.go 100\npackage a\n", b"packages 0, errors 0\nscript refused at 6\n", 8),
+    (b"check\nput a 01\n", b"packages 0, errors 0\nscript refused at 6\n", 8),
+    (b"check\nchec", b"packages 0, errors 0\nscript refused at 6\n", 8),
+    (b"put a 1234567890\n", b"script refused at 0\n", 8),
+    (b"put a 1\nxycheck\n", b"script refused at 0\n", 8),
+    (b"put  a 1\nx\n", b"script refused at 0\n", 8),
+    (b"del a/../b\n", b"script refused at 0\n", 8),
+    (b"del .\n", b"script refused at 0\n", 8),
+    (b"del ..\n", b"script refused at 0\n", 8),
+    (b"del ...\n", b"", 0),
+    (b"del a//b\n", b"script refused at 0\n", 8),
+    (b"del /a\n", b"script refused at 0\n", 8),
+    (b"del a/\n", b"script refused at 0\n", 8),
+    (b"del \n", b"script refused at 0\n", 8),
+    (b"del a b\n", b"script refused at 0\n", 8),
+    (b"del a:b\n", b"script refused at 0\n", 8),
+    (b"Check\n", b"script refused at 0\n", 8),
+    (b"check\r\n", b"script refused at 0\n", 8),
+    (b"put a/a.go 21\npackage a\n\nvar x int\n\nstats\ncheck\n", b"nodes 0, missing 0, loads 0, runs 0\nnot built at 42\n", 11),
+    (b"check\nput a/a.go 21\npackage a\n\nvar x int\n\ndel a/a.go\ncheck\nput go.mod 0\n\ncheck\nend\n", b"packages 0, errors 0\npackages 0, errors 0\nnot built at 73\n", 11),
+    (b"stats\n", b"nodes 0, missing 0, loads 0, runs 0\n", 0),
+    (b"stats \n", b"script refused at 0\n", 8),
+    (b"stat\n", b"script refused at 0\n", 8),
+];
+
+/// Trees, and the reply to a check of each: rules at their places, and what is not built.
+#[rattlefmt::skip]
+const TREES: [Case; 15] = [
+    (b"put a/a.go 0\n\ncheck\n", b"a/a.go:1:1: syntax error\npackages 1, errors 1\n", 1),
+    (b"put a/a.go 39\npackage a\n\nconst A = B + 1\nconst B = A\n\ncheck\n", b"a/a.go:3:7: E4 declaration cycle\na/a.go:4:7: E4 declaration cycle\npackages 1, errors 2\n", 1),
+    (b"put a/a.go 35\npackage a\n\nconst A = Z\nconst A = 1\n\ncheck\n", b"a/a.go:3:11: E3 undefined\na/a.go:4:7: E1 redeclared\npackages 1, errors 2\n", 1),
+    (b"put a/a.go 77\npackage a\n\nconst A = 170141183460469231731687303715884105727\nconst B = A + 1\n\ncheck\n", b"a/a.go:4:11: outside profile: wide\npackages 1, errors 1\n", 1),
+    (b"put a/a.go 21\npackage a\n\nvar x int\n\ncheck\n", b"not built at 36\n", 11),
+    (b"put a/a.go 39\npackage a\n\nconst A = B\nconst B = B + 1\n\ncheck\n", b"a/a.go:4:7: E4 declaration cycle\npackages 1, errors 1\n", 1),
+    (b"put a/b.go 23\npackage a\n\nconst A = 1\n\nput a/a.go 35\npackage a\n\nconst A = 2\nconst B = C\n\nput a/c.go 23\npackage a\n\nconst C = B\n\ncheck\n", b"a/a.go:4:7: E4 declaration cycle\na/b.go:3:7: E1 redeclared\na/c.go:3:7: E4 declaration cycle\npackages 1, errors 3\n", 1),
+    (b"put a/a.go 45\npackage a\n\nconst A = 1 +\n\t2 + A0\nconst A0 = 3\nput a/a_test.go 1\nx\nput a/_a.go 1\nx\nput a/notes 1\nx\nput testdata/a.go 1\nx\ncheck\n", b"packages 1, errors 0\n", 0),
+    (b"put a/a.go 11\npackage a\n\n\nput a/b.go 10\npackage b\n\ncheck\n", b"a/b.go:1:9: package name differs\npackages 1, errors 1\n", 1),
+    (b"put a/a.go 11\npackage a\n\n\nput b/a.go 11\npackage a\n\n\ncheck\n", b"packages 2, errors 0\n", 0),
+    (b"put go.mod 9\nmodule m\n\ncheck\n", b"not built at 23\n", 11),
+    (b"put std/a 1\nx\ncheck\n", b"not built at 14\n", 11),
+    (b"put a/a.go 25\npackage a\n\nconst int = 1\n\ncheck\n", b"packages 1, errors 0\n", 0),
+    (b"put a/a.go 24\npackage a\n\nconst A = 01\n\ncheck\n", b"packages 1, errors 0\n", 0),
+    (b"put a/a.go 39\npackage a\n\nconst A = B + 1\nconst B = A\n\ncheck\ndel a/a.go\ncheck\n", b"a/a.go:3:7: E4 declaration cycle\na/a.go:4:7: E4 declaration cycle\npackages 1, errors 2\npackages 0, errors 0\n", 0),
+];
+
+/// Trees of constants of all types, and the reply to a check of each.
+#[rattlefmt::skip]
+const CONSTANTS: [Case; 10] = [
+    (b"put a/a.go 71\npackage a\n\nconst (\n\tA = iota\n\tB\n\tC uint8 = 200 + iota*100\n\tD = B / A\n)\n\ncheck\n", b"a/a.go:6:12: E32 not assignable\na/a.go:7:6: E31 division by zero\npackages 1, errors 2\n", 1),
+    (b"put a/a.go 46\npackage a\n\nconst (\n\tA uint8 = 255 + iota\n\tB\n)\n\ncheck\n", b"a/a.go:5:2: E32 not assignable\npackages 1, errors 1\n", 1),
+    (b"put a/a.go 94\npackage a\n\nconst (\n\tA, B = iota, -iota\n\t_, _\n\tC, D\n)\nconst S, T = \"a\" + \"b\", C < 3 && D == -2\n\ncheck\n", b"packages 1, errors 0\n", 0),
+    (b"put a/a.go 28\n//go:build linux\n\npackage a\n\ncheck\n", b"a/a.go:1:1: outside profile: build constraint\npackages 1, errors 1\n", 1),
+    (b"put a/a.go 27\npackage a\n\nimport \"unsafe\"\n\ncheck\n", b"a/a.go:3:8: outside profile: unsafe\npackages 1, errors 1\n", 1),
+    (b"put a/a.go 26\npackage a\n\nimport . \"m/q\"\n\nput q/q.go 10\npackage q\n\ncheck\n", b"a/a.go:3:8: outside profile: dot import\npackages 2, errors 1\n", 1),
+    (b"put a/a.go 26\npackage a\n\nimport _ \"m/q\"\n\nput q/q.go 10\npackage q\n\ncheck\n", b"packages 2, errors 0\n", 0),
+    (b"put a/a.go 25\npackage a\n\nconst A = 1.5\n\ncheck\n", b"a/a.go:3:11: outside profile: float\npackages 1, errors 1\n", 1),
+    (b"put q/q.go 31\npackage q\n\nconst N uint8 = 250\n\nput p/p.go 62\npackage p\n\nimport \"m/q\"\n\nconst M = q.N + 10\nconst L = q.N + 5\n\ncheck\n", b"p/p.go:5:11: E30 constant overflow\npackages 2, errors 1\n", 1),
+    (b"put a/a.go 39\npackage a\n\nimport \"m/q\"\n\nconst A = q.N\n\nput a/b.go 23\npackage a\n\nconst q = 1\n\nput q/q.go 23\npackage q\n\nconst N = 2\n\ncheck\n", b"a/a.go:3:8: E1 redeclared\na/a.go:3:8: E7 unused import\na/a.go:5:11: E20 no such field or method\npackages 2, errors 3\n", 1),
+];
+
+/// Trees of packages that import each other, and the replies to checks and to `stats`.
+#[rattlefmt::skip]
+const PACKAGES: [Case; 9] = [
+    (b"put q/q.go 23\npackage q\n\nconst N = 2\n\nput p/p.go 43\npackage p\n\nimport \"m/q\"\n\nconst M = q.N + 1\n\ncheck\nstats\ncheck\nstats\nput q/q.go 27\npackage q\n\nconst N = 1 + 1\n\ncheck\nstats\nput q/q.go 23\npackage q\n\nconst N = 3\n\ncheck\nstats\n", b"packages 2, errors 0\nnodes 2, missing 2, loads 2, runs 0\npackages 2, errors 0\nnodes 2, missing 0, loads 0, runs 0\npackages 2, errors 0\nnodes 2, missing 1, loads 1, runs 0\npackages 2, errors 0\nnodes 2, missing 2, loads 2, runs 0\n", 0),
+    (b"put q/q.go 23\npackage q\n\nconst N = 2\n\nput p/p.go 39\npackage p\n\nimport \"m/q\"\n\nconst M = q.n\n\ncheck\n", b"p/p.go:5:11: E9 not exported by package\npackages 2, errors 1\n", 1),
+    (b"put q/q.go 23\npackage q\n\nconst N = 2\n\nput p/p.go 37\npackage p\n\nimport \"m/q\"\n\nconst M = 1\n\ncheck\nstats\n", b"p/p.go:3:8: E7 unused import\npackages 2, errors 1\nnodes 2, missing 2, loads 2, runs 0\n", 1),
+    (b"put a/a.go 39\npackage a\n\nimport \"m/b\"\n\nconst A = b.B\n\nput b/b.go 39\npackage b\n\nimport \"m/a\"\n\nconst B = a.A\n\ncheck\n", b"m/a: import cycle\nm/b: import cycle\npackages 2, errors 2\n", 1),
+    (b"put q/q.go 23\npackage q\n\nconst N = N\n\nput p/p.go 39\npackage p\n\nimport \"m/q\"\n\nconst M = q.N\n\ncheck\n", b"m/p: blocked by m/q\nq/q.go:3:7: E4 declaration cycle\npackages 2, errors 2\n", 1),
+    (b"put p/p.go 39\npackage p\n\nimport \"m/q\"\n\nconst M = q.N\n\ncheck\n", b"p/p.go:3:8: missing import \"m/q\"\npackages 1, errors 1\n", 1),
+    (b"put a/a.go 102\npackage a\n\ntype T struct{ n int }\n\nfunc f(x T) bool {\n\tif x == T{} {\n\t\treturn true\n\t}\n\treturn false\n}\n\ncheck\n", b"a/a.go:5:1: syntax error\npackages 1, errors 1\n", 1),
+    (b"put a/a.go 26\npackage a\n\nconst S = 'ab'\n\ncheck\n", b"a/a.go:3:11: lexical: bad lexeme\npackages 1, errors 1\n", 1),
+    (b"put q/q.go 23\npackage q\n\nconst N = 2\n\ncheck\nput p/p.go 39\npackage p\n\nimport \"m/q\"\n\nconst M = q.N\n\ndel q/q.go\nstats\n", b"packages 1, errors 0\nnodes 1, missing 1, loads 1, runs 0\n", 0),
+];
+
+fn answer<R: Threads + Sync>(
+    rt: &R,
+    alloc: Global,
+    script: &[u8],
+    failing_reads: &[u64],
+    failing_writes: &[u64],
+    stalling: &[u64],
+) -> Result<(u8, Vec<u8>), Fail> {
+    let mut keeper = SureKeeper::new(alloc, None);
+    let mut input = MemSource::new(script.to_vec(alloc)?, failing_reads.to_vec(alloc)?);
+    let mut output = MemSink::new(
+        Vec::new(alloc),
+        failing_writes.to_vec(alloc)?,
+        stalling.to_vec(alloc)?,
+    );
+    let options = ToolOptions::PLAIN;
+    let status = session(rt, alloc, &options, &mut keeper, &mut input, &mut output);
+    Ok((status, output.bytes().to_vec(alloc)?))
+}
+
+fn answers<R: Threads + Sync + Abort>(rt: &R, alloc: Global, case: Case) -> Result<(), Fail> {
+    let (status, out) = answer(rt, alloc, case.0, &[], &[], &[])?;
+    assert_eq!(rt; out.as_slice(), case.1);
+    assert_eq!(rt; status, case.2);
+    Ok(())
+}
+
+#[test]
+fn answers_scripts(rt: HostRuntime) -> Result<(), Fail> {
+    for case in SCRIPTS {
+        answers(&rt, rt.alloc(), case)?;
+    }
+    Ok(())
+}
+
+#[test]
+fn answers_trees(rt: HostRuntime) -> Result<(), Fail> {
+    for case in TREES {
+        answers(&rt, rt.alloc(), case)?;
+    }
+    Ok(())
+}
+
+#[test]
+fn answers_trees_of_constants(rt: HostRuntime) -> Result<(), Fail> {
+    for case in CONSTANTS {
+        answers(&rt, rt.alloc(), case)?;
+    }
+    Ok(())
+}
+
+#[test]
+fn answers_trees_of_packages(rt: HostRuntime) -> Result<(), Fail> {
+    for case in PACKAGES {
+        answers(&rt, rt.alloc(), case)?;
+    }
+    Ok(())
+}
+
+/// What is due for the first `cut` bytes of the commands: the replies of those that are whole, and
+/// the line for the one that isn't.
+fn due_at(alloc: Global, cut: usize) -> Result<(u8, Vec<u8>), Fail> {
+    let mut due = Vec::new(alloc);
+    let mut at = 0usize;
+    let mut found = 0;
+    for (command, reply) in COMMANDS {
+        let end = at.saturating_add(command.len());
+        if cut < end {
+            if at < cut {
+                let line = format!(in alloc; "script refused at {at}\n")?;
+                due.extend_from_slice(line.as_bytes())?;
+                found = 8;
+            }
+            return Ok((found, due));
+        }
+        due.extend_from_slice(reply)?;
+        if !reply.is_empty() && !reply.starts_with(b"nodes") {
+            found = if reply.starts_with(b"packages") { 0 } else { 1 };
+        }
+        at = end;
+    }
+    Ok((found, due))
+}
+
+fn whole_script(alloc: Global) -> Result<Vec<u8>, Fail> {
+    let mut script = Vec::new(alloc);
+    for (command, _reply) in COMMANDS {
+        script.extend_from_slice(command)?;
+    }
+    Ok(script)
+}
+
+#[test]
+fn refuses_what_is_cut_short(rt: HostRuntime) -> Result<(), Fail> {
+    let script = whole_script(rt.alloc())?;
+    for cut in 0..=script.len() {
+        let (number, due) = due_at(rt.alloc(), cut)?;
+        let (status, out) = answer(&rt, rt.alloc(), &script[..cut], &[], &[], &[])?;
+        assert_eq!(rt; out.as_slice(), due.as_slice());
+        assert_eq!(rt; status, number);
+    }
+    Ok(())
+}
+
+const THREE_CHECKS: &[u8] = b"check\nput a.go 10\npackage a\n\ncheck\ndel a.go\ncheck\n";
+
+const ALL_REPLIES: &[u8] = b"packages 0, errors 0\npackages 1, errors 0\npackages 0, errors 0\n";
+
+#[test]
+fn ends_where_a_device_fails(rt: HostRuntime) -> Result<(), Fail> {
+    let dues = [
+        (0, b"".as_slice()),
+        (1, b"packages 0, errors 0\n".as_slice()),
+        (
+            2,
+            b"packages 0, errors 0\npackages 1, errors 0\n".as_slice(),
+        ),
+    ];
+    for (call, due) in dues {
+        let (status, out) = answer(&rt, rt.alloc(), THREE_CHECKS, &[], &[call], &[])?;
+        assert_eq!(rt; out.as_slice(), due);
+        assert_eq!(rt; status, 6);
+        let (status, out) = answer(&rt, rt.alloc(), THREE_CHECKS, &[], &[], &[call])?;
+        assert_eq!(rt; out.as_slice(), due);
+        assert_eq!(rt; status, 10);
+    }
+    Ok(())
+}
+
+#[test]
+fn ends_where_reading_fails(rt: HostRuntime) -> Result<(), Fail> {
+    // the calls of reading, of writing and of writing without progress that fail
+    let rows: [(&[u64], &[u64], &[u64], &[u8], u8); 3] = [
+        (&[2], &[3], &[3], ALL_REPLIES, 0),
+        (&[0], &[], &[], b"", 3),
+        (&[1], &[], &[], ALL_REPLIES, 3),
+    ];
+    for (reads, writes, stalls, due, number) in rows {
+        let (status, out) = answer(&rt, rt.alloc(), THREE_CHECKS, reads, writes, stalls)?;
+        assert_eq!(rt; out.as_slice(), due);
+        assert_eq!(rt; status, number);
+    }
+    Ok(())
+}
+
+fn status_of<R: Threads + Sync>(
+    rt: &R,
+    alloc: Global,
+    words: &[&str],
+) -> Result<(u8, usize), Fail> {
+    let mut list = Vec::new(alloc);
+    for word in words {
+        list.push(String::from_str(alloc, *word)?)?;
+    }
+    let mut tree = SureTree::new(alloc);
+    let mut keeper = SureKeeper::new(alloc, None);
+    let mut input = MemSource::new(b"check\n".to_vec(alloc)?, Vec::new(alloc));
+    let mut output = MemSink::new(Vec::new(alloc), Vec::new(alloc), Vec::new(alloc));
+    let status = gvet(
+        rt,
+        alloc,
+        &list,
+        &mut tree,
+        &mut keeper,
+        &mut input,
+        &mut output,
+    );
+    Ok((status, output.bytes().len()))
+}
+
+#[test]
+fn reads_its_words(rt: HostRuntime) -> Result<(), Fail> {
+    let rows: [(&[&str], u8, usize); 5] = [
+        (&["session"], 0, 21),
+        (&[], 2, 0),
+        (&["check"], 2, 0),
+        (&["session", "session"], 2, 0),
+        (&["session "], 2, 0),
+    ];
+    for (words, number, written) in rows {
+        assert_eq!(rt; status_of(&rt, rt.alloc(), words)?, (number, written));
+    }
+    Ok(())
+}
+
+#[test]
+fn reads_and_writes_by_std(rt: HostRuntime) -> Result<(), Fail> {
+    let mut written = Vec::new(rt.alloc());
+    let mut keeper = SureKeeper::new(rt.alloc(), None);
+    let mut input = StdSource::new(b"check\ncheck\n".as_slice());
+    let mut output = StdSink::new(&mut written);
+    let options = ToolOptions::PLAIN;
+    let status = session(
+        &rt,
+        rt.alloc(),
+        &options,
+        &mut keeper,
+        &mut input,
+        &mut output,
+    );
+    assert_eq!(rt; status, 0);
+    assert_eq!(rt;
+        written.as_slice(),
+        b"packages 0, errors 0\npackages 0, errors 0\n".as_slice()
+    );
+    Ok(())
+}
+
+/// Each status, its number and its name.
+const STATUSES: [(Status, u8, &str); 10] = [
+    (Status::Done, 0, ""),
+    (Status::Found, 1, ""),
+    (Status::Usage, 2, "usage"),
+    (Status::SourceFault, 3, "source fault"),
+    (Status::SinkFault, 6, "sink fault"),
+    (Status::NoMemory, 7, "no memory"),
+    (Status::Refused, 8, "script refused"),
+    (Status::TooLong, 9, "input too long"),
+    (Status::Stuck, 10, "sink stuck"),
+    (Status::NotBuilt, 11, "not built"),
+];
+
+#[test]
+fn names_each_status(rt: HostRuntime) -> Result<(), Fail> {
+    for (status, number, name) in STATUSES {
+        assert_eq!(rt; status as u8, number);
+        assert_eq!(rt; status_name(number), name);
+    }
+    for number in [4, 5, 12, 255] {
+        assert_eq!(rt; status_name(number), "");
+    }
+    Ok(())
+}
+
+#[test]
+fn plain_options_choose_each_analyzer(rt: HostRuntime) -> Result<(), Fail> {
+    let plain = ToolOptions::PLAIN;
+    assert_eq!(rt; plain.workers, 1);
+    assert!(rt; !plain.json);
+    // 2 + 4 + 8 + .. + 1024: a bit for each of the numbers from 1 to 10
+    assert_eq!(rt; plain.only, 2046);
+    Ok(())
+}
