@@ -6,15 +6,15 @@ use crate::marking::Marking;
 
 /// Before anything is marked, the marks are sound.
 pub fn no_marks_are_sound<K: Marking>()
-    ensures { (s : K.Subject) (so_far : K.Item → Option K.Meaning) → ((i : K.Item) → so_far i ≡ None) → Sound K.says (K.rule s) so_far }
+    ensures { (s : K.Subject) (so_far : K.Item → Option K.Meaning) → ((i : K.Item) → so_far i ≡ None) → Sound (K.says s) (K.rule s) so_far }
 {}
 
 /// Where each item is marked, sound marks are the annotation, and there is no other.
 pub fn sound_marks_are_the_annotation<K: Marking>()
-    ensures { (s : K.Subject) (blank : K.Meaning) (so_far : K.Item → Option K.Meaning) → Sound K.says (K.rule s) so_far → AreAllMarked blank (K.rule s) so_far → IsTheAnnotation K.says (K.rule s) (filled blank so_far) }
+    ensures { (s : K.Subject) (blank : K.Meaning) (so_far : K.Item → Option K.Meaning) → Sound (K.says s) (K.rule s) so_far → AreAllMarked blank (K.rule s) so_far → IsTheAnnotation (K.says s) (K.rule s) (filled blank so_far) }
 {}
 
 /// No item waits for itself where rules wait for items of a lesser rank alone.
 pub fn ranked_rules_meet_no_circle<K: Marking>()
-    ensures { (s : K.Subject) (so_far : K.Item → Option K.Meaning) (rank : K.Item → ℕ) → AreRanked K.says K.pends (K.rule s) so_far rank → (i : K.Item) → WaitsFor (λ x. Awaits K.says K.pends so_far (K.rule s x)) i i → ⊥ }
+    ensures { (s : K.Subject) (so_far : K.Item → Option K.Meaning) (rank : K.Item → ℕ) → AreRanked (K.says s) (K.pends s) (K.rule s) so_far rank → (i : K.Item) → WaitsFor (λ x. Awaits (K.says s) (K.pends s) so_far (K.rule s x)) i i → ⊥ }
 {}

@@ -18,16 +18,16 @@ pub trait Marking {
     /// What is answered.
     ghost Answer: { Type 0 };
 
-    /// The answers to questions over marks.
-    ghost says: { (Self.Item → Option Meaning) → Question → Answer → Type 0 };
-
-    /// The items for whose marks a question waits.
-    ghost pends: { (Self.Item → Option Meaning) → Question → Self.Item → Type 0 };
-
-    /// On what the items and their rules rest. No mark changes it.
+    /// On what the items, their rules and the answers rest. No mark changes it.
     ghost Subject: { Type 0 };
 
     ghost subject: { Self → Subject };
+
+    /// The answers to questions over marks.
+    ghost says: { Subject → (Self.Item → Option Meaning) → Question → Answer → Type 0 };
+
+    /// The items for whose marks a question waits.
+    ghost pends: { Subject → (Self.Item → Option Meaning) → Question → Self.Item → Type 0 };
 
     /// Which items there are.
     ghost IsItem: { Subject → Self.Item → Type 0 };
@@ -47,7 +47,7 @@ pub trait Marking {
     ghost so_far: { Self → Self.Item → Option Meaning };
 
     /// An answer stays while more is marked, and there is one.
-    ghost lasts: { Lasting says pends };
+    ghost lasts: { (s : Subject) → Lasting (says s) (pends s) };
 
     /// Each item has a number of its own.
     ghost numbers: { (s : Subject) → AreNumbers (IsItem s) (number s) (count s) };
@@ -74,5 +74,5 @@ pub trait Marking {
         requires unmarked { so_far self.old item ≡ None }
         ensures state { OnOk result (IsState self.new) }
         ensures subject { OnOk result (subject self.new ≡ subject self.old) }
-        ensures steps { IfOk result (λ waits. Steps says pends (IsItem (subject self.old)) (rule (subject self.old)) (so_far self.old) (so_far self.new) item waits) };
+        ensures steps { IfOk result (λ waits. Steps (says (subject self.old)) (pends (subject self.old)) (IsItem (subject self.old)) (rule (subject self.old)) (so_far self.old) (so_far self.new) item waits) };
 }

@@ -99,14 +99,14 @@ fn step<K: Marking>(
     top: K::Item,
 ) -> Result<Option<K::Item>, NoMemory>
     requires state { K.IsState kit.old }
-    requires waits { Waits (K.IsItem (K.subject kit.old)) (K.number (K.subject kit.old)) (K.count (K.subject kit.old)) (λ x. Awaits K.says K.pends (K.so_far kit.old) (K.rule (K.subject kit.old) x)) (K.so_far kit.old) (waiting.old.items ++ top ∷ []) met.old.items }
+    requires waits { Waits (K.IsItem (K.subject kit.old)) (K.number (K.subject kit.old)) (K.count (K.subject kit.old)) (λ x. Awaits (K.says (K.subject kit.old)) (K.pends (K.subject kit.old)) (K.so_far kit.old) (K.rule (K.subject kit.old) x)) (K.so_far kit.old) (waiting.old.items ++ top ∷ []) met.old.items }
     ensures state { OnOk result (K.IsState kit.new) }
     ensures subject { OnOk result (K.subject kit.new ≡ K.subject kit.old) }
-    ensures goes { OnOk result (Goes K.says (K.rule (K.subject kit.old)) (K.so_far kit.old) (K.so_far kit.new)) }
+    ensures goes { OnOk result (Goes (K.says (K.subject kit.old)) (K.rule (K.subject kit.old)) (K.so_far kit.old) (K.so_far kit.new)) }
     ensures notes { IfOk result (λ circle. circle ≡ None → NotesStay met.old.items met.new.items) }
-    ensures waits { IfOk result (λ circle. circle ≡ None → Waits (K.IsItem (K.subject kit.old)) (K.number (K.subject kit.old)) (K.count (K.subject kit.old)) (λ x. Awaits K.says K.pends (K.so_far kit.new) (K.rule (K.subject kit.old) x)) (K.so_far kit.new) waiting.new.items met.new.items) }
+    ensures waits { IfOk result (λ circle. circle ≡ None → Waits (K.IsItem (K.subject kit.old)) (K.number (K.subject kit.old)) (K.count (K.subject kit.old)) (λ x. Awaits (K.says (K.subject kit.old)) (K.pends (K.subject kit.old)) (K.so_far kit.new) (K.rule (K.subject kit.old) x)) (K.so_far kit.new) waiting.new.items met.new.items) }
     ensures less { IfOk result (λ circle. circle ≡ None → left_to_do waiting.new.items met.new.items ≤ left_to_do waiting.old.items met.old.items) }
-    ensures circle { IfOk result (IsCircle (λ x. Awaits K.says K.pends (K.so_far kit.new) (K.rule (K.subject kit.old) x))) }
+    ensures circle { IfOk result (IsCircle (λ x. Awaits (K.says (K.subject kit.old)) (K.pends (K.subject kit.old)) (K.so_far kit.new) (K.rule (K.subject kit.old) x))) }
 {
     let waits = kit.judge(top)?;
     match waits {
@@ -141,8 +141,8 @@ pub fn mark<K: Marking>(
     requires rests { Rests (K.IsItem (K.subject kit.old)) (K.number (K.subject kit.old)) (K.count (K.subject kit.old)) (K.so_far kit.old) walk.old }
     ensures state { OnOk result (K.IsState kit.new) }
     ensures subject { OnOk result (K.subject kit.new ≡ K.subject kit.old) }
-    ensures goes { OnOk result (Goes K.says (K.rule (K.subject kit.old)) (K.so_far kit.old) (K.so_far kit.new)) }
-    ensures ends { IfOk result (Ends (λ x. Awaits K.says K.pends (K.so_far kit.new) (K.rule (K.subject kit.old) x)) (K.so_far kit.new) item) }
+    ensures goes { OnOk result (Goes (K.says (K.subject kit.old)) (K.rule (K.subject kit.old)) (K.so_far kit.old) (K.so_far kit.new)) }
+    ensures ends { IfOk result (Ends (λ x. Awaits (K.says (K.subject kit.old)) (K.pends (K.subject kit.old)) (K.so_far kit.new) (K.rule (K.subject kit.old) x)) (K.so_far kit.new) item) }
     ensures rests { IfOk result (λ walked. walked ≡ Walked.Marked → Rests (K.IsItem (K.subject kit.old)) (K.number (K.subject kit.old)) (K.count (K.subject kit.old)) (K.so_far kit.new) walk.new) }
 {
     if kit.is_marked(item) {

@@ -45,13 +45,13 @@ impl Marking for Links {
 
     ghost Answer = { ⊥ };
 
-    ghost says = { λ so_far q x. ⊥ };
-
-    ghost pends = { λ so_far q i. ⊥ };
-
     ghost Subject = { List (Option ℕ) };
 
     ghost subject = { λ k. k.links.items };
+
+    ghost says = { λ links so_far q x. ⊥ };
+
+    ghost pends = { λ links so_far q i. ⊥ };
 
     ghost IsItem = { λ links i. i < length links };
 
@@ -65,7 +65,7 @@ impl Marking for Links {
 
     ghost so_far = { λ k i. mark_at k.marks.items i };
 
-    ghost lasts = { no_questions };
+    ghost lasts = { λ links. no_questions };
 
     ghost numbers = { own_numbers };
 

@@ -11,8 +11,8 @@ invariant-loop-top g l =
     record {
       state : k.IsState l.kit;
       subject : k.subject l.kit ≡ k.subject l.fn.kit;
-      goes : Goes k.says (k.rule s) (k.so_far l.fn.kit) (k.so_far l.kit);
-      waits : Waits (k.IsItem s) (k.number s) (k.count s) (λ x. Awaits k.says k.pends (k.so_far l.kit) (k.rule s x)) (k.so_far l.kit) l.walk.waiting.items l.walk.met.items;
+      goes : Goes (k.says s) (k.rule s) (k.so_far l.fn.kit) (k.so_far l.kit);
+      waits : Waits (k.IsItem s) (k.number s) (k.count s) (λ x. Awaits (k.says s) (k.pends s) (k.so_far l.kit) (k.rule s x)) (k.so_far l.kit) l.walk.waiting.items l.walk.met.items;
       noted : slice_get l.walk.met.items (k.number s l.fn.item) ≡ Some true;
     }
 

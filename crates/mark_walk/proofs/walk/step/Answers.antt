@@ -7,27 +7,27 @@ pub returns-in-None-clause-goes : goal.returns-in-None-clause-goes
 returns-in-None-clause-goes g c =
     let k = g.K.Marking in
     let s = k.subject c.args.kit.now in
-    goes_step k.says k.pends k.lasts (k.IsItem s) (k.rule s) (k.so_far c.args.kit.now) (k.so_far c.judge.new.self) c.args.top c.in_ok-waits.waits c.in_ok-waits.ensures.steps
+    goes_step (k.says s) (k.pends s) (k.lasts s) (k.IsItem s) (k.rule s) (k.so_far c.args.kit.now) (k.so_far c.judge.new.self) c.args.top c.in_ok-waits.waits c.in_ok-waits.ensures.steps
 
 pub returns-in-None-clause-waits : goal.returns-in-None-clause-waits
 returns-in-None-clause-waits g c none =
     let k = g.K.Marking in
     let s = k.subject c.args.kit.now in
-    marked_waits k.says k.pends k.lasts (k.IsItem s) (k.number s) (k.count s) (k.numbers s) (k.rule s) (k.so_far c.args.kit.now) (k.so_far c.judge.new.self)
+    marked_waits (k.says s) (k.pends s) (k.lasts s) (k.IsItem s) (k.number s) (k.count s) (k.numbers s) (k.rule s) (k.so_far c.args.kit.now) (k.so_far c.judge.new.self)
     c.args.waiting.now.items c.args.top c.args.met.now.items c.requires.waits c.in_ok-waits.waits c.in-None.is c.in_ok-waits.ensures.steps
 
 pub returns-in_ok-circle-in-Some-clause-goes : goal.returns-in_ok-circle-in-Some-clause-goes
 returns-in_ok-circle-in-Some-clause-goes g c =
     let k = g.K.Marking in
     let s = k.subject c.args.kit.now in
-    goes_step k.says k.pends k.lasts (k.IsItem s) (k.rule s) (k.so_far c.args.kit.now) (k.so_far c.judge.new.self) c.args.top c.in_ok-waits.waits c.in_ok-waits.ensures.steps
+    goes_step (k.says s) (k.pends s) (k.lasts s) (k.IsItem s) (k.rule s) (k.so_far c.args.kit.now) (k.so_far c.judge.new.self) c.args.top c.in_ok-waits.waits c.in_ok-waits.ensures.steps
 
 pub returns-in_ok-circle-in-Some-clause-notes : goal.returns-in_ok-circle-in-Some-clause-notes
 returns-in_ok-circle-in-Some-clause-notes g c none =
     let k = g.K.Marking in
     let s = k.subject c.args.kit.now in
     let e = c.in_ok-circle-in-Some.ensures in
-    push_notes k.says k.pends k.lasts (k.IsItem s) (k.number s) (k.count s) (k.numbers s) (k.rule s) (k.so_far c.args.kit.now) (k.so_far c.judge.new.self)
+    push_notes (k.says s) (k.pends s) (k.lasts s) (k.IsItem s) (k.number s) (k.count s) (k.numbers s) (k.rule s) (k.so_far c.args.kit.now) (k.so_far c.judge.new.self)
     c.args.waiting.now.items c.args.top c.args.met.now.items c.requires.waits c.in_ok-circle-in-Some.circle c.wait_for.new.waiting.items c.wait_for.new.met.items c.in-Some.other c.number-number.result (c.number-number.ensures ∙ ap (λ (x : k.Subject). k.number x c.in-Some.other) c.in_ok-waits.ensures.subject)
     e.again e.first e.waiting e.met c.in_ok-waits.waits c.in-Some.is c.in_ok-waits.ensures.steps none
 
@@ -36,7 +36,7 @@ returns-in_ok-circle-in-Some-clause-waits g c none =
     let k = g.K.Marking in
     let s = k.subject c.args.kit.now in
     let e = c.in_ok-circle-in-Some.ensures in
-    push_waits k.says k.pends k.lasts (k.IsItem s) (k.number s) (k.count s) (k.numbers s) (k.rule s) (k.so_far c.args.kit.now) (k.so_far c.judge.new.self)
+    push_waits (k.says s) (k.pends s) (k.lasts s) (k.IsItem s) (k.number s) (k.count s) (k.numbers s) (k.rule s) (k.so_far c.args.kit.now) (k.so_far c.judge.new.self)
     c.args.waiting.now.items c.args.top c.args.met.now.items c.requires.waits c.in_ok-circle-in-Some.circle c.wait_for.new.waiting.items c.wait_for.new.met.items c.in-Some.other c.number-number.result (c.number-number.ensures ∙ ap (λ (x : k.Subject). k.number x c.in-Some.other) c.in_ok-waits.ensures.subject)
     e.again e.first e.waiting e.met c.in_ok-waits.waits c.in-Some.is c.in_ok-waits.ensures.steps none
 
@@ -45,7 +45,7 @@ returns-in_ok-circle-in-Some-clause-less g c none =
     let k = g.K.Marking in
     let s = k.subject c.args.kit.now in
     let e = c.in_ok-circle-in-Some.ensures in
-    push_less k.says k.pends k.lasts (k.IsItem s) (k.number s) (k.count s) (k.numbers s) (k.rule s) (k.so_far c.args.kit.now) (k.so_far c.judge.new.self)
+    push_less (k.says s) (k.pends s) (k.lasts s) (k.IsItem s) (k.number s) (k.count s) (k.numbers s) (k.rule s) (k.so_far c.args.kit.now) (k.so_far c.judge.new.self)
     c.args.waiting.now.items c.args.top c.args.met.now.items c.requires.waits c.in_ok-circle-in-Some.circle c.wait_for.new.waiting.items c.wait_for.new.met.items c.in-Some.other c.number-number.result (c.number-number.ensures ∙ ap (λ (x : k.Subject). k.number x c.in-Some.other) c.in_ok-waits.ensures.subject)
     e.again e.first e.waiting e.met c.in_ok-waits.waits c.in-Some.is c.in_ok-waits.ensures.steps none
 
@@ -54,6 +54,6 @@ returns-in_ok-circle-in-Some-clause-circle g c =
     let k = g.K.Marking in
     let s = k.subject c.args.kit.now in
     let e = c.in_ok-circle-in-Some.ensures in
-    push_circle k.says k.pends k.lasts (k.IsItem s) (k.number s) (k.count s) (k.numbers s) (k.rule s) (k.so_far c.args.kit.now) (k.so_far c.judge.new.self)
+    push_circle (k.says s) (k.pends s) (k.lasts s) (k.IsItem s) (k.number s) (k.count s) (k.numbers s) (k.rule s) (k.so_far c.args.kit.now) (k.so_far c.judge.new.self)
     c.args.waiting.now.items c.args.top c.args.met.now.items c.requires.waits c.in_ok-circle-in-Some.circle c.wait_for.new.waiting.items c.wait_for.new.met.items c.in-Some.other c.number-number.result (c.number-number.ensures ∙ ap (λ (x : k.Subject). k.number x c.in-Some.other) c.in_ok-waits.ensures.subject)
     e.again e.first e.waiting e.met c.in_ok-waits.waits c.in-Some.is c.in_ok-waits.ensures.steps
