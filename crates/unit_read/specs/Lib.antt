@@ -1,0 +1,4 @@
+pub mod Places
+pub mod Passages
+pub mod Subjects
+pub mod Units

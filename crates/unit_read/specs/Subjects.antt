@@ -1,0 +1,40 @@
+-- What is kept of a package that has been read.
+use Rattle.std.specs.Prelude.{◌≡◌, ℕ, List, map, Option, Some, option_and_then, slice_get}
+use Rattle.std.specs.Global.{Vec}
+use Rattle.std.specs.HashMap.{HashMap, get_by}
+use Rattle.std.specs.Str.{bytes_eq}
+use denote.Ref.{Bor}
+use Rattle.type_model.specs.declared.term.TypeName.{TypeName}
+use Rattle.go_tree.specs.declared.tree.NodeRef.{NodeRef}
+use Rattle.unit_read.specs.declared.subject.Subject.{Subject}
+use Rattle.unit_read.specs.Passages.{passages}
+use Rattle.unit_read.specs.Units.{Unit, object_at, place_at, spec_at, defined, type_name, named_by}
+
+-- what a table of rows, one for each file, has for a node
+abbrev pub cell : {X : Type 0} → List (Vec (Option X)) → NodeRef → Option X
+cell {X} rows at = option_and_then (λ (row : Vec (Option X)). option_and_then (λ (o : Option X). o) (slice_get row.items at.node)) (slice_get rows at.file)
+
+abbrev pub texts_of : List (Bor (List ℕ)) → List (List ℕ)
+texts_of texts = map (λ text. text.now) texts
+
+-- the package of a subject
+abbrev pub unit_of : Subject → Unit
+unit_of s = record { path = s.path.now; texts = texts_of s.texts.now; trees = s.trees.now; uses = s.uses.now }
+
+-- what is kept under a name
+abbrev pub found : {X S : Type 0} → HashMap (Bor (List ℕ)) X S → List ℕ → Option X
+found named name = get_by (λ key. bytes_eq name key.now) named
+
+-- the name of a defined type of a package that is declared at package level
+abbrev pub top_name : Unit → List ℕ → TypeName
+top_name u name = record { «package» = u.path; name = name; local = 0 }
+
+-- each row has what is said of its nodes
+pub record IsRead (s : Subject) : Type 0 where
+  pub blocks : s.passages.items ≡ passages s.trees.now
+  pub objects : (at : NodeRef) → cell s.objects.items at ≡ object_at (unit_of s) at
+  pub places : (at : NodeRef) → cell s.places.items at ≡ place_at (unit_of s) at
+  pub specs : (at : NodeRef) → cell s.specs.items at ≡ spec_at (unit_of s) at
+  pub types : s.defined.items ≡ defined (unit_of s)
+  pub locals : (k : ℕ) (at : NodeRef) → slice_get (defined (unit_of s)) k ≡ Some at → cell s.locals.items at ≡ Some (type_name (unit_of s) at).local
+  pub named : (q : List ℕ) → found s.named q ≡ named_by (unit_of s) (top_name (unit_of s) q) (defined (unit_of s))
