@@ -1,0 +1,3 @@
+mod KeepLemmas
+pub mod PartLemmas
+pub mod SceneLemmas

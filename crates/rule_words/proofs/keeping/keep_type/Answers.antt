@@ -1,0 +1,5 @@
+use Rattle.rule_words.proofs.KeepLemmas.{grown_scene}
+use Rattle.rule_words.proofs.keeping.keep_type.Goals as goal
+
+pub keep_mark-requires-clause-scene : goal.keep_mark-requires-clause-scene
+keep_mark-requires-clause-scene c = grown_scene c.args.u.now c.args.s.now c.add.new.self c.requires.scene c.in_ok-added.ensures.grown

@@ -1,0 +1,5 @@
+pub mod Answers
+pub mod Asking
+pub mod Parts
+pub mod Scenes
+pub mod Steps

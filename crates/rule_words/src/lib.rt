@@ -1,0 +1,20 @@
+//! The words in which typing rules are written: what they ask of a package that is read and of its marks so far, and the code that asks.
+#![tactic(auto)]
+
+mod answer;
+mod keeping;
+mod marks;
+mod read;
+mod reading;
+mod seen;
+mod step;
+mod under;
+
+pub use answer::Answer;
+pub use keeping::keep;
+pub use marks::look;
+pub use read::{How, Read};
+pub use reading::{part, parts};
+pub use seen::Seen;
+pub use step::{Asked, Rest, Step};
+pub use under::{mark_under, under_of};
