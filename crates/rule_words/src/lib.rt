@@ -9,6 +9,7 @@ mod reading;
 mod seen;
 mod step;
 mod under;
+mod wanted;
 
 pub use answer::Answer;
 pub use keeping::keep;
@@ -17,4 +18,5 @@ pub use read::{How, Read};
 pub use reading::{part, parts};
 pub use seen::Seen;
 pub use step::{Asked, Rest, Step};
-pub use under::{mark_under, under_of};
+pub use under::{mark_under, pending, under_of};
+pub use wanted::{Wanted, last_of, operand, wanted_by};
