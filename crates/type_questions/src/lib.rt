@@ -1,0 +1,6 @@
+//! Stand-in.
+#![tactic(auto)]
+
+mod reached;
+
+pub use reached::{Found, Reached};
