@@ -1,6 +1,6 @@
 -- Laws of rules that ask, whatever the rules and the questions are.
 use Rattle.std.proofs.Common.{◌≡◌, ℕ, ◌<◌, List, [], ◌∷◌, Option, Some, None, unwrap_or, refl, sym, ap, ◌∙◌, subst, inl, inr, arith}
-use Rattle.mark_walk.specs.Asks.{Ask, done, ask, put, Gives, Awaits, Lasting, Annotates, Sound, Keeps, Adds, Stays, IsMarked, AreAllMarked, IsTheAnnotation, filled, bind, IsChain, WaitsFor, AreRanked}
+use Rattle.mark_walk.specs.Asks.{Ask, done, ask, put, Gives, Awaits, Lasting, Annotates, Sound, Keeps, Adds, Stays, IsMarked, IsFirst, AreAllMarked, IsTheAnnotation, filled, bind, IsChain, WaitsFor, AreRanked}
 use Rattle.mark_walk.specs.Marking.{Steps, Goes}
 
 some_one : {M : Type 0} (o : Option M) (a b : M) → o ≡ Some a → o ≡ Some b → a ≡ b
@@ -124,8 +124,28 @@ goes_then says rule x y z f g = record { keeps = λ i m e. g.keeps i m (f.keeps 
 pub marked_still : {I M : Type 0} (x y : I → Option M) (i : I) → Keeps x y → IsMarked x i → IsMarked y i
 marked_still x y i keeps (m, e) = (m, keeps i m e)
 
-pub nothing_sound : {I M Q A : Type 0} (says : (I → Option M) → Q → A → Type 0) (rule : I → Ask I M Q A M) (so_far : I → Option M) → ((i : I) → so_far i ≡ None) → Sound says rule so_far
-nothing_sound says rule so_far none = record { obeys = λ i m e. absurd (let n = none i in cc); forced = λ marks all i m e. absurd (let n = none i in cc) }
+given : {I M Q A : Type 0} (says : (I → Option M) → Q → A → Type 0) (so_far : I → Option M) (r : Ask I M Q A M) (m n : M) → r ≡ done m → m ≡ n → Gives says so_far r n
+given {I} {M} {Q} {A} says so_far r m n is same = subst (λ (x : Ask I M Q A M). Gives says so_far x n) (sym is) same
+
+taken : {I M Q A : Type 0} (says : (I → Option M) → Q → A → Type 0) (so_far : I → Option M) (r : Ask I M Q A M) (m n : M) → r ≡ done m → Gives says so_far r n → m ≡ n
+taken {I} {M} {Q} {A} says so_far r m n is gives = subst (λ (x : Ask I M Q A M). Gives says so_far x n) is gives
+
+first_obeys : {I M Q A : Type 0} (says : (I → Option M) → Q → A → Type 0) (rule : I → Ask I M Q A M) (so_far : I → Option M) → IsFirst rule so_far
+    → (i : I) (m : M) → so_far i ≡ Some m → Gives says so_far (rule i) m
+first_obeys says rule so_far first i m e = elim (first i) [
+  | inl none ↦ absurd cc
+  | inr (n, at, is) ↦ (let same : n ≡ m = cc in given says so_far (rule i) n m is same)
+]
+
+first_forced : {I M Q A : Type 0} (says : (I → Option M) → Q → A → Type 0) (rule : I → Ask I M Q A M) (so_far : I → Option M) → IsFirst rule so_far
+    → (marks : I → M) → Annotates says rule marks → (i : I) (m : M) → so_far i ≡ Some m → marks i ≡ m
+first_forced says rule so_far first marks all i m e = elim (first i) [
+  | inl none ↦ absurd cc
+  | inr (n, at, is) ↦ (let same : n ≡ m = cc in sym (taken says (λ j. Some (marks j)) (rule i) n (marks i) is (all i)) ∙ same)
+]
+
+pub first_sound : {I M Q A : Type 0} (says : (I → Option M) → Q → A → Type 0) (rule : I → Ask I M Q A M) (so_far : I → Option M) → IsFirst rule so_far → Sound says rule so_far
+first_sound says rule so_far first = record { obeys = first_obeys says rule so_far first; forced = first_forced says rule so_far first }
 
 -- ---- circles
 

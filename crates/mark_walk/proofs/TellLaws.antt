@@ -2,7 +2,7 @@
 use Rattle.std.proofs.Common.{◌≡◌, ◌⊎◌, Option, Some, None, refl, sym, ap, ◌∙◌, subst, inl, inr}
 use Rattle.std.specs.Option.{option_map_or}
 use Rattle.mark_walk.specs.Asks.{Ask, done, ask, put, bind, Gives, Awaits}
-use Rattle.mark_walk.specs.Telling.{Outcome, Says, Waits, Puts, tell, then}
+use Rattle.mark_walk.specs.Telling.{Outcome, Says, Waits, Puts, tell, then, Yields, Expects}
 
 -- a rule within a rule
 pub tell_bind : {I M Q A R S : Type 0} (so_far : I → Option M) (r : Ask I M Q A R) (rest : R → Ask I M Q A S) → tell so_far (bind r rest) ≡ then so_far (tell so_far r) rest
@@ -83,3 +83,18 @@ puts_awaits {I} {M} {Q} {A} {R} says pends so_far (ask i next) q rest a j e is m
 puts_awaits {I} {M} {Q} {A} {R} says pends so_far (put p next) q rest a j e is more =
     let same : p ≡ q = cc in let on : next ≡ rest = cc in
     inr (a, subst (λ (y : Q). says so_far y a) (sym same) is, subst (λ (f : A → Ask I M Q A R). Awaits says pends so_far (f a) j) (sym on) more)
+
+-- ---- outcomes whose questions are answered one after the other
+
+pub yields_gives : {I M Q A R : Type 0} (says : (I → Option M) → Q → A → Type 0) (so_far : I → Option M) (r : Ask I M Q A R) (o : Outcome I M Q A R) (x : R)
+    → tell so_far r ≡ o → Yields says so_far o x → Gives says so_far r x
+yields_gives says so_far r (Says y) x e is = says_gives says so_far r x (e ∙ ap Says is)
+yields_gives says so_far r (Waits i) x e is = absurd is
+yields_gives says so_far r (Puts q rest) x e (a, is, more) = puts_gives says so_far r q rest a x e is more
+
+pub expects_awaits : {I M Q A R : Type 0} (says : (I → Option M) → Q → A → Type 0) (pends : (I → Option M) → Q → I → Type 0) (so_far : I → Option M) (r : Ask I M Q A R)
+    (o : Outcome I M Q A R) (j : I) → tell so_far r ≡ o → Expects says pends so_far o j → Awaits says pends so_far r j
+expects_awaits says pends so_far r (Says y) j e is = absurd is
+expects_awaits says pends so_far r (Waits i) j e is = waits_awaits says pends so_far r j (e ∙ ap Waits is)
+expects_awaits says pends so_far r (Puts q rest) j e (inl is) = puts_pends says pends so_far r q rest j e is
+expects_awaits says pends so_far r (Puts q rest) j e (inr (a, is, more)) = puts_awaits says pends so_far r q rest a j e is more

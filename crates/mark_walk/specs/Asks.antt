@@ -53,6 +53,10 @@ pub record Sound {I M Q A : Type 0} (says : (I → Option M) → Q → A → Typ
   pub obeys : (i : I) (m : M) → so_far i ≡ Some m → Gives says so_far (rule i) m
   pub forced : (marks : I → M) → Annotates says rule marks → (i : I) (m : M) → so_far i ≡ Some m → marks i ≡ m
 
+-- before anything is marked: an item has no mark, or that which its rule gives at once
+abbrev pub IsFirst : {I M Q A : Type 0} → (I → Ask I M Q A M) → (I → Option M) → Type 0
+IsFirst {I} {M} rule so_far = (i : I) → (so_far i ≡ None) ⊎ ((m : M) × (so_far i ≡ Some m) × (rule i ≡ done m))
+
 -- one item is marked, and all else stays
 pub record Adds {I M : Type 0} (so_far next : I → Option M) (i : I) (m : M) : Type 0 where
   pub new : next i ≡ Some m

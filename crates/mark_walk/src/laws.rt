@@ -1,12 +1,12 @@
 //! What holds of rules that ask, whatever they are. The bodies are empty: the contracts are the laws.
-ghost use Rattle.std.specs.Prelude.{◌≡◌, ℕ, Option, None};
-ghost use Rattle.mark_walk.specs.Asks.{Awaits, AreAllMarked, AreRanked, IsTheAnnotation, Sound, WaitsFor, filled};
+ghost use Rattle.std.specs.Prelude.{ℕ, Option};
+ghost use Rattle.mark_walk.specs.Asks.{Awaits, IsFirst, AreAllMarked, AreRanked, IsTheAnnotation, Sound, WaitsFor, filled};
 
 use crate::marking::Marking;
 
-/// Before anything is marked, the marks are sound.
-pub fn no_marks_are_sound<K: Marking>()
-    ensures { (s : K.Subject) (so_far : K.Item → Option K.Meaning) → ((i : K.Item) → so_far i ≡ None) → Sound (K.says s) (K.rule s) so_far }
+/// Before anything is marked, but what rules give at once, the marks are sound.
+pub fn first_marks_are_sound<K: Marking>()
+    ensures { (s : K.Subject) (so_far : K.Item → Option K.Meaning) → IsFirst (K.rule s) so_far → Sound (K.says s) (K.rule s) so_far }
 {}
 
 /// Where each item is marked, sound marks are the annotation, and there is no other.

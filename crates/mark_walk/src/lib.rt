@@ -5,6 +5,8 @@ mod laws;
 mod marking;
 mod walk;
 
-pub use laws::{no_marks_are_sound, ranked_rules_meet_no_circle, sound_marks_are_the_annotation};
+pub use laws::{
+    first_marks_are_sound, ranked_rules_meet_no_circle, sound_marks_are_the_annotation,
+};
 pub use marking::Marking;
 pub use walk::{Walk, Walked, mark, walk_over};

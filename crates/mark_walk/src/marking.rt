@@ -54,11 +54,13 @@ pub trait Marking {
 
     /// How many items there are at most.
     fn count(&self) -> usize
+        requires { IsState self.now }
         ensures { result ≡ count (subject self.now) };
 
     /// The number of an item.
     fn number(&self, item: Self::Item) -> usize
-        requires { IsItem (subject self.now) item }
+        requires state { IsState self.now }
+        requires item { IsItem (subject self.now) item }
         ensures { result ≡ number (subject self.now) item };
 
     /// Whether an item is marked.

@@ -37,6 +37,7 @@ fn no_notes(alloc: Global, count: usize) -> Result<Vec<bool>, NoMemory>
 
 /// A walk over the items of one marking, at rest.
 pub fn walk_over<K: Marking>(alloc: Global, kit: &K) -> Result<Walk<K::Item>, NoMemory>
+    requires { K.IsState kit.now }
     ensures { IfOk result (λ walk. Rests (K.IsItem (K.subject kit.now)) (K.number (K.subject kit.now)) (K.count (K.subject kit.now)) (K.so_far kit.now) walk) }
 {
     let met = no_notes(alloc, kit.count())?;

@@ -1,5 +1,5 @@
 -- Cells: none is filled, one is.
-use Rattle.std.proofs.Common.{◌≡◌, ◌⊎◌, ℕ, zero, suc, ◌+◌, take, ◌<◌, Bool, true, false, List, [], ◌∷◌, ◌++◌, length, set, slice_get, Option, Some, None, option_map, option_and_then, if◌then◌else◌, refl, sym, ap, ◌∙◌, subst, inl, inr, arith}
+use Rattle.std.proofs.Common.{◌≡◌, ◌⊎◌, ℕ, zero, suc, ◌+◌, ◌*◌, ◌≤◌, take, ◌<◌, Bool, true, false, List, [], ◌∷◌, ◌++◌, length, set, slice_get, Option, Some, None, option_map, option_and_then, if◌then◌else◌, refl, sym, ap, ◌∙◌, subst, inl, inr, arith}
 use Rattle.gv_base.specs.declared.constant.Const.{Const}
 use Rattle.gv_base.proofs.Lists.{push_cases, get_set_same, get_set_other, same_some}
 use Rattle.mark_walk.specs.Asks.{Adds, Stays}
@@ -7,9 +7,11 @@ use Rattle.type_model.specs.declared.table.TypeTable.{TypeTable}
 use Rattle.typed_marks.specs.declared.item.Item.{Item}
 use Rattle.typed_marks.specs.declared.item.Block.{Block}
 use Rattle.typed_marks.specs.declared.mark.Mark.{Mark}
+use Rattle.typed_marks.specs.declared.mark.Mark.TheVariants.{Silent}
+use Rattle.typed_marks.specs.declared.item.Span.{Span}
 use Rattle.typed_marks.specs.Items.{is_item, IsItem, number_of, AreBlocks}
-use Rattle.typed_marks.specs.Meanings.{Meaning, mark_in, IsMarkIn}
-use Rattle.typed_marks.specs.States.{cell, kept, said_over, AllNone}
+use Rattle.typed_marks.specs.Meanings.{Meaning, Quiet, mark_in, IsMarkIn}
+use Rattle.typed_marks.specs.States.{cell, kept, said_over, AllNone, block_of, room, laid}
 use Rattle.typed_marks.proofs.NumberLemmas.{one_item, number_below}
 
 -- the first items, and one more
@@ -30,12 +32,24 @@ none_more old new is none n = by (slice_get new n) refl where
     | inr (last, same) ↦ ap (λ o. option_and_then (λ (x : Option Mark). x) o) e ∙ sym same
   ]
 
--- where no cell is filled, nothing is marked
-pub nothing_marked : (t : TypeTable) (constants : List Const) (blocks : List Block) (cells : List (Option Mark)) → AllNone cells → (i : Item) → said_over t constants blocks cells i ≡ None
-nothing_marked t constants blocks cells none i = ap (option_map (mark_in t constants)) (by (is_item blocks i)) where
-  by : (b : Bool) → (if b then cell cells (number_of blocks i) else None) ≡ None
-  by true = none (number_of blocks i)
-  by false = refl
+-- where no cell is filled, no item is marked
+pub nothing_marked : (t : TypeTable) (constants : List Const) (blocks : List Block) (cells : List (Option Mark)) → AllNone cells → (i : Item) → IsItem blocks i
+    → said_over t constants blocks cells i ≡ None
+nothing_marked t constants blocks cells none i is =
+    ap (λ (b : Bool). option_map (mark_in t constants) (if b then cell cells (number_of blocks i) else Some Silent)) is
+    ∙ ap (option_map (mark_in t constants)) (none (number_of blocks i))
+
+-- what has no mark is an item
+pub unmarked_item : (t : TypeTable) (constants : List Const) (blocks : List Block) (cells : List (Option Mark)) (i : Item) → said_over t constants blocks cells i ≡ None → IsItem blocks i
+unmarked_item t constants blocks cells i none = by (is_item blocks i) refl none where
+  by : (b : Bool) → is_item blocks i ≡ b → option_map (mark_in t constants) (if b then cell cells (number_of blocks i) else Some Silent) ≡ None → is_item blocks i ≡ true
+  by true e none = e
+  by false e none = absurd cc
+
+-- of what is no item nothing is said
+pub no_item_quiet : (t : TypeTable) (constants : List Const) (blocks : List Block) (cells : List (Option Mark)) (i : Item) → is_item blocks i ≡ false
+    → said_over t constants blocks cells i ≡ Some Quiet
+no_item_quiet t constants blocks cells i e = ap (λ (b : Bool). option_map (mark_in t constants) (if b then cell cells (number_of blocks i) else Some Silent)) e
 
 pub none_over : (t : TypeTable) (constants : List Const) (cells : List (Option Mark)) → AllNone cells → (n : ℕ) (mark : Mark) → cell cells n ≡ Some mark → IsMarkIn t constants mark
 none_over t constants cells none n mark e = absurd (let is = none n in cc)
@@ -57,7 +71,7 @@ same_or_not a b = elim (order a b) [
 
 -- what is kept of an item, by whether there is one
 kept_true : (blocks : List Block) (cells : List (Option Mark)) (i : Item) → IsItem blocks i → kept blocks cells i ≡ cell cells (number_of blocks i)
-kept_true blocks cells i is = ap (λ (b : Bool). if b then cell cells (number_of blocks i) else None) is
+kept_true blocks cells i is = ap (λ (b : Bool). if b then cell cells (number_of blocks i) else Some Silent) is
 
 -- a mark that is over the tables still when it is set
 pub over_set : (t : TypeTable) (constants : List Const) (cells : List (Option Mark)) (n : ℕ) (mark : Mark) → n < length cells
@@ -77,7 +91,7 @@ module _ (t : TypeTable) (constants : List Const) (blocks : List Block) (cells :
   here = ap (option_map (mark_in t constants)) (kept_true blocks new i item ∙ set_here cells (number_of blocks i) mark (number_below blocks (length cells) i are item))
 
   by_item : (j : Item) → (b : Bool) → is_item blocks j ≡ b → (j ≡ i) ⊎ (kept blocks new j ≡ kept blocks cells j)
-  by_item j false e = inr (ap (λ (b : Bool). if b then cell new (number_of blocks j) else None) e ∙ sym (ap (λ (b : Bool). if b then cell cells (number_of blocks j) else None) e))
+  by_item j false e = inr (ap (λ (b : Bool). if b then cell new (number_of blocks j) else Some Silent) e ∙ sym (ap (λ (b : Bool). if b then cell cells (number_of blocks j) else Some Silent) e))
   by_item j true e = elim (same_or_not (number_of blocks j) (number_of blocks i)) [
     | inl same ↦ inl (one_item blocks (length cells) are j i e item same)
     | inr apart ↦ inr (kept_true blocks new j e ∙ set_there cells (number_of blocks i) (number_of blocks j) mark apart ∙ sym (kept_true blocks cells j e))
@@ -95,3 +109,19 @@ module _ (t : TypeTable) (constants : List Const) (blocks : List Block) (cells :
       | inr is ↦ inr (sym (ap (option_map (mark_in t constants)) is) ∙ e)
     ];
   }
+
+-- ---- blocks that are laid one after the other
+
+pub room_on : (xs : List Span) (x : Span) → room (xs ++ x ∷ []) ≡ room xs + 5 * x.size
+room_on [] x = omega arith
+room_on (y ∷ xs) x = let rest : room (xs ++ x ∷ []) ≡ room xs + 5 * x.size = room_on xs x in omega arith
+
+pub laid_on : (n : ℕ) (xs : List Span) (x : Span) → laid n (xs ++ x ∷ []) ≡ laid n xs ++ block_of x (n + room xs) ∷ []
+laid_on n [] x = ap (λ k. block_of x k ∷ []) (omega arith)
+laid_on n (y ∷ xs) x =
+    let start : (n + 5 * y.size) + room xs ≡ n + (5 * y.size + room xs) = omega arith in
+    ap (λ l. block_of y n ∷ l) (laid_on (n + 5 * y.size) xs x ∙ ap (λ k. laid (n + 5 * y.size) xs ++ block_of x k ∷ []) start)
+
+-- blocks from the first number on
+pub laid_last : (xs : List Span) (x : Span) → laid 0 (xs ++ x ∷ []) ≡ laid 0 xs ++ block_of x (room xs) ∷ []
+laid_last xs x = laid_on 0 xs x ∙ ap (λ n. laid 0 xs ++ block_of x n ∷ []) (omega arith)

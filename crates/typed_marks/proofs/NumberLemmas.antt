@@ -1,5 +1,5 @@
 -- Each item has a number of its own.
-use Rattle.std.proofs.Common.{◌≡◌, ◌⊎◌, ℕ, ◌<◌, ◌≤◌, ◌+◌, ◌*◌, ◌-◌, ◌&&◌, Bool, true, false, List, [], ◌∷◌, ◌++◌, length, slice_get, Option, Some, None, nat_le, nat_lt, nat_eq, if◌then◌else◌, refl, sym, ap, ◌∙◌, subst, inl, inr, arith}
+use Rattle.std.proofs.Common.{◌≡◌, ◌⊎◌, ℕ, zero, suc, ◌<◌, ◌≤◌, ◌+◌, ◌*◌, ◌-◌, ◌&&◌, Bool, true, false, List, [], ◌∷◌, ◌++◌, length, slice_get, Option, Some, None, nat_le, nat_lt, nat_eq, if◌then◌else◌, refl, sym, ap, ◌∙◌, subst, inl, inr, arith}
 use Rattle.std.specs.Option.{option_map_or}
 use Rattle.std.proofs.lemmas.Bool.{ltb-true, leb-true}
 use Rattle.gv_base.proofs.Lists.{same_some, push_cases}
@@ -8,6 +8,8 @@ use Rattle.typed_marks.specs.declared.item.Stage.{Stage}
 use Rattle.typed_marks.specs.declared.item.Stage.TheVariants as s
 use Rattle.typed_marks.specs.declared.item.Item.{Item}
 use Rattle.typed_marks.specs.declared.item.Block.{Block}
+use Rattle.typed_marks.specs.declared.item.Span.{Span}
+use Rattle.typed_marks.specs.States.{block_of as block_from, room, laid}
 use Rattle.typed_marks.specs.Items.{is_in, is_item, IsItem, stage_number, number_in, number_of, AreBlocks}
 
 stage_by : ℕ → Stage
@@ -149,3 +151,27 @@ block_more blocks new b count more are is start end = record { within = within; 
       | inr (first, also_same) ↦ absurd (omega arith)
     ]
   ]
+
+-- ---- blocks that are laid one after the other
+
+laid_low : (n : ℕ) (spans : List Span) (k : ℕ) (b : Block) → slice_get (laid n spans) k ≡ Some b → n ≤ b.start
+laid_low n [] k b e = absurd cc
+laid_low n (s ∷ spans) zero b e = let same : block_from s n ≡ b = cc in subst (λ (x : Block). n ≤ x.start) same (omega arith)
+laid_low n (s ∷ spans) (suc k) b e = let low : n + 5 * s.size ≤ b.start = laid_low (n + 5 * s.size) spans k b e in omega arith
+
+laid_within : (n : ℕ) (spans : List Span) (k : ℕ) (b : Block) → slice_get (laid n spans) k ≡ Some b → b.start + 5 * b.size ≤ n + room spans
+laid_within n [] k b e = absurd cc
+laid_within n (s ∷ spans) zero b e =
+    let same : block_from s n ≡ b = cc in subst (λ (x : Block). x.start + 5 * x.size ≤ n + (5 * s.size + room spans)) same (omega arith)
+laid_within n (s ∷ spans) (suc k) b e = let low : b.start + 5 * b.size ≤ (n + 5 * s.size) + room spans = laid_within (n + 5 * s.size) spans k b e in omega arith
+
+laid_apart : (n : ℕ) (spans : List Span) (j k : ℕ) (a b : Block) → j < k → slice_get (laid n spans) j ≡ Some a → slice_get (laid n spans) k ≡ Some b
+    → a.start + 5 * a.size ≤ b.start
+laid_apart n [] j k a b low e f = absurd cc
+laid_apart n (s ∷ spans) j zero a b low e f = absurd (omega arith)
+laid_apart n (s ∷ spans) zero (suc k) a b low e f =
+    let same : block_from s n ≡ a = cc in subst (λ (x : Block). x.start + 5 * x.size ≤ b.start) same (laid_low (n + 5 * s.size) spans k b f)
+laid_apart n (s ∷ spans) (suc j) (suc k) a b low e f = laid_apart (n + 5 * s.size) spans j k a b (omega arith) e f
+
+pub laid_blocks : (spans : List Span) → AreBlocks (laid 0 spans) (room spans)
+laid_blocks spans = record { within = λ k b e. (let low : b.start + 5 * b.size ≤ 0 + room spans = laid_within 0 spans k b e in omega arith); apart = laid_apart 0 spans }

@@ -109,9 +109,9 @@ module _ (old new : TypeTable) (constants more : List Const) (has : HasMore old 
       is_item_of : Item → Bool
       is_item_of i = is_item blocks i
 
-      by : (b : Bool) → is_item_of i ≡ b → (if b then cell cells (number_of blocks i) else None) ≡ Some mark → IsMarkIn old constants mark
+      by : (b : Bool) → is_item_of i ≡ b → (if b then cell cells (number_of blocks i) else Some m.Silent) ≡ Some mark → IsMarkIn old constants mark
       by true at e = over (number_of blocks i) mark e
-      by false at e = absurd cc
+      by false at e = let same : m.Silent ≡ mark = cc in subst (IsMarkIn old constants) same tt
 
     pub said_same : (i : Item) → said_over new more blocks cells i ≡ said_over old constants blocks cells i
     said_same i = said (kept blocks cells i) (kept_over i)

@@ -1,5 +1,5 @@
 -- The marks so far.
-use Rattle.std.specs.Prelude.{◌≡◌, ℕ, List, length, ◌++◌, Option, Some, None, option_map, option_and_then, slice_get, if◌then◌else◌}
+use Rattle.std.specs.Prelude.{◌≡◌, ℕ, ◌+◌, ◌*◌, List, [], ◌∷◌, length, ◌++◌, Option, Some, None, option_map, option_and_then, slice_get, if◌then◌else◌}
 use Rattle.gv_base.specs.declared.constant.Const.{Const}
 use Rattle.type_model.specs.declared.table.TypeTable.{TypeTable}
 use Rattle.type_model.specs.declared.term.TypeName.{TypeName}
@@ -9,6 +9,7 @@ use Rattle.typed_marks.specs.declared.item.Span.{Span}
 use Rattle.typed_marks.specs.declared.item.Item.{Item}
 use Rattle.typed_marks.specs.declared.item.Block.{Block}
 use Rattle.typed_marks.specs.declared.mark.Mark.{Mark}
+use Rattle.typed_marks.specs.declared.mark.Mark.TheVariants.{Silent}
 use Rattle.typed_marks.specs.declared.state.State.{State}
 use Rattle.typed_marks.specs.Items.{is_item, number_of, AreBlocks}
 use Rattle.typed_marks.specs.Meanings.{Meaning, mark_in, IsMarkIn}
@@ -17,9 +18,9 @@ use Rattle.typed_marks.specs.Meanings.{Meaning, mark_in, IsMarkIn}
 abbrev pub cell : List (Option Mark) → ℕ → Option Mark
 cell cells n = option_and_then (λ (o : Option Mark). o) (slice_get cells n)
 
--- the mark that is kept of an item
+-- the mark that is kept of an item; nothing is said of what is none
 abbrev pub kept : List Block → List (Option Mark) → Item → Option Mark
-kept blocks cells i = if is_item blocks i then cell cells (number_of blocks i) else None
+kept blocks cells i = if is_item blocks i then cell cells (number_of blocks i) else Some Silent
 
 -- what the marks so far say over tables
 abbrev pub said_over : TypeTable → List Const → List Block → List (Option Mark) → Item → Option Meaning
@@ -40,8 +41,18 @@ pub record IsState (s : State) : Type 0 where
 abbrev pub AllNone : List (Option Mark) → Type 0
 AllNone cells = (n : ℕ) → cell cells n ≡ None
 
-abbrev pub span_of : Block → Span
-span_of b = record { low = b.low; size = b.size }
+abbrev pub block_of : Span → ℕ → Block
+block_of span start = record { low = span.low; size = span.size; start = start }
+
+-- how many items the nodes of these spans have
+abbrev pub room : List Span → ℕ
+room [] = 0
+room (span ∷ spans) = 5 * span.size + room spans
+
+-- blocks of these spans, one after the other from a number on
+abbrev pub laid : ℕ → List Span → List Block
+laid start [] = []
+laid start (span ∷ spans) = block_of span start ∷ laid (start + 5 * span.size) spans
 
 -- ---- growing
 

@@ -11,7 +11,7 @@ ghost use Rattle.typed_marks.specs.declared.item.Item.{Item};
 ghost use Rattle.typed_marks.specs.declared.item.Block.{Block};
 ghost use Rattle.typed_marks.specs.Items.{IsItem, number_of as number_in_blocks, AreBlocks};
 ghost use Rattle.typed_marks.specs.Meanings.{mark_in, IsMarkIn, Declares as TypeDeclares};
-ghost use Rattle.typed_marks.specs.States.{cell, kept, so_far, IsState, AllNone, span_of, HasGrown};
+ghost use Rattle.typed_marks.specs.States.{cell, kept, so_far, IsState, AllNone, block_of, laid, room, HasGrown};
 
 use crate::item::{Block, Item, Span};
 use crate::mark::{ConstId, Mark};
@@ -70,7 +70,8 @@ fn add_block(
 ) -> Result<(), NoMemory>
     requires blocks { AreBlocks blocks.old.items (length cells.old.items) }
     ensures blocks { OnOk result (AreBlocks blocks.new.items (length cells.new.items)) }
-    ensures spans { OnOk result (map span_of blocks.new.items ≡ map span_of blocks.old.items ++ span ∷ []) }
+    ensures block { OnOk result (blocks.new.items ≡ blocks.old.items ++ block_of span (length cells.old.items) ∷ []) }
+    ensures cells { OnOk result (length cells.new.items ≡ length cells.old.items + 5 * span.size) }
     ensures none { OnOk result (AllNone cells.old.items → AllNone cells.new.items) }
 {
     let start = cells.len();
@@ -113,8 +114,9 @@ impl State {
         ensures state { IfOk result (λ s. IsState s) }
         ensures table { IfOk result (λ s. s.table ≡ table) }
         ensures constants { IfOk result (λ s. s.constants.items ≡ []) }
-        ensures spans { IfOk result (λ s. map span_of s.blocks.items ≡ spans.now) }
-        ensures unmarked { IfOk result (λ s. (i : Item) → so_far s i ≡ None) }
+        ensures blocks { IfOk result (λ s. s.blocks.items ≡ laid 0 spans.now) }
+        ensures cells { IfOk result (λ s. length s.cells.items ≡ room spans.now) }
+        ensures unmarked { IfOk result (λ s. (i : Item) → IsItem s.blocks.items i → so_far s i ≡ None) }
     {
         let mut blocks = Vec::new(alloc);
         let mut cells = Vec::new(alloc);
@@ -137,11 +139,11 @@ impl State {
         if is_item(&self.blocks, item) {
             cell(&self.cells, number_of(&self.blocks, item, self.cells.len()))
         } else {
-            None
+            Some(Mark::Silent)
         }
     }
 
-    /// The mark of an item; None exactly where it has none.
+    /// The mark of an item; None exactly where it has none. Of what is no item nothing is said.
     pub fn see(&self, item: Item) -> Option<Mark>
         requires { IsState self.now }
         ensures is { option_map (mark_in self.now.table self.now.constants.items) result ≡ so_far self.now item }
