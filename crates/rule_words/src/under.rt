@@ -54,16 +54,24 @@ fn item_of(u: &Subject, t: &TypeTable, of: TypeId) -> Option<Item>
     }
 }
 
-/// The item that has to be marked before more is known of what a type is declared with.
-pub fn pending(u: &Subject, s: &State, of: TypeId) -> Option<Item>
+/// The item that has to be marked before more is known of what a type of a table is declared with: that which declares it, while it
+/// has no mark.
+pub fn pending(u: &Subject, s: &State, t: &TypeTable, of: TypeId) -> Option<Item>
     requires scene { IsScene u.now s.now }
-    requires within { IsTypeOf s.now of }
+    requires table { IsTable t.now }
+    requires within { of.0 < count t.now }
     ensures waits { IfSome result (λ item. so_far s.now item ≡ None) }
-    ensures is { (name : TypeName) → type_in s.now of ≡ DefinedType name → IfSome result (λ item. type_item (unit_of u.now) name ≡ Some item) }
-    ensures none { (name : TypeName) (item : Item) → type_in s.now of ≡ DefinedType name → result ≡ None → type_item (unit_of u.now) name ≡ Some item → ¬ (so_far s.now item ≡ None) }
+    ensures is { (name : TypeName) → type_at (types_in t.now) of ≡ DefinedType name → IfSome result (λ item. type_item (unit_of u.now) name ≡ Some item) }
+    ensures none { (name : TypeName) (item : Item) → type_at (types_in t.now) of ≡ DefinedType name → result ≡ None → type_item (unit_of u.now) name ≡ Some item → ¬ (so_far s.now item ≡ None) }
 {
-    match item_of(u, &s.table, of) {
-        Some(item) => { if s.is_marked(item) { None } else { Some(item) } }
+    match item_of(u, t, of) {
+        Some(item) => {
+            if s.is_marked(item) {
+                None
+            } else {
+                Some(item)
+            }
+        }
         None => None,
     }
 }
@@ -77,7 +85,7 @@ pub fn under_of(u: &Subject, s: &State, of: TypeId) -> Found<Option<TypeId>, Ite
 {
     match s.table.underlying(of) {
         Some(under) => Found::Is(Some(under)),
-        None => match pending(u, s, of) {
+        None => match pending(u, s, &s.table, of) {
             Some(item) => Found::Wait(item),
             None => Found::Is(None),
         },

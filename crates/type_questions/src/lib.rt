@@ -1,6 +1,0 @@
-//! Stand-in.
-#![tactic(auto)]
-
-mod reached;
-
-pub use reached::{Found, Reached};
