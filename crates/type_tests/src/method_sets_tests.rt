@@ -2,6 +2,7 @@
 ghost use Rattle.std.specs.Prelude.{IfOk};
 ghost use Rattle.type_model.specs.Tables.{IsTable};
 
+mod growing;
 mod parts;
 mod selectors;
 mod sets;
