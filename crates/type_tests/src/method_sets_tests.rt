@@ -3,7 +3,7 @@ ghost use Rattle.std.specs.Prelude.{IfOk};
 ghost use Rattle.type_model.specs.Tables.{IsTable};
 
 mod growing;
-mod parts;
+pub mod parts;
 mod selectors;
 mod sets;
 
