@@ -3,11 +3,15 @@ ghost use Rattle.std.specs.Prelude.{◌≡◌, ℕ, List, [], codes};
 ghost use Rattle.type_model.specs.declared.term.Method.{Method};
 ghost use Rattle.type_model.specs.declared.table.TypeTable.{TypeTable};
 ghost use Rattle.type_model.specs.GoTypes.{GoType};
-ghost use Rattle.type_model.specs.Tables.{IsTable};
+ghost use Rattle.type_model.specs.Tables.{IsTable, declarations_in};
 ghost use Rattle.type_model.specs.Declarations.{Declarations};
 ghost use Rattle.method_sets.specs.Members.{Name, Member};
 ghost use Rattle.method_sets.specs.Paths.{Begins, Selects, IsAmbiguous, NoPath};
-ghost use Rattle.method_sets.specs.Selections.{IsInSet, IsMethodSet};
+ghost use Rattle.method_sets.specs.declared.selection.Selection.{Selection};
+ghost use Rattle.method_sets.specs.Selections.{IsInSet, IsMethodSet, IsSelection};
+ghost use Rattle.method_sets.specs.Levels.{EnoughToSelect, NeedsToSelect, SaysSelected, EnoughToList, NeedsToList, SaysMethods, chosen_in};
+ghost use Rattle.method_sets.specs.Replies.{listed_in};
+ghost use Rattle.type_growth.specs.Lasting.{Lasts};
 ghost use Rattle.method_sets.specs.Examples.{defined, with_fields, with_methods, letter_f, text_field, method_m};
 
 /// Whatever is declared: paths from a type begin at one type at most; at most one path is the only one
@@ -35,4 +39,13 @@ pub fn examples_hold()
     ensures its_own { Selects with_fields letter_f (defined (codes "S")) [] text_field }
     ensures value { IsInSet with_methods (defined (codes "T")) method_m → ⊥ }
     ensures promoted { IsInSet with_methods (defined (codes "U")) method_m }
+{}
+
+/// What a name selects from a type, and its method set, stay so while more is declared, once enough is. What
+/// `choose` and `list` tell of a table is what is said of its declarations.
+pub fn selection_lasts()
+    ensures selected { Lasts EnoughToSelect NeedsToSelect SaysSelected }
+    ensures listed { Lasts EnoughToList NeedsToList SaysMethods }
+    ensures said { (t : TypeTable) (of : GoType) (name : Name) (sel : Selection) → IsSelection t of name sel → SaysSelected (declarations_in t) (record { of = of; name = name }) (chosen_in t sel) }
+    ensures told { (t : TypeTable) (of : GoType) (methods : List Method) → IsMethodSet t of methods → SaysMethods (declarations_in t) of (listed_in t methods) }
 {}

@@ -2,8 +2,9 @@
 ghost use Rattle.std.specs.Prelude.{◌≡◌, ◌<◌, ◌++◌, IfOk, OnOk, List};
 ghost use Rattle.std.specs.BTreeMap.{IsOrdered};
 ghost use Rattle.std.specs.Option.{option_copied, option_to_list};
-ghost use Rattle.type_model.specs.GoTypes.{type_at};
-ghost use Rattle.type_model.specs.Tables.{IsTable, types_in, count};
+ghost use Rattle.type_model.specs.GoTypes.{GoType, type_at};
+ghost use Rattle.type_model.specs.Tables.{IsTable, types_in, count, declarations_in};
+ghost use Rattle.method_sets.specs.Paths.{base, IsDefinedPointer, Opens};
 ghost use Rattle.method_sets.specs.Selections.{IsMethodSet};
 ghost use Rattle.method_sets.specs.Shown.{IsReached};
 ghost use Rattle.method_sets.specs.Notes.{key_cmp, seen, pick, picked};
@@ -19,7 +20,7 @@ use std::collections::{BTreeMap, HashMap};
 use type_model::{Method, TypeId, TypeTable};
 
 /// All types that paths from a type lead to, each once.
-fn reach(alloc: Global, t: &TypeTable, at: TypeId) -> Result<Vec<Entry>, NoMemory>
+pub fn reach(alloc: Global, t: &TypeTable, at: TypeId) -> Result<Vec<Entry>, NoMemory>
     requires table { IsTable t.now }
     requires within { at.0 < count t.now }
     ensures { IfOk result (λ v. IsReached t.now (type_at (types_in t.now) at) v.items) }
@@ -103,6 +104,25 @@ fn taken(
     Ok(methods)
 }
 
+/// The methods of the set, from all types that paths lead to.
+pub fn set_over(
+    alloc: Global,
+    t: &TypeTable,
+    of: TypeId,
+    entries: &[Entry],
+) -> Result<Vec<Method>, NoMemory>
+    requires table { IsTable t.now }
+    requires within { of.0 < count t.now }
+    requires plain { (p : GoType) → ¬ IsDefinedPointer (declarations_in t.now) (type_at (types_in t.now) of) p }
+    requires open { Opens (declarations_in t.now) (type_at (types_in t.now) of) (base (type_at (types_in t.now) of)) }
+    requires reached { IsReached t.now (base (type_at (types_in t.now) of)) entries.now }
+    ensures { IfOk result (λ v. IsMethodSet t.now (type_at (types_in t.now) of) v.items) }
+{
+    let names = note_entries(alloc, t, entries)?;
+    let methods = taken(alloc, &names, is_pointer(t, of))?;
+    Ok(methods)
+}
+
 /// The method set of a type (Go 1.17, "Method sets"), with the methods that embedded fields promote
 /// ("Struct types"), in order of name and package. A method with a pointer receiver is in the set of a
 /// pointer type, or where an embedded pointer leads to it. Interfaces have the methods that they name, a
@@ -121,7 +141,6 @@ pub fn method_set(alloc: Global, t: &TypeTable, of: TypeId) -> Result<Vec<Method
         return Ok(Vec::new(alloc));
     };
     let entries = reach(alloc, t, start)?;
-    let names = note_entries(alloc, t, &entries)?;
-    let methods = taken(alloc, &names, is_pointer(t, of))?;
+    let methods = set_over(alloc, t, of, &entries)?;
     Ok(methods)
 }

@@ -6,6 +6,8 @@ mod method_sets_tests;
 #[cfg(test)]
 mod type_model_tests;
 #[cfg(test)]
+mod type_questions_tests;
+#[cfg(test)]
 mod type_rel_tests;
 #[cfg(test)]
 mod typed_tree_tests;

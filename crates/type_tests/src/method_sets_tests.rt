@@ -2,7 +2,8 @@
 ghost use Rattle.std.specs.Prelude.{IfOk};
 ghost use Rattle.type_model.specs.Tables.{IsTable};
 
-mod parts;
+mod growing;
+pub mod parts;
 mod selectors;
 mod sets;
 

@@ -53,7 +53,7 @@ fn interface_methods(t: &TypeTable, a: TypeId) -> Option<&[Method]>
 }
 
 /// The underlying type is an interface.
-fn is_interface(t: &TypeTable, a: TypeId) -> bool
+pub fn is_interface(t: &TypeTable, a: TypeId) -> bool
     requires table { IsTable t.now }
     requires within { a.0 < count t.now }
     ensures { IsTrue result → IsInterface (declarations_in t.now) (type_at (types_in t.now) a) }

@@ -1,0 +1,3 @@
+pub mod Over
+pub mod Questions
+pub mod Judging
