@@ -65,13 +65,7 @@ pub fn pending(u: &Subject, s: &State, t: &TypeTable, of: TypeId) -> Option<Item
     ensures none { (name : TypeName) (item : Item) → type_at (types_in t.now) of ≡ DefinedType name → result ≡ None → type_item (unit_of u.now) name ≡ Some item → ¬ (so_far s.now item ≡ None) }
 {
     match item_of(u, t, of) {
-        Some(item) => {
-            if s.is_marked(item) {
-                None
-            } else {
-                Some(item)
-            }
-        }
+        Some(item) => { if s.is_marked(item) { None } else { Some(item) } }
         None => None,
     }
 }
