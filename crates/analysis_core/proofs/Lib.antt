@@ -1,3 +1,4 @@
 pub mod FindingLemmas
-pub mod OrderLemmas
+pub mod JsonLemmas
 pub mod OneLemmas
+pub mod OrderLemmas

@@ -11,7 +11,7 @@ use Rattle.gv_base.specs.declared.place.Place.{Place}
 use Rattle.fix_apply.specs.declared.edits.Edit.{Edit}
 use Rattle.fix_apply.specs.declared.edits.Fix.{Fix}
 use Rattle.analysis_core.specs.declared.diagnostic.Diagnostic.{Diagnostic}
-use Rattle.analysis_core.specs.declared.run_reply.FoundLine.{FoundLine}
+use Rattle.analysis_core.specs.declared.reply.FoundLine.{FoundLine}
 use Rattle.analysis_core.specs.FoundOrder.{edit_order, fix_count, fix_file, fix_edits, fix_order, order, found_order}
 
 edit_total : IsTotalOrder edit_order
@@ -44,7 +44,7 @@ first_ties Less b e = e
 first_ties Equal b e = refl
 first_ties Greater b e = e
 
-second_ties : (a b : Ordering) → ordering_then a b ≡ Equal → b ≡ Equal
+pub second_ties : (a b : Ordering) → ordering_then a b ≡ Equal → b ≡ Equal
 second_ties Less b e = absurd cc
 second_ties Equal b e = e
 second_ties Greater b e = absurd cc

@@ -7,7 +7,7 @@ use Rattle.std.specs.Cmp.Lexicographic.{slice_cmp}
 use Rattle.fix_apply.specs.declared.edits.Edit.{Edit}
 use Rattle.fix_apply.specs.declared.edits.Fix.{Fix}
 use Rattle.analysis_core.specs.declared.diagnostic.Diagnostic.{Diagnostic}
-use Rattle.analysis_core.specs.declared.run_reply.FoundLine.{FoundLine}
+use Rattle.analysis_core.specs.declared.reply.FoundLine.{FoundLine}
 
 abbrev pub edit_order : Edit → Edit → Ordering
 edit_order =

@@ -9,11 +9,10 @@ use Rattle.std.specs.List.Sorted.{IsPermutation, IsSorted}
 use Rattle.gv_base.specs.Files.{Entry}
 use Rattle.gv_base.specs.declared.place.Place.{Place}
 use Rattle.analysis_core.specs.declared.reply.ErrorLine.{ErrorLine}
-use Rattle.analysis_core.specs.declared.run_reply.FoundLine.{FoundLine}
-use Rattle.analysis_core.specs.declared.run_reply.RunReply.{RunReply}
+use Rattle.analysis_core.specs.declared.reply.FoundLine.{FoundLine}
+use Rattle.analysis_core.specs.declared.reply.Reply.{Reply}
 use Rattle.analysis_core.specs.declared.said.Said.{Said}
-use Rattle.analysis_core.specs.Replies.{place_text}
-use Rattle.analysis_core.specs.RunReplies.{analyzer_text, limit_line}
+use Rattle.analysis_core.specs.Replies.{place_text, analyzer_text, limit_line}
 
 -- ---- texts
 
@@ -69,7 +68,7 @@ found_said n [] = []
 found_said n (l ∷ ls) = diagnostic_said n l ∷ found_said (n + 1) ls
 
 -- all that the reply says, numbered in its order
-abbrev pub all_said : RunReply → List Said
+abbrev pub all_said : Reply → List Said
 all_said r = errors_said 0 r.errors ++ found_said (length r.errors) r.diagnostics
 
 -- by package, then by key, both in byte order, then in the order of the reply
@@ -111,13 +110,13 @@ json_line files [] = codes "{}\n"
 json_line files (s ∷ ss) = codes "{" ++ (package_opening s ++ (said_json files s ++ json_behind files s ss))
 
 -- the bytes are the line of all that the reply says, in order
-pub record IsJsonLine (files : List Entry) (r : RunReply) (bytes : List ℕ) : Type 0 where
+pub record IsJsonLine (files : List Entry) (r : Reply) (bytes : List ℕ) : Type 0 where
   pub said : List Said
   pub all : IsPermutation (all_said r) said
   pub order : IsSorted said_order said
   pub line : bytes ≡ json_line files said
 
 -- The reply as JSON: the limit line alone, or the line of all that it says.
-pub record IsJson (files : List Entry) (r : RunReply) (bytes : List ℕ) : Type 0 where
+pub record IsJson (files : List Entry) (r : Reply) (bytes : List ℕ) : Type 0 where
   pub over : option_map_or (λ l. limit_line l) r.limit bytes ≡ bytes
   pub within : r.limit ≡ None → IsJsonLine files r bytes

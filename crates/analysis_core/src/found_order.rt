@@ -4,10 +4,10 @@ ghost use Rattle.std.specs.List.{dedup};
 ghost use Rattle.std.specs.List.Sorted.{IsStrictlySortedBy, IsPermutation, IsSorted};
 ghost use Rattle.std.specs.Ordering.{eq_by_cmp};
 ghost use Rattle.analysis_core.specs.FoundOrder.{found_order, AreInOrder};
-ghost use Rattle.analysis_core.specs.declared.run_reply.FoundLine.{FoundLine};
+ghost use Rattle.analysis_core.specs.declared.reply.FoundLine.{FoundLine};
 
 use crate::order::compare_diagnostics;
-use crate::run_reply::FoundLine;
+use crate::reply::FoundLine;
 use std::cmp::Ordering;
 
 /// Which of two comes first.

@@ -2,7 +2,7 @@
 ghost use Rattle.std.specs.Prelude.{◌≡◌};
 ghost use Rattle.analysis_core.specs.JsonReplies.{key_text};
 
-use crate::run_reply::analyzer_text;
+use crate::reply::analyzer_text;
 use gv_base::{Bytes, Place, Text};
 
 /// Something that is said of a package: an error line, or a diagnostic.

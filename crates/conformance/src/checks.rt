@@ -11,6 +11,7 @@ use anyhow::{Result, bail};
 use report::run_tree;
 use std::alloc::Global;
 use std::fs;
+use std::random::RandomSource;
 use std::thread::Threads;
 
 /// A file of a tree.
@@ -34,7 +35,7 @@ fn files_of<'a>(alloc: Global, sections: &[Section<'a>]) -> Result<Vec<SourceFil
 }
 
 /// Runs a bundle of files, or a file alone, which stands in its tree under its path in `checks`.
-fn run_file<R: Threads + Sync>(
+fn run_file<R: Threads + Sync + RandomSource>(
     rt: &HostRuntime,
     threads: &R,
     folder: &str,
@@ -66,7 +67,11 @@ fn run_file<R: Threads + Sync>(
 }
 
 /// Runs the files in the folders of the folder, and prints a line for each, or one for each error that differs.
-pub fn run_checks<R: Threads + Sync>(rt: &HostRuntime, threads: &R, folder: &str) -> Result<()> {
+pub fn run_checks<R: Threads + Sync + RandomSource>(
+    rt: &HostRuntime,
+    threads: &R,
+    folder: &str,
+) -> Result<()> {
     for group in names(rt, folder)?.as_slice() {
         let path = format!(in rt.alloc(); "{folder}/{group}")?;
         for name in names(rt, path.as_str())?.as_slice() {

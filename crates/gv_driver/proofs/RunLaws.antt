@@ -8,7 +8,7 @@ use Rattle.fact_cache.specs.declared.texts.Input.{Input}
 use Rattle.fact_cache.specs.declared.list.Entry.{Entry}
 use Rattle.gv_driver.specs.declared.tree.PackageTexts.{PackageTexts}
 use Rattle.gv_driver.specs.declared.node.Node.{Node}
-use Rattle.gv_driver.specs.declared.reply.Reply.{Reply}
+use Rattle.gv_driver.specs.declared.reply.Judgement.{Judgement}
 use Rattle.gv_driver.specs.Loads.{IsInput, IsPlan}
 use Rattle.gv_driver.specs.Caches.{IsHonest, IsPartKept, missing_of, is_cached, input_of}
 use Rattle.gv_driver.specs.Tables.{AreRight, IsReady, key_in, keys_in, executed, waiting, done_in, fresh_in}
@@ -109,7 +109,7 @@ cut-in_keep tree before after first table count now done honest start goes none 
           (unique-plan tree (keys_in table) inputs (plan-right tree table right none) plan) (keeping-part before table done after honest keeping);
     }
 
-pub ran-right : (tree : List PackageTexts) (before after : List Entry) (first table : List (Option Node)) (count now : ℕ) (reply : Reply) → IsHonest before → first ≡ replicate (length tree) None
+pub ran-right : (tree : List PackageTexts) (before after : List Entry) (first table : List (Option Node)) (count now : ℕ) (reply : Judgement) → IsHonest before → first ≡ replicate (length tree) None
     → Goes tree before first table count now → ((p : ℕ) → IsReady tree table p → ⊥) → Keeping before table (length table) after
     → AreShown tree table reply.verdicts (length tree) → reply.counts.nodes ≡ sum_by done_in table → reply.counts.missing ≡ sum_by fresh_in table → reply.counts.loads ≡ sum_by fresh_in table → reply.counts.runs ≡ 0
     → Ran tree before after count now reply
@@ -132,7 +132,7 @@ ran-right tree before after first table count now reply honest start goes none k
     }
 
 -- A run that came to its end did no more than one that is cut off may do.
-pub ran-cut : (tree : List PackageTexts) (b c : List Entry) (n m : ℕ) (r : Reply) → Ran tree b c n m r → IsCutOff tree b c n m
+pub ran-cut : (tree : List PackageTexts) (b c : List Entry) (n m : ℕ) (r : Judgement) → Ran tree b c n m r → IsCutOff tree b c n m
 ran-cut tree b c n m r is = record {
   loads = λ inputs plan.
       let same : is.inputs ≡ inputs = unique-plan tree is.inputs inputs is.plan plan in
@@ -146,7 +146,7 @@ ran-cut tree b c n m r is = record {
 }
 
 -- the same run, counted over several kits
-pub ran-over : (tree : List PackageTexts) (b c : List Entry) (n m over later : ℕ) (r : Reply) → Ran tree b c n m r → later + n ≡ over + m → Ran tree b c over later r
+pub ran-over : (tree : List PackageTexts) (b c : List Entry) (n m over later : ℕ) (r : Judgement) → Ran tree b c n m r → later + n ≡ over + m → Ran tree b c over later r
 ran-over tree b c n m over later r is e = record {
   inputs = is.inputs;
   plan = is.plan;

@@ -6,7 +6,7 @@ use Rattle.fact_cache.specs.declared.texts.Input.{Input}
 use Rattle.fact_cache.specs.declared.list.Entry.{Entry}
 use Rattle.gv_driver.specs.declared.tree.PackageTexts.{PackageTexts}
 use Rattle.gv_driver.specs.declared.node.Node.{Node}
-use Rattle.gv_driver.specs.declared.reply.Reply.{Reply}
+use Rattle.gv_driver.specs.declared.reply.Judgement.{Judgement}
 use Rattle.gv_driver.specs.Loads.{IsPlan}
 use Rattle.gv_driver.specs.Caches.{IsHonest, IsRight, IsCacheAfter, IsPartKept, missing_of, is_cached, input_of}
 use Rattle.gv_driver.specs.Tables.{IsTable, IsReady, IsKeyOf, IsRightNode, answer_text, cost, waiting, executed, keys_in}
@@ -63,7 +63,7 @@ some_in None = 0
 some_in (Some input) = 1
 
 -- A run that came to its end: the inputs of all loads of the tree, the verdicts, the cache, and the counts.
-pub record Ran (tree : List PackageTexts) (before after : List Entry) (count now : ℕ) (reply : Reply) : Type 0 where
+pub record Ran (tree : List PackageTexts) (before after : List Entry) (count now : ℕ) (reply : Judgement) : Type 0 where
   pub inputs : List (Option Input)
   pub plan : IsPlan tree inputs
   pub report : IsReport tree reply.verdicts

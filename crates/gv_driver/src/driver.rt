@@ -8,7 +8,7 @@ ghost use Rattle.gv_driver.specs.Standing.{AreVerdictsIn};
 use crate::counts::counts;
 use crate::keep::keep;
 use crate::node::Node;
-use crate::reply::Reply;
+use crate::reply::Judgement;
 use crate::report::verdicts;
 use crate::step::run_loads;
 use crate::tree::PackageTexts;
@@ -33,7 +33,7 @@ fn run_with<K: Kit>(
     tree: &[PackageTexts],
     cache: &mut Cache,
     kit: &mut K,
-) -> Result<Reply, NoMemory>
+) -> Result<Judgement, NoMemory>
     requires tree { IsTree tree.now }
     requires few { length tree.now < 2 ^ 32 }
     requires room { K.loads kit.old ≤ 2 ^ 62 }
@@ -49,7 +49,7 @@ fn run_with<K: Kit>(
     let list = verdicts(alloc, tree, &table)?;
     let counts = counts(&table);
     keep(alloc, cache, table)?;
-    Ok(Reply {
+    Ok(Judgement {
         verdicts: Row::new(list),
         counts,
     })
@@ -64,7 +64,7 @@ pub fn run<K: Kit>(
     tree: &[PackageTexts],
     cache: &mut Cache,
     kits: &mut [K],
-) -> Result<Reply, NoMemory>
+) -> Result<Judgement, NoMemory>
     requires tree { IsTree tree.now }
     requires few { length tree.now < 2 ^ 32 }
     requires some { 0 < length kits.old }

@@ -19,5 +19,5 @@ mod tree;
 pub use analysis_core::Counts;
 pub use driver::run;
 pub use laws::{a_tree_has_a_report, one_cache, one_plan, one_report};
-pub use reply::{Reply, Verdict};
+pub use reply::{Judgement, Verdict};
 pub use tree::PackageTexts;

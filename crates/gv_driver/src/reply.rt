@@ -1,4 +1,4 @@
-//! What a run says.
+//! What a run says of the packages of a tree.
 use action_graph::MarkLine;
 use analysis_core::Counts;
 use gv_base::Row;
@@ -16,9 +16,9 @@ pub enum Verdict {
     Accepted,
 }
 
-/// What a run says of a tree.
+/// What a run says of the packages of a tree.
 #[derive(Drop)]
-pub struct Reply {
+pub struct Judgement {
     /// The verdict of each package, by its number.
     pub verdicts: Row<Verdict>,
     /// How much work there was.

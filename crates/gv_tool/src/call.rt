@@ -4,11 +4,13 @@ ghost use Rattle.gv_base.specs.Counts.{Rose, RoseBy};
 ghost use Rattle.gv_tool.specs.Outcome.{limit};
 ghost use Rattle.gv_tool.specs.Headline.{Session as Sessions, number_of, EndedBy, IsSession, IsComplete, IsCutShort, NothingRose, Due};
 
+use crate::key::key_of;
 use crate::options::ToolOptions;
 use crate::status::Status;
 use crate::top::run;
 use gv_base::{Keeper, Sink, Source, SureSink, SureSource, Tree};
 use std::alloc::Global;
+use std::random::RandomSource;
 use std::thread::Threads;
 use tree_report::one_report_of_a_tree;
 
@@ -21,8 +23,9 @@ fn number(status: Status) -> u8
 
 /// Reads a script from the source, and answers each of its commands on the sink, as soon as the
 /// command has been read whole. The result is the number of a status. The keeper isn't touched.
-pub fn session<R: Threads + Sync, K: Keeper, I: Source, O: Sink>(
-    _rt: &R,
+/// The cache's key is drawn from the runtime, and no answer depends on it.
+pub fn session<R: Threads + Sync + RandomSource, K: Keeper, I: Source, O: Sink>(
+    rt: &R,
     alloc: Global,
     _options: &ToolOptions,
     keeper: &mut K,
@@ -42,7 +45,7 @@ pub fn session<R: Threads + Sync, K: Keeper, I: Source, O: Sink>(
     ensures keeper { keeper.new ≡ keeper.old }
 {
     one_report_of_a_tree();
-    number(run(alloc, input, output))
+    number(run(alloc, key_of(rt), input, output))
 }
 
 /// Whether the words are the one word `session`.
@@ -58,7 +61,7 @@ fn asks_for_session(words: &[String]) -> bool
 /// The top call: reads the words, which don't include the program's name, and does what they ask
 /// for. The one lawful list of words is `session`. The result is the number of a status; for other
 /// words it is 2, and nothing is touched. The tree and the keeper aren't touched by any.
-pub fn gvet<R: Threads + Sync, T: Tree, K: Keeper, I: Source, O: Sink>(
+pub fn gvet<R: Threads + Sync + RandomSource, T: Tree, K: Keeper, I: Source, O: Sink>(
     rt: &R,
     alloc: Global,
     words: &[String],
@@ -89,7 +92,7 @@ pub fn gvet<R: Threads + Sync, T: Tree, K: Keeper, I: Source, O: Sink>(
 }
 
 /// Over devices that never fail and a sink that always takes something, no status of a device comes.
-pub fn sure_session<R: Threads + Sync, K: Keeper>(
+pub fn sure_session<R: Threads + Sync + RandomSource, K: Keeper>(
     rt: &R,
     alloc: Global,
     keeper: &mut K,

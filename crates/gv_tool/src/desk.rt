@@ -9,7 +9,7 @@ use crate::script::Command;
 use crate::word::Word;
 use analysis_core::Counts;
 use const_kit::ConstKit;
-use fact_cache::Cache;
+use fact_cache::{Cache, Key};
 use gv_base::{Bytes, Files, NoMemory};
 use report_text::stats;
 use std::alloc::Global;
@@ -67,8 +67,8 @@ impl Desk {
     ghost use Rattle.gv_tool.specs.Script.{IsLawful};
     ghost use Rattle.gv_tool.specs.Replies.{at_start, with_tree};
 
-    /// An empty tree, and an empty cache.
-    pub fn new(alloc: Global) -> Self
+    /// An empty tree, and an empty cache of this key.
+    pub fn new(alloc: Global, key: Key) -> Self
         ensures standing { standing_of result ≡ at_start }
         ensures loads { loads_of result.kits ≡ 0 }
         ensures honest { IsHonest result.cache }
@@ -77,7 +77,7 @@ impl Desk {
         Desk {
             files: Files::new(alloc),
             found: false,
-            cache: Cache::new(alloc),
+            cache: Cache::with_key(alloc, key),
             counts: NO_COUNTS,
             kits: [ConstKit::new(alloc)],
         }

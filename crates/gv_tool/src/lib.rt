@@ -6,6 +6,7 @@ pub mod call;
 pub mod desk;
 mod fields;
 pub mod fieldset;
+pub mod key;
 pub mod laws;
 mod lines;
 pub mod options;

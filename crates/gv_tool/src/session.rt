@@ -3,6 +3,7 @@ ghost use Rattle.std.specs.Prelude.{◌≡◌, ◌+◌, ◌^◌, ◌≤◌, drop
 
 use crate::desk::Desk;
 use crate::pending::Pending;
+use fact_cache::Key;
 use std::alloc::Global;
 
 /// The desk, and the bytes of the script that were taken and not yet answered.
@@ -23,8 +24,8 @@ impl Session {
     /// The most bytes of a script.
     pub const LIMIT: usize = 1 << 28;
 
-    /// A session that has taken nothing.
-    pub fn new(alloc: Global) -> Self
+    /// A session that has taken nothing, with a cache of this key.
+    pub fn new(alloc: Global, key: Key) -> Self
         ensures standing { standing_of result.desk ≡ at_start }
         ensures loads { loads_of result.desk.kits ≡ 0 }
         ensures honest { IsHonest result.desk.cache }
@@ -32,7 +33,7 @@ impl Session {
         ensures offset { result.offset ≡ 0 }
     {
         Session {
-            desk: Desk::new(alloc),
+            desk: Desk::new(alloc, key),
             pending: Pending::new(alloc),
             offset: 0,
         }

@@ -12,6 +12,7 @@ use crate::pieces::{Taken, take_piece};
 use crate::script::{Next, next_command};
 use crate::session::Session;
 use crate::status::Status;
+use fact_cache::Key;
 use gv_base::{Sink, Source};
 use std::alloc::Global;
 
@@ -78,14 +79,14 @@ fn turn<I: Source, O: Sink>(
     }
 }
 
-/// Reads a script, and answers each of its commands.
-pub fn run<I: Source, O: Sink>(alloc: Global, input: &mut I, output: &mut O) -> Status
+/// Reads a script, and answers each of its commands. The session's cache is of this key, on which no answer depends.
+pub fn run<I: Source, O: Sink>(alloc: Global, key: Key, input: &mut I, output: &mut O) -> Status
     ensures outcome { Runs (I.view input.old) (I.view input.new) (O.view output.old) (O.view output.new) result }
     ensures source_fault { OnlyWhereRose (I.view input.old).faults (I.view input.new).faults (result ≡ Status.SourceFault) }
     ensures sink_fault { OnlyWhereRose (O.view output.old).faults (O.view output.new).faults (result ≡ Status.SinkFault) }
     ensures stuck { OnlyWhereRose (O.view output.old).stalls (O.view output.new).stalls (result ≡ Status.Stuck) }
 {
-    let mut session = Session::new(alloc);
+    let mut session = Session::new(alloc, key);
     'script: loop {
         if let Some(status) = turn(alloc, &mut session, input, output) {
             return status;

@@ -12,6 +12,7 @@ use gv_tool::status::{Status, status_name};
 use std::alloc::Global;
 use std::io::{Input, Print};
 use std::process::ExitCode;
+use std::random::RandomSource;
 use std::thread::Threads;
 use std::{env, io};
 
@@ -34,7 +35,11 @@ fn words_of(rt: &HostRuntime) -> Result<Vec<String>, Status> {
 }
 
 /// Calls the tool over the real devices. The tree and the keeper are not touched yet.
-fn call<R: Threads + Sync + Input + Print>(rt: &R, alloc: Global, words: &[String]) -> u8
+fn call<R: Threads + Sync + RandomSource + Input + Print>(
+    rt: &R,
+    alloc: Global,
+    words: &[String],
+) -> u8
     ensures usage { ¬ (IsSession words.now) → result ≡ 2 }
     ensures only_usage { IsSession words.now → result ≢ 2 }
 {

@@ -6,12 +6,12 @@ use Rattle.gv_base.specs.Files.{Entry}
 use Rattle.fix_apply.specs.declared.edits.Fix.{Fix}
 use Rattle.fix_apply.specs.declared.choices.Choice.{Choice}
 use Rattle.fix_apply.specs.declared.choices.Choice.TheVariants.{Applied, Overlaps}
-use Rattle.analysis_core.specs.declared.run_reply.FoundLine.{FoundLine}
-use Rattle.analysis_core.specs.declared.run_reply.RunReply.{RunReply}
-use Rattle.analysis_core.specs.RunReplies.{FixSpot, spot_if, fix_spots, spot_at, fix_line, fix_lines}
+use Rattle.analysis_core.specs.declared.reply.FoundLine.{FoundLine}
+use Rattle.analysis_core.specs.declared.reply.Reply.{Reply}
+use Rattle.analysis_core.specs.Replies.{FixSpot, spot_if, fix_spots, spot_at, fix_line, fix_lines}
 use Rattle.report_text.specs.Standing.{LiesIn}
-use Rattle.report_text.specs.RunStanding.{FoundStands, SpotStands, spot_of, spots_of, Earlier, FixesStand}
-use Rattle.report_text.specs.declared.run_print.Spot.{Spot}
+use Rattle.report_text.specs.ReplyStanding.{FoundStands, SpotStands, spot_of, spots_of, Earlier, FixesStand}
+use Rattle.report_text.specs.declared.lines.Spot.{Spot}
 
 pub lies_spot : (files : List Entry) (spots : List Spot) (n : ℕ) (spot : Spot) → n < length spots → spot ≡ get_or spots n spot → All (SpotStands files) spots → LiesIn files spot.place
 lies_spot files spots n spot lt is all = subst (SpotStands files) (sym is) (all n spot lt)
@@ -43,11 +43,11 @@ spots_stand files found spots is h = of_map files spots (subst (All (FixStands f
 spots_count : (found : List FoundLine) (spots : List Spot) → spots_of spots ≡ fix_spots found → length spots ≡ length (fix_spots found)
 spots_count found spots is = sym (length-map spots spot_of) ∙ ap length is
 
-pub choices_count : (r : RunReply) (found : List FoundLine) (choices : List Choice) (spots : List Spot) → found ≡ r.diagnostics → choices ≡ r.choices → spots_of spots ≡ fix_spots found → FixesStand r → length choices ≡ length spots
+pub choices_count : (r : Reply) (found : List FoundLine) (choices : List Choice) (spots : List Spot) → found ≡ r.diagnostics → choices ≡ r.choices → spots_of spots ≡ fix_spots found → FixesStand r → length choices ≡ length spots
 choices_count r found choices spots same of is h =
     ap length of ∙ (h.size ∙ (ap (λ (ls : List FoundLine). length (fix_spots ls)) (sym same) ∙ sym (spots_count found spots is)))
 
-pub choices_earlier : (r : RunReply) (found : List FoundLine) (choices : List Choice) (spots : List Spot) → found ≡ r.diagnostics → choices ≡ r.choices → spots_of spots ≡ fix_spots found → FixesStand r → All (Earlier (length spots)) choices
+pub choices_earlier : (r : Reply) (found : List FoundLine) (choices : List Choice) (spots : List Spot) → found ≡ r.diagnostics → choices ≡ r.choices → spots_of spots ≡ fix_spots found → FixesStand r → All (Earlier (length spots)) choices
 choices_earlier r found choices spots same of is h =
     subst (λ (n : ℕ). All (Earlier n) choices) (sym (spots_count found spots is ∙ ap (λ (ls : List FoundLine). length (fix_spots ls)) same))
     (subst (All (Earlier (length (fix_spots r.diagnostics)))) (sym of) h.earlier)

@@ -1,26 +1,18 @@
 -- What a reply says, in the order of JSON.
 use Rattle.std.proofs.Common.{◌≡◌, ℕ, zero, suc, ◌+◌, ◌<◌, List, [], ◌∷◌, ◌++◌, length, Some, All, refl, sym, ap, ◌∙◌, subst, arith, append_assoc, length-append}
-use Rattle.std.specs.Cmp.{IsTotalOrder}
 use Rattle.std.specs.List.Sorted.{IsPermutation}
-use Rattle.std.proofs.lemmas.Cmp.{then_total, on_total, nat_cmp_total, nat_list_cmp_total}
 use Rattle.std.proofs.lemmas.List.Elements.{All-append, All-cons}
 use Rattle.std.proofs.lemmas.List.Sorted.{All-permutation}
 use Rattle.std.proofs.lemmas.Option.{same_Some}
 use Rattle.gv_base.specs.Files.{Entry}
 use Rattle.gv_base.specs.declared.place.Place.{Place}
 use Rattle.analysis_core.specs.declared.reply.ErrorLine.{ErrorLine}
-use Rattle.analysis_core.specs.declared.run_reply.FoundLine.{FoundLine}
-use Rattle.analysis_core.specs.declared.run_reply.RunReply.{RunReply}
+use Rattle.analysis_core.specs.declared.reply.FoundLine.{FoundLine}
+use Rattle.analysis_core.specs.declared.reply.Reply.{Reply}
 use Rattle.analysis_core.specs.declared.said.Said.{Said}
-use Rattle.analysis_core.specs.JsonReplies.{key_text, error_said, diagnostic_said, errors_said, found_said, all_said, said_order}
+use Rattle.analysis_core.specs.JsonReplies.{error_said, diagnostic_said, errors_said, found_said, all_said}
 use Rattle.report_text.specs.Standing.{LiesIn, StandsIn}
-use Rattle.report_text.specs.RunStanding.{FoundStands, SaidStands}
-
-pub said_total : IsTotalOrder said_order
-said_total =
-    then_total (on_total (λ (s : Said). s.package) nat_list_cmp_total)
-    (then_total (on_total (λ (s : Said). key_text s.key) nat_list_cmp_total)
-    (on_total (λ (s : Said). s.number) nat_cmp_total))
+use Rattle.report_text.specs.ReplyStanding.{FoundStands, SaidStands}
 
 -- there are as many as error lines
 pub errors_count : (n : ℕ) (es : List ErrorLine) → length (errors_said n es) ≡ length es
@@ -40,7 +32,7 @@ found_stand files n (l ∷ ls) h =
     (λ place is. subst (LiesIn files) (same_Some l.diagnostic.place place is) (h 0 l (omega arith)))
     (found_stand files (n + 1) ls (λ k d lt. h (suc k) d (omega (arith, lt))))
 
-pub said_stand : (files : List Entry) (r : RunReply) (said : List Said) → All (StandsIn files) r.errors → All (FoundStands files) r.diagnostics → IsPermutation (all_said r) said → All (SaidStands files) said
+pub said_stand : (files : List Entry) (r : Reply) (said : List Said) → All (StandsIn files) r.errors → All (FoundStands files) r.diagnostics → IsPermutation (all_said r) said → All (SaidStands files) said
 said_stand files r said errors found moved =
     All-permutation (SaidStands files) (all_said r) said moved
     (All-append (SaidStands files) (errors_said 0 r.errors) (found_said (length r.errors) r.diagnostics) (errors_stand files 0 r.errors errors) (found_stand files (length r.errors) r.diagnostics found))
@@ -62,7 +54,7 @@ found_added old items new l ls total grown so_far =
     ∙ (ap (λ s. s ++ found_said (length items + 1) ls) grown
     ∙ (append_assoc items (diagnostic_said (length items) l ∷ []) (found_said (length items + 1) ls) ∙ so_far))
 
-pub all_joined : (r : RunReply) (es : List ErrorLine) (ls : List FoundLine) (a b c : List Said) → es ≡ r.errors → ls ≡ r.diagnostics → a ≡ [] → b ≡ a ++ errors_said (length a) es → c ≡ b ++ found_said (length b) ls → c ≡ all_said r
+pub all_joined : (r : Reply) (es : List ErrorLine) (ls : List FoundLine) (a b c : List Said) → es ≡ r.errors → ls ≡ r.diagnostics → a ≡ [] → b ≡ a ++ errors_said (length a) es → c ≡ b ++ found_said (length b) ls → c ≡ all_said r
 all_joined r es ls a b c e l none first second =
     let made : b ≡ errors_said 0 r.errors = first ∙ (ap (λ (s : List Said). s ++ errors_said (length s) es) none ∙ ap (errors_said 0) e) in
     second ∙ (ap (λ (s : List Said). s ++ found_said (length s) ls) made

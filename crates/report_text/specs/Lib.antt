@@ -1,2 +1,2 @@
+pub mod ReplyStanding
 pub mod Standing
-pub mod RunStanding

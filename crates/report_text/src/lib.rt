@@ -1,16 +1,15 @@
 //! The bytes of a run's reply.
 #![tactic(auto)]
 
-mod json;
+mod json_parts;
+mod lines;
 mod print;
-mod run_print;
-mod run_stand;
+mod reply_stand;
 mod said;
 mod stand;
 mod whole;
 
-pub use print::{stats, text};
-pub use run_stand::run_stands;
-pub use said::run_json;
-pub use stand::all_stand;
-pub use whole::run_text;
+pub use print::stats;
+pub use reply_stand::reply_stands;
+pub use said::json;
+pub use whole::text;

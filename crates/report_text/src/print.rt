@@ -1,10 +1,10 @@
-//! Lines with places, and the last line.
+//! Lines with places, and the numbers of a run.
 ghost use Rattle.std.specs.Prelude.{◌≡◌, ◌≤◌, ◌<◌, ◌++◌, ◌∷◌, ◌^◌, ℕ, List, [], length, codes, IfOk, OnOk, All, flat_map, string_bytes};
 ghost use Rattle.gv_base.specs.Lines.{IsTableOf};
-ghost use Rattle.analysis_core.specs.Replies.{file_numbered, place_text, error_line, reply_text, stats_text};
+ghost use Rattle.analysis_core.specs.Replies.{file_numbered, place_text, error_line, stats_text};
 ghost use Rattle.report_text.specs.Standing.{IsHand, LiesIn, StandsIn};
 
-use analysis_core::{Counts, ErrorLine, Reply};
+use analysis_core::{Counts, ErrorLine};
 use gv_base::{Bytes, Files, Lines, NoMemory, Place};
 use std::alloc::Global;
 
@@ -105,23 +105,6 @@ pub(crate) fn push_errors(
         hand = push_error(alloc, files, hand, out, error)?;
     }
     Ok(())
-}
-
-/// The bytes of a run's reply to `check`: a line for each error, and then how many packages and
-/// errors there are. The places of the reply stand in files of at most 2^31 bytes; `all_stand` tells whether
-/// they do.
-pub fn text(alloc: Global, reply: &Reply, files: &Files) -> Result<Bytes, NoMemory>
-    requires stand { All (StandsIn files.now) reply.now.errors }
-    ensures { IfOk result (λ text. text ≡ reply_text files.now reply.now) }
-{
-    let errors = reply.errors.as_slice();
-    let mut out = Vec::new(alloc);
-    push_errors(alloc, files, &mut out, errors)?;
-    let packages = reply.packages;
-    let count = errors.len();
-    let last = format!(in alloc; "packages {packages}, errors {count}\n")?;
-    out.extend_from_slice(last.as_bytes())?;
-    Ok(Bytes::new(out))
 }
 
 /// The bytes of the reply to `stats`.

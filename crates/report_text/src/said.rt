@@ -5,11 +5,11 @@ ghost use Rattle.std.specs.Cmp.Lexicographic.{slice_cmp};
 ghost use Rattle.std.specs.List.Sorted.{IsPermutation, IsSorted};
 ghost use Rattle.analysis_core.specs.JsonReplies.{error_said, diagnostic_said, errors_said, found_said, all_said, said_order, IsJson};
 ghost use Rattle.analysis_core.specs.declared.command.Command.TheVariants.{Report};
-ghost use Rattle.report_text.specs.RunStanding.{RunStands};
+ghost use Rattle.report_text.specs.ReplyStanding.{ReplyStands};
 
-use crate::json::push_line;
+use crate::json_parts::push_line;
 use crate::whole::push_limit;
-use analysis_core::{ErrorLine, FoundLine, RunReply, Said, key_text};
+use analysis_core::{ErrorLine, FoundLine, Reply, Said, key_text};
 use gv_base::{Bytes, Files, NoMemory};
 use std::alloc::Global;
 use std::cmp::Ordering;
@@ -73,7 +73,7 @@ fn add_found(alloc: Global, said: &mut Vec<Said>, found: &[FoundLine]) -> Result
 }
 
 /// All that the reply says, in its order.
-fn all_said(alloc: Global, reply: &RunReply) -> Result<Vec<Said>, NoMemory>
+fn all_said(alloc: Global, reply: &Reply) -> Result<Vec<Said>, NoMemory>
     ensures { IfOk result (λ said. said.items ≡ all_said reply.now) }
 {
     let mut said = Vec::new(alloc);
@@ -107,8 +107,8 @@ fn sort(said: &mut Vec<Said>)
 
 /// The reply to `report` as JSON: one line, or the limit line. The places of the reply stand in files of at most 2^31
 /// bytes.
-pub fn run_json(alloc: Global, reply: &RunReply, files: &Files) -> Result<Bytes, NoMemory>
-    requires stand { RunStands files.now Report reply.now }
+pub fn json(alloc: Global, reply: &Reply, files: &Files) -> Result<Bytes, NoMemory>
+    requires stand { ReplyStands files.now Report reply.now }
     ensures { IfOk result (IsJson files.now reply.now) }
 {
     let mut out = Vec::new(alloc);

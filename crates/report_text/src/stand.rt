@@ -36,7 +36,7 @@ fn stands(files: &Files, error: &ErrorLine) -> bool
 
 /// Tells whether the place of each line that has one stands in one of the files, at most at its end, and
 /// this file has at most 2^31 bytes.
-pub fn all_stand(files: &Files, errors: &[ErrorLine]) -> bool
+pub(crate) fn all_stand(files: &Files, errors: &[ErrorLine]) -> bool
     ensures { IsTrue result ↔ All (StandsIn files.now) errors.now }
 {
     for error in errors {

@@ -1,12 +1,12 @@
 //! The whole text of a run's reply.
 ghost use Rattle.std.specs.Prelude.{◌≡◌, ◌+◌, ◌++◌, ◌∷◌, [], length, codes, IfOk, OnOk, string_bytes};
 ghost use Rattle.std.specs.Fmt.{decimal};
-ghost use Rattle.analysis_core.specs.RunReplies.{limit_line, run_ending, within_limits, run_text, counted, ending, is_applied, applied, skipped};
-ghost use Rattle.report_text.specs.RunStanding.{RunStands};
+ghost use Rattle.analysis_core.specs.Replies.{limit_line, last_line, within_limits, reply_text, counted, ending, is_applied, applied, skipped};
+ghost use Rattle.report_text.specs.ReplyStanding.{ReplyStands};
 
+use crate::lines::push_middle;
 use crate::print::push_errors;
-use crate::run_print::push_middle;
-use analysis_core::{Command, RunReply, TreeLimit};
+use analysis_core::{Command, Reply, TreeLimit};
 use fix_apply::Choice;
 use gv_base::{Bytes, Files, NoMemory};
 use std::alloc::Global;
@@ -61,7 +61,7 @@ fn push_ending(
     alloc: Global,
     out: &mut Vec<u8>,
     asked: Command,
-    reply: &RunReply,
+    reply: &Reply,
 ) -> Result<(), NoMemory>
     ensures { OnOk result (out.new.items ≡ out.old.items ++ ending asked reply.now) }
 {
@@ -91,9 +91,9 @@ fn push_last(
     alloc: Global,
     out: &mut Vec<u8>,
     asked: Command,
-    reply: &RunReply,
+    reply: &Reply,
 ) -> Result<(), NoMemory>
-    ensures { OnOk result (out.new.items ≡ out.old.items ++ run_ending asked reply.now) }
+    ensures { OnOk result (out.new.items ≡ out.old.items ++ last_line asked reply.now) }
 {
     push_counted(alloc, out, b"packages ", reply.packages as usize)?;
     let count = reply.errors.as_slice().len();
@@ -108,9 +108,9 @@ fn push_within(
     files: &Files,
     out: &mut Vec<u8>,
     asked: Command,
-    reply: &RunReply,
+    reply: &Reply,
 ) -> Result<(), NoMemory>
-    requires { RunStands files.now asked reply.now }
+    requires { ReplyStands files.now asked reply.now }
     ensures { OnOk result (out.new.items ≡ out.old.items ++ within_limits files.now asked reply.now) }
 {
     push_errors(alloc, files, out, reply.errors.as_slice())?;
@@ -131,14 +131,9 @@ pub(crate) fn push_limit(out: &mut Vec<u8>, limit: TreeLimit) -> Result<(), NoMe
 /// The bytes of a run's reply to a command: the limit line alone, or the error lines, the lines that the command asks
 /// for, and the last line. The places of the reply stand in files of at most 2^31 bytes; for `fix` there is a choice for each
 /// fix, and a fix that is overlapped is one of them.
-pub fn run_text(
-    alloc: Global,
-    reply: &RunReply,
-    files: &Files,
-    asked: Command,
-) -> Result<Bytes, NoMemory>
-    requires stand { RunStands files.now asked reply.now }
-    ensures { IfOk result (λ text. text ≡ run_text files.now asked reply.now) }
+pub fn text(alloc: Global, reply: &Reply, files: &Files, asked: Command) -> Result<Bytes, NoMemory>
+    requires stand { ReplyStands files.now asked reply.now }
+    ensures { IfOk result (λ bytes. bytes ≡ reply_text files.now asked reply.now) }
 {
     let mut out = Vec::new(alloc);
     match reply.limit {

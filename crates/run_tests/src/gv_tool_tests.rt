@@ -1,5 +1,7 @@
 //! Whole sessions over devices in memory. What no clause says is looked at here: that a call with
 //! ample memory answers, and the printed lines.
+mod keys;
+
 use gv_base::{MemSink, MemSource, SureKeeper, SureTree};
 use gv_tool::adapters::{StdSink, StdSource};
 use gv_tool::call::{gvet, session};
@@ -7,6 +9,7 @@ use gv_tool::options::ToolOptions;
 use gv_tool::status::{Status, status_name};
 use std::alloc::Global;
 use std::process::Abort;
+use std::random::RandomSource;
 use std::test::Fail;
 use std::thread::Threads;
 
@@ -107,7 +110,7 @@ const PACKAGES: [Case; 9] = [
     (b"put q/q.go 23\npackage q\n\nconst N = 2\n\ncheck\nput p/p.go 39\npackage p\n\nimport \"m/q\"\n\nconst M = q.N\n\ndel q/q.go\nstats\n", b"packages 1, errors 0\nnodes 1, missing 1, loads 1, runs 0\n", 0),
 ];
 
-fn answer<R: Threads + Sync>(
+fn answer<R: Threads + Sync + RandomSource>(
     rt: &R,
     alloc: Global,
     script: &[u8],
@@ -127,7 +130,11 @@ fn answer<R: Threads + Sync>(
     Ok((status, output.bytes().to_vec(alloc)?))
 }
 
-fn answers<R: Threads + Sync + Abort>(rt: &R, alloc: Global, case: Case) -> Result<(), Fail> {
+fn answers<R: Threads + Sync + RandomSource + Abort>(
+    rt: &R,
+    alloc: Global,
+    case: Case,
+) -> Result<(), Fail> {
     let (status, out) = answer(rt, alloc, case.0, &[], &[], &[])?;
     assert_eq!(rt; out.as_slice(), case.1);
     assert_eq!(rt; status, case.2);
@@ -252,7 +259,7 @@ fn ends_where_reading_fails(rt: HostRuntime) -> Result<(), Fail> {
     Ok(())
 }
 
-fn status_of<R: Threads + Sync>(
+fn status_of<R: Threads + Sync + RandomSource>(
     rt: &R,
     alloc: Global,
     words: &[&str],

@@ -1,17 +1,18 @@
-//! A reply to each kind of line.
+//! The reply to a check and the numbers of a run; a reply to each kind of line.
 mod commands;
 
-use analysis_core::{Counts, ErrorLine, Reply};
+use analysis_core::{Command, Counts, ErrorLine, Reply};
 use gv_base::{Bytes, Files, NoMemory, Place, Row, Text};
-use report_text::{all_stand, stats, text};
+use report_text::{reply_stands, stats, text};
 use std::alloc::Global;
 use std::test::Fail;
 
 fn printed(alloc: Global, reply: &Reply, files: &Files) -> Result<Bytes, NoMemory> {
-    if !all_stand(files, reply.errors.as_slice()) {
-        return Err(NoMemory);
+    if !reply_stands(files, Command::Check, reply) {
+        return Ok(Bytes::new(Vec::new(alloc)));
     }
-    text(alloc, reply, files)
+    let bytes = text(alloc, reply, files, Command::Check)?;
+    Ok(bytes)
 }
 
 const NO_COUNTS: Counts = Counts {
@@ -65,20 +66,12 @@ fn lines_with_and_without_places(rt: HostRuntime) -> Result<(), Fail> {
         Some(Place { file: 0, offset: 0 }),
         "not utf-8",
     )?)?;
-    let reply = Reply {
-        packages: 4,
-        errors: Row::new(errors),
-        counts: NO_COUNTS,
-    };
+    let reply = Reply::of_check(alloc, 4, Row::new(errors), NO_COUNTS);
     assert_eq!(rt;
         printed(alloc, &reply, &files)?.as_slice(),
         b"a.go:3:7: E4 declaration cycle\na.go:4:7: E4 declaration cycle\nb.go:2:1: syntax error\nm/c: blocked by m/a\na.go:1:1: not utf-8\npackages 4, errors 5\n".as_slice()
     );
-    let nothing = Reply {
-        packages: 0,
-        errors: Row::new(Vec::new(alloc)),
-        counts: NO_COUNTS,
-    };
+    let nothing = Reply::of_check(alloc, 0, Row::new(Vec::new(alloc)), NO_COUNTS);
     assert_eq!(rt;
         printed(alloc, &nothing, &Files::new(alloc))?.as_slice(),
         b"packages 0, errors 0\n".as_slice()

@@ -1,6 +1,6 @@
 //! Findings as bytes and in order, and texts that spell none.
 use analysis_core::{
-    AnalyzerName, Counts, Diagnostic, FoundLine, RunReply, TreeLimit, all_own, analyzer_text,
+    AnalyzerName, Counts, Diagnostic, FoundLine, Reply, TreeLimit, all_own, analyzer_text,
     key_text, read_findings, settle_found, write_findings,
 };
 use fix_apply::{Edit, Fix};
@@ -154,9 +154,9 @@ fn replies_of_a_check(rt: HostRuntime) -> Result<(), Fail> {
         loads: 1,
         runs: 0,
     };
-    let reply = RunReply::of_check(alloc, 4, Row::new(Vec::new(alloc)), counts);
+    let reply = Reply::of_check(alloc, 4, Row::new(Vec::new(alloc)), counts);
     assert_eq!(rt; reply.packages, 4);
-    assert!(rt; !reply.is_reported());
+    assert!(rt; !reply.is_found());
     assert_eq!(rt; TreeLimit::FileBytes.text(), "file bytes");
     assert_eq!(rt; analyzer_text(10), "unusedresult");
     assert_eq!(rt; analyzer_text(11), "");

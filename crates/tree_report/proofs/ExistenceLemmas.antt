@@ -1,9 +1,10 @@
 -- Where no lawful load is without an outcome, no tree that is built is without a report.
 use Rattle.std.proofs.Common.{◌≡◌, ℕ, List, Option, map, length, refl, sum_by}
 use Rattle.gv_base.specs.Files.{Entry, AreInOrder}
+use Rattle.analysis_core.specs.declared.command.Command.TheVariants.{Check}
 use Rattle.analysis_core.specs.declared.reply.Counts.{Counts}
 use Rattle.analysis_core.specs.declared.reply.Reply.{Reply}
-use Rattle.analysis_core.specs.Replies.{is_found, reply_text}
+use Rattle.analysis_core.specs.Replies.{check_reply, is_found, reply_text}
 use Rattle.fact_cache.specs.declared.list.Entry.{Entry as Kept}
 use Rattle.gv_driver.specs.declared.tree.PackageTexts.{PackageTexts}
 use Rattle.gv_driver.specs.Trees.{IsTree}
@@ -27,8 +28,8 @@ report-exists runs outcomes tree ordered before built none =
     let form = built.1.1.1 in
     runs outcomes (map (texts_of tree) packages) (is-tree tree verdicts heads packages ordered form) before (λ found inputs after is plan cache.
     let counts : Counts = record { nodes = sum_by some_in inputs; missing = length (missing_of before inputs); loads = length (missing_of before inputs); runs = 0 } in
-    let reply : Reply = record { packages = length packages; errors = error_lines heads verdicts packages found; counts = counts } in
-    none after (record { text = reply_text tree reply; found = is_found reply; counts = counts }) (record {
+    let reply : Reply = check_reply (length packages) (error_lines heads verdicts packages found) counts in
+    none after (record { text = reply_text tree Check reply; found = is_found reply; counts = counts }) (record {
       verdicts = verdicts;
       heads = heads;
       packages = packages;
@@ -39,6 +40,7 @@ report-exists runs outcomes tree ordered before built none =
       plan = plan;
       cache = cache;
       reply = reply;
+      plain = refl;
       size = refl;
       errors = refl;
       nodes = refl;

@@ -9,3 +9,4 @@ pub mod OrderLemmas
 pub mod StandLemmas
 pub mod StopLemmas
 pub mod ExistenceLemmas
+pub mod PlainLemmas

@@ -17,9 +17,10 @@ use Rattle.gv_driver.specs.Reports.{IsReport}
 use Rattle.import_graph.specs.Packages.{ArePackages}
 use Rattle.gv_driver.specs.Runs.{some_in}
 use Rattle.fact_cache.specs.declared.list.Entry.{Entry as Kept}
+use Rattle.analysis_core.specs.declared.command.Command.TheVariants.{Check}
 use Rattle.analysis_core.specs.declared.reply.Counts.{Counts}
 use Rattle.analysis_core.specs.declared.reply.Reply.{Reply}
-use Rattle.analysis_core.specs.Replies.{is_found, reply_text}
+use Rattle.analysis_core.specs.Replies.{check_reply, is_found, reply_text}
 use Rattle.tree_report.specs.declared.print.TreeReport.{TreeReport}
 use Rattle.tree_report.specs.Form.{IsRead, AreRead, AreHeads, IsForm}
 use Rattle.tree_report.specs.Lines.{error_lines}
@@ -79,11 +80,12 @@ same-counts a b n m l r =
     ∙ (ap (λ x. record { nodes = b.nodes; missing = b.missing; loads = x; runs = a.runs }) l
     ∙ ap (λ x. record { nodes = b.nodes; missing = b.missing; loads = b.loads; runs = x }) r))
 
-same-reply : (a b : Reply) → a.packages ≡ b.packages → a.errors ≡ b.errors → a.counts ≡ b.counts → a ≡ b
-same-reply a b p e c =
-    ap (λ x. record { packages = x; errors = a.errors; counts = a.counts }) p
-    ∙ (ap (λ x. record { packages = b.packages; errors = x; counts = a.counts }) e
-    ∙ ap (λ x. record { packages = b.packages; errors = b.errors; counts = x }) c)
+same-reply : (a b : Reply) → a ≡ check_reply a.packages a.errors a.counts → b ≡ check_reply b.packages b.errors b.counts → a.packages ≡ b.packages → a.errors ≡ b.errors → a.counts ≡ b.counts → a ≡ b
+same-reply a b one two p e c =
+    one
+    ∙ (ap (λ x. check_reply x a.errors a.counts) p
+    ∙ (ap (λ x. check_reply b.packages x a.counts) e
+    ∙ (ap (λ x. check_reply b.packages b.errors x) c ∙ sym two)))
 
 same-report : (a b : TreeReport) → a.text ≡ b.text → a.found ≡ b.found → a.counts ≡ b.counts → a ≡ b
 same-report a b t f c =
@@ -113,7 +115,7 @@ reply-once : (tree : List Entry) (before after other : List Kept) (a b : TreeRep
 reply-once tree before after other a b r s =
     let same = form-once tree r.verdicts s.verdicts r.heads s.heads r.packages s.packages r.form s.form in
     let outcomes : r.outcomes ≡ s.outcomes = report-once (map (texts_of tree) s.packages) r.outcomes s.outcomes (subst (λ p. IsReport (map (texts_of tree) p) r.outcomes) same.packages r.outcome) s.outcome in
-    same-reply r.reply s.reply
+    same-reply r.reply s.reply r.plain s.plain
     (r.size ∙ (ap length same.packages ∙ sym s.size))
     (r.errors ∙ (ap (λ v. error_lines r.heads v r.packages r.outcomes) same.verdicts ∙ (ap (λ h. error_lines h s.verdicts r.packages r.outcomes) same.heads
     ∙ (ap (λ p. error_lines s.heads s.verdicts p r.outcomes) same.packages ∙ (ap (λ o. error_lines s.heads s.verdicts s.packages o) outcomes ∙ sym s.errors)))))
@@ -123,7 +125,7 @@ pub report-once-of : (tree : List Entry) (before after other : List Kept) (a b :
 report-once-of tree before after other a b r s =
     let reply : r.reply ≡ s.reply = reply-once tree before after other a b r s in
     same-report a b
-    (r.text ∙ (ap (reply_text tree) reply ∙ sym s.text))
+    (r.text ∙ (ap (reply_text tree Check) reply ∙ sym s.text))
     (r.found ∙ (ap is_found reply ∙ sym s.found))
     (r.counts ∙ (ap (λ (x : Reply). x.counts) reply ∙ sym s.counts))
 

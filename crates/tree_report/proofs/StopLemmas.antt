@@ -6,7 +6,7 @@ use Rattle.parse_file.specs.declared.verdict.FileVerdict.{FileVerdict}
 use Rattle.import_graph.specs.declared.pack.Package.{Package}
 use Rattle.fact_cache.specs.declared.list.Entry.{Entry as Kept}
 use Rattle.gv_driver.specs.declared.tree.PackageTexts.{PackageTexts}
-use Rattle.gv_driver.specs.declared.reply.Reply.{Reply as Told}
+use Rattle.gv_driver.specs.declared.reply.Judgement.{Judgement}
 use Rattle.gv_driver.specs.Runs.{IsCutOff, Ran}
 use Rattle.gv_driver.proofs.RunLaws.{ran-cut}
 use Rattle.tree_report.specs.Form.{IsForm}
@@ -23,6 +23,6 @@ stopped tree v h p texts before after count now form is cut = record {
 }
 
 -- the same where the run came to its end, and memory was wanting for what is made of its answer
-pub stopped-after : (tree : List Entry) (v : List (Option FileVerdict)) (h : List (Option Head)) (p : List Package) (texts : List PackageTexts) (before after : List Kept) (count now : ℕ) (told : Told) → IsForm tree v h p
+pub stopped-after : (tree : List Entry) (v : List (Option FileVerdict)) (h : List (Option Head)) (p : List Package) (texts : List PackageTexts) (before after : List Kept) (count now : ℕ) (told : Judgement) → IsForm tree v h p
     → texts ≡ map (texts_of tree) p → Ran texts before after count now told → IsStopped tree before after count now
 stopped-after tree v h p texts before after count now told form is ran = stopped tree v h p texts before after count now form is (ran-cut texts before after count now told ran)

@@ -1,9 +1,10 @@
 -- What the code holds of a tree of the form, and of its reply.
 use Rattle.std.specs.Prelude.{◌≡◌, Option, Some, None, List, length}
 use Rattle.gv_base.specs.Files.{Entry}
+use Rattle.analysis_core.specs.declared.command.Command.TheVariants.{Check}
 use Rattle.analysis_core.specs.declared.reply.Reply.{Reply}
-use Rattle.analysis_core.specs.Replies.{is_found, reply_text}
-use Rattle.gv_driver.specs.declared.reply.Reply.{Reply as Ran}
+use Rattle.analysis_core.specs.Replies.{check_reply, is_found, reply_text}
+use Rattle.gv_driver.specs.declared.reply.Judgement.{Judgement}
 use Rattle.tree_report.specs.Lines.{error_lines}
 use Rattle.tree_report.specs.declared.formed.Formed.{Formed}
 use Rattle.tree_report.specs.declared.print.TreeReport.{TreeReport}
@@ -17,8 +18,9 @@ abbrev pub IsFormed : List Entry → Option Formed → Type 0
 IsFormed tree None = IsBuilt tree → ⊥
 IsFormed tree (Some f) = Holds tree f
 
--- The reply of a run over the packages of a tree.
-pub record IsReplyOf (f : Formed) (ran : Ran) (reply : Reply) : Type 0 where
+-- The reply of a run over the packages of a tree, which has nothing besides error lines.
+pub record IsReplyOf (f : Formed) (ran : Judgement) (reply : Reply) : Type 0 where
+  pub plain : reply ≡ check_reply reply.packages reply.errors reply.counts
   pub size : reply.packages ≡ length f.packages.items
   pub errors : reply.errors ≡ error_lines f.heads.items f.verdicts.items f.packages.items ran.verdicts
   pub nodes : reply.counts.nodes ≡ ran.counts.nodes
@@ -26,8 +28,8 @@ pub record IsReplyOf (f : Formed) (ran : Ran) (reply : Reply) : Type 0 where
   pub loads : reply.counts.loads ≡ ran.counts.loads
   pub runs : reply.counts.runs ≡ ran.counts.runs
 
--- the report is that of the reply
+-- the report is that of the reply to a check
 pub record Tells (tree : List Entry) (reply : Reply) (report : TreeReport) : Type 0 where
-  pub text : report.text ≡ reply_text tree reply
+  pub text : report.text ≡ reply_text tree Check reply
   pub found : report.found ≡ is_found reply
   pub counts : report.counts ≡ reply.counts

@@ -13,8 +13,9 @@ use Rattle.gv_driver.specs.Caches.{IsCacheAfter, missing_of}
 use Rattle.gv_driver.specs.Loads.{IsPlan}
 use Rattle.gv_driver.specs.Reports.{IsReport}
 use Rattle.gv_driver.specs.Runs.{IsCutOff, some_in}
+use Rattle.analysis_core.specs.declared.command.Command.TheVariants.{Check}
 use Rattle.analysis_core.specs.declared.reply.Reply.{Reply}
-use Rattle.analysis_core.specs.Replies.{file_numbered, is_found, reply_text}
+use Rattle.analysis_core.specs.Replies.{check_reply, file_numbered, is_found, reply_text}
 use Rattle.report_text.specs.Standing.{StandsIn}
 use Rattle.tree_report.specs.declared.run.Answer.{Answer}
 use Rattle.tree_report.specs.declared.run.Answer.TheVariants.{NotBuilt, Told}
@@ -29,7 +30,8 @@ texts_of tree p = record { path = p.path; stub = p.stub; sound = is_sound p.stat
 
 -- The report of a tree of the form, over one cache and leaving another. What comes of its packages comes of their
 -- sources, and knows neither cache nor export texts. The nodes are the loads of its packages; exactly those for whose
--- inputs the cache had nothing were executed, and stand in it then.
+-- inputs the cache had nothing were executed, and stand in it then. The reply is that of a check: it has error lines, and
+-- neither diagnostics nor facts, fixes or changed files.
 pub record Reports (tree : List Entry) (before after : List Kept) (report : TreeReport) : Type 0 where
   pub verdicts : List (Option FileVerdict)
   pub heads : List (Option Head)
@@ -41,13 +43,14 @@ pub record Reports (tree : List Entry) (before after : List Kept) (report : Tree
   pub plan : IsPlan (map (texts_of tree) packages) inputs
   pub cache : IsCacheAfter before after inputs
   pub reply : Reply
+  pub plain : reply ≡ check_reply reply.packages reply.errors reply.counts
   pub size : reply.packages ≡ length packages
   pub errors : reply.errors ≡ error_lines heads verdicts packages outcomes
   pub nodes : reply.counts.nodes ≡ sum_by some_in inputs
   pub missing : reply.counts.missing ≡ length (missing_of before inputs)
   pub loads : reply.counts.loads ≡ length (missing_of before inputs)
   pub runs : reply.counts.runs ≡ 0
-  pub text : report.text ≡ reply_text tree reply
+  pub text : report.text ≡ reply_text tree Check reply
   pub found : report.found ≡ is_found reply
   pub counts : report.counts ≡ reply.counts
 
@@ -56,17 +59,18 @@ abbrev pub IsAnswered : List Entry → List Kept → List Kept → ℕ → ℕ �
 IsAnswered tree before after count now NotBuilt = (IsBuilt tree → ⊥) × ((after ≡ before) × (now ≡ count))
 IsAnswered tree before after count now (Told report) = Reports tree before after report × (now ≡ count + report.counts.loads)
 
--- What holds of a report over any cache: it is that of a reply to the packages of a tree of the form, and each place in it
--- stands in one of the files.
+-- What holds of a report over any cache: it is that of a check's reply to the packages of a tree of the form, and each place in
+-- it stands in one of the files.
 pub record IsSafe (tree : List Entry) (report : TreeReport) : Type 0 where
   pub verdicts : List (Option FileVerdict)
   pub heads : List (Option Head)
   pub packages : List Package
   pub form : IsForm tree verdicts heads packages
   pub reply : Reply
+  pub plain : reply ≡ check_reply reply.packages reply.errors reply.counts
   pub size : reply.packages ≡ length packages
   pub stand : All (StandsIn tree) reply.errors
-  pub text : report.text ≡ reply_text tree reply
+  pub text : report.text ≡ reply_text tree Check reply
   pub found : report.found ≡ is_found reply
 
 -- the form alone decides which trees are built

@@ -10,9 +10,10 @@ use crate::print::{TreeReport, printed};
 use crate::states::{Found, error_lines};
 use crate::texts::all_texts;
 use action_graph::Kit;
-use analysis_core::{Counts, Reply};
+use analysis_core::Reply;
 use fact_cache::Cache;
 use gv_base::{Bytes, Files, NoMemory, Row, files_are_in_order};
+use gv_driver::Judgement;
 use import_graph::Package;
 use std::alloc::Global;
 
@@ -44,7 +45,7 @@ fn paths_of(alloc: Global, packages: &[Package]) -> Result<Vec<Bytes>, NoMemory>
 }
 
 /// The reply of a run over the packages of a tree.
-fn reply_of(alloc: Global, formed: &Formed, ran: &gv_driver::Reply) -> Result<Reply, NoMemory>
+fn reply_of(alloc: Global, formed: &Formed, ran: &Judgement) -> Result<Reply, NoMemory>
     requires order { AreAscending (paths_of formed.now.packages.items) }
     requires few { length formed.now.packages.items ≤ 1024 }
     requires size { length ran.now.verdicts ≡ length formed.now.packages.items }
@@ -62,16 +63,8 @@ fn reply_of(alloc: Global, formed: &Formed, ran: &gv_driver::Reply) -> Result<Re
             paths: &paths,
         },
     )?;
-    Ok(Reply {
-        packages: formed.packages.len() as u32,
-        errors: Row::new(errors),
-        counts: Counts {
-            nodes: ran.counts.nodes,
-            missing: ran.counts.missing,
-            loads: ran.counts.loads,
-            runs: ran.counts.runs,
-        },
-    })
+    let packages = formed.packages.len() as u32;
+    Ok(Reply::of_check(alloc, packages, Row::new(errors), ran.counts))
 }
 
 /// The report of a tree of the form.

@@ -6,6 +6,7 @@ use super::found::{Found, found_in};
 use super::session::{reply, script_of};
 use crate::parsed::shown;
 use anyhow::Result;
+use std::random::RandomSource;
 use std::thread::Threads;
 
 /// The folder of files in which no error is expected.
@@ -138,7 +139,7 @@ fn ends_well(
 }
 
 /// Checks a tree, and prints that its errors are as expected, or what differs.
-pub fn run_tree<R: Threads + Sync>(
+pub fn run_tree<R: Threads + Sync + RandomSource>(
     rt: &HostRuntime,
     threads: &R,
     name: &str,

@@ -5,6 +5,7 @@ use gv_base::{MemSink, SureKeeper, SureSource, SureTree};
 use gv_tool::call::gvet;
 use std::alloc::Global;
 use std::fmt::Write;
+use std::random::RandomSource;
 use std::thread::Threads;
 
 /// The script that puts the files and checks the tree.
@@ -19,7 +20,11 @@ pub fn script_of(alloc: Global, files: &[SourceFile<'_>]) -> Result<String> {
 }
 
 /// What a session replies to the script, with its status.
-pub fn reply<R: Threads + Sync>(threads: &R, alloc: Global, script: &str) -> Result<(u8, String)> {
+pub fn reply<R: Threads + Sync + RandomSource>(
+    threads: &R,
+    alloc: Global,
+    script: &str,
+) -> Result<(u8, String)> {
     let mut words = Vec::new(alloc);
     words.push(String::from_str(alloc, "session")?)?;
     let mut tree = SureTree::new(alloc);

@@ -1,10 +1,10 @@
 //! A reply of each kind of line, as text and as JSON.
 use analysis_core::{
-    ChangedFile, Command, Counts, Diagnostic, ErrorLine, FactLine, FoundLine, RunReply, TreeLimit,
+    ChangedFile, Command, Counts, Diagnostic, ErrorLine, FactLine, FoundLine, Reply, TreeLimit,
 };
 use fix_apply::{Choice, Edit, Fix};
 use gv_base::{Bytes, Files, NoMemory, Place, Row, Text};
-use report_text::{run_json, run_stands, run_text};
+use report_text::{json, reply_stands, text};
 use std::alloc::Global;
 use std::test::Fail;
 
@@ -16,25 +16,20 @@ const NO_COUNTS: Counts = Counts {
 };
 
 /// The bytes of a reply; none where it can't be printed.
-fn printed(
-    alloc: Global,
-    reply: &RunReply,
-    files: &Files,
-    asked: Command,
-) -> Result<Bytes, NoMemory> {
-    if !run_stands(files, asked, reply) {
+fn printed(alloc: Global, reply: &Reply, files: &Files, asked: Command) -> Result<Bytes, NoMemory> {
+    if !reply_stands(files, asked, reply) {
         return Ok(Bytes::new(Vec::new(alloc)));
     }
-    let text = run_text(alloc, reply, files, asked)?;
-    Ok(text)
+    let bytes = text(alloc, reply, files, asked)?;
+    Ok(bytes)
 }
 
-fn as_json(alloc: Global, reply: &RunReply, files: &Files) -> Result<Bytes, NoMemory> {
-    if !run_stands(files, Command::Report, reply) {
+fn as_json(alloc: Global, reply: &Reply, files: &Files) -> Result<Bytes, NoMemory> {
+    if !reply_stands(files, Command::Report, reply) {
         return Ok(Bytes::new(Vec::new(alloc)));
     }
-    let text = run_json(alloc, reply, files)?;
-    Ok(text)
+    let bytes = json(alloc, reply, files)?;
+    Ok(bytes)
 }
 
 fn one_file(alloc: Global) -> Result<Files, NoMemory> {
@@ -103,7 +98,7 @@ fn fact(alloc: Global, analyzer: u8, says: &[u8]) -> Result<FactLine, NoMemory> 
     })
 }
 
-fn whole_reply(alloc: Global) -> Result<RunReply, NoMemory> {
+fn whole_reply(alloc: Global) -> Result<Reply, NoMemory> {
     let at = Some(Place {
         file: 0,
         offset: 23,
@@ -111,7 +106,7 @@ fn whole_reply(alloc: Global) -> Result<RunReply, NoMemory> {
     let mut errors = Vec::new(alloc);
     errors.push(line(alloc, "m/a", at, b"E32 not assignable")?)?;
     errors.push(line(alloc, "m/b", None, b"blocked by m/c")?)?;
-    let mut reply = RunReply::of_check(alloc, 2, Row::new(errors), NO_COUNTS);
+    let mut reply = Reply::of_check(alloc, 2, Row::new(errors), NO_COUNTS);
     let mut diagnostics = Vec::new(alloc);
     let first = removal(alloc, 23)?;
     diagnostics.push(found(alloc, 23, 1, b"self-assignment of x", Some(first))?)?;
@@ -178,7 +173,7 @@ fn escapes(rt: HostRuntime) -> Result<(), Fail> {
         b"\"\\\x08\t\n\x0c\r\x00\x1f\x7f/\xc3\xa9",
     )?)?;
     errors.push(line(alloc, "m/a", None, b"not utf-8: \xff")?)?;
-    let reply = RunReply::of_check(alloc, 1, Row::new(errors), NO_COUNTS);
+    let reply = Reply::of_check(alloc, 1, Row::new(errors), NO_COUNTS);
     assert_eq!(rt;
         as_json(alloc, &reply, &files)?.as_slice(),
         b"{\"m/a\":{\"types\":[{\"message\":\"\\\"\\\\\\b\\t\\n\\f\\r\\u0000\\u001f\x7f/\xc3\xa9\",\"posn\":\"\"},{\"message\":\"\",\"posn\":\"\"}]}}\n".as_slice()
@@ -190,7 +185,7 @@ fn escapes(rt: HostRuntime) -> Result<(), Fail> {
 fn limits_and_nothing(rt: HostRuntime) -> Result<(), Fail> {
     let alloc = rt.alloc();
     let files = one_file(alloc)?;
-    let mut reply = RunReply::of_check(alloc, 0, Row::new(Vec::new(alloc)), NO_COUNTS);
+    let mut reply = Reply::of_check(alloc, 0, Row::new(Vec::new(alloc)), NO_COUNTS);
     assert_eq!(rt;
         as_json(alloc, &reply, &files)?.as_slice(),
         b"{}\n".as_slice()

@@ -3,7 +3,7 @@ use Rattle.std.specs.Ordering.{is_lt}
 use Rattle.std.proofs.lemmas.Fn.{always_returns_same}
 use Rattle.std.proofs.lemmas.List.Sorted.{ranks_by}
 use Rattle.analysis_core.specs.JsonReplies.{said_order}
-use Rattle.report_text.proofs.SaidLemmas.{said_total}
+use Rattle.analysis_core.proofs.JsonLemmas.{said_total}
 use Rattle.report_text.proofs.said.sort.Goals as goal
 
 pub returns-clause-sorted : goal.returns-clause-sorted

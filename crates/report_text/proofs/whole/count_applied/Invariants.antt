@@ -1,5 +1,5 @@
 use Rattle.std.proofs.Common.{◌≡◌, ◌+◌, ◌≤◌, length}
-use Rattle.analysis_core.specs.RunReplies.{applied}
+use Rattle.analysis_core.specs.Replies.{applied}
 use Rattle.report_text.proofs.whole.count_applied.Given as goal
 
 abbrev pub invariant-loop-rest : goal.invariant-loop-rest

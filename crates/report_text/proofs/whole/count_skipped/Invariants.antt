@@ -1,5 +1,5 @@
 use Rattle.std.proofs.Common.{◌≡◌, ◌+◌, ◌≤◌, length}
-use Rattle.analysis_core.specs.RunReplies.{skipped}
+use Rattle.analysis_core.specs.Replies.{skipped}
 use Rattle.report_text.proofs.whole.count_skipped.Given as goal
 
 abbrev pub invariant-loop-rest : goal.invariant-loop-rest

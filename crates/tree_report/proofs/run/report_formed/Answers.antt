@@ -4,6 +4,7 @@ use Rattle.gv_driver.specs.Standing.{AreVerdictsIn}
 use Rattle.gv_driver.specs.Trees.{IsTree}
 use Rattle.tree_report.specs.Reports.{texts_of}
 use Rattle.tree_report.proofs.TreeLemmas.{is-tree, paths-rise}
+use Rattle.tree_report.proofs.PlainLemmas.{check-stands}
 use Rattle.tree_report.proofs.StandLemmas.{error-lines-stand}
 use Rattle.tree_report.proofs.StopLemmas.{stopped, stopped-after}
 use Rattle.tree_report.proofs.run.report_formed.Goals as goal
@@ -29,11 +30,11 @@ returns-in_err-reply-clause-cut_off g c = λ honest.
     search (rules, h)
 
 pub printed-requires : goal.printed-requires
-printed-requires g c = record {
-  stand = subst (All (StandsIn c.args.files.now)) (sym c.in_ok-reply.ensures.errors)
-      (error-lines-stand c.args.files.now c.args.formed.now.verdicts.items c.args.formed.now.heads.items c.args.formed.now.packages.items c.in_ok-ran.ran.verdicts c.requires.form
-      (subst (λ l. AreVerdictsIn l c.in_ok-ran.ran.verdicts) (c.deref-2.ensures.value ∙ (c.in_ok-tree.ensures ∙ ap (map (texts_of c.args.files.now)) c.deref.ensures.value)) c.in_ok-ran.ensures.stand));
-}
+printed-requires g c =
+    check-stands c.args.files.now c.in_ok-reply.reply c.in_ok-reply.ensures.plain
+    (subst (All (StandsIn c.args.files.now)) (sym c.in_ok-reply.ensures.errors)
+    (error-lines-stand c.args.files.now c.args.formed.now.verdicts.items c.args.formed.now.heads.items c.args.formed.now.packages.items c.in_ok-ran.ran.verdicts c.requires.form
+    (subst (λ l. AreVerdictsIn l c.in_ok-ran.ran.verdicts) (c.deref-2.ensures.value ∙ (c.in_ok-tree.ensures ∙ ap (map (texts_of c.args.files.now)) c.deref.ensures.value)) c.in_ok-ran.ensures.stand)))
 
 pub returns-in_err-report-clause-cut_off : goal.returns-in_err-report-clause-cut_off
 returns-in_err-report-clause-cut_off g c = λ honest.
@@ -48,6 +49,7 @@ returns-clause-safe g c = record {
   packages = c.args.formed.now.packages.items;
   form = c.requires.form;
   reply = c.in_ok-reply.reply;
+  plain = c.in_ok-reply.ensures.plain;
   size = c.in_ok-reply.ensures.size;
   stand = subst (All (StandsIn c.args.files.now)) (sym c.in_ok-reply.ensures.errors)
       (error-lines-stand c.args.files.now c.args.formed.now.verdicts.items c.args.formed.now.heads.items c.args.formed.now.packages.items c.in_ok-ran.ran.verdicts c.requires.form

@@ -1,9 +1,0 @@
-use Rattle.std.proofs.Common.{◌≡◌, ◌++◌, take, flat_map}
-use Rattle.analysis_core.specs.RunReplies.{found_line}
-use Rattle.report_text.specs.Standing.{IsHand}
-use Rattle.report_text.proofs.run_print.push_all_found.Given as goal
-
-abbrev pub invariant-loop-line : goal.invariant-loop-line
-invariant-loop-line l =
-    IsHand l.files l.hand
-    × (l.out.items ≡ l.fn.out.items ++ flat_map (found_line l.files) (take l.line-index l.found))

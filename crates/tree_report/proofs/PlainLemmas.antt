@@ -1,0 +1,21 @@
+-- The reply of a check can be printed where its error lines stand.
+use Rattle.std.proofs.Common.{◌≡◌, List, [], All, sym, subst, arith}
+use Rattle.gv_base.specs.Files.{Entry}
+use Rattle.analysis_core.specs.declared.command.Command.TheVariants.{Check, Fix}
+use Rattle.analysis_core.specs.declared.reply.Reply.{Reply}
+use Rattle.analysis_core.specs.Replies.{check_reply}
+use Rattle.report_text.specs.Standing.{StandsIn}
+use Rattle.report_text.specs.ReplyStanding.{FoundStands, ReplyStands}
+
+none-found : (tree : List Entry) → All (FoundStands tree) []
+none-found tree = λ k d lt. absurd (omega (arith, lt))
+
+no-fixes : Check ≡ Fix → ⊥
+no-fixes e = cc
+
+pub check-stands : (tree : List Entry) (r : Reply) → r ≡ check_reply r.packages r.errors r.counts → All (StandsIn tree) r.errors → ReplyStands tree Check r
+check-stands tree r plain stand = subst (ReplyStands tree Check) (sym plain) (record {
+  errors = stand;
+  found = none-found tree;
+  fixes = λ e. absurd (no-fixes e);
+})
