@@ -7,12 +7,12 @@ ghost use Rattle.type_rel.specs.Answers.{IsInterface};
 
 mod shared;
 
-use crate::types::number;
 use gv_base::{Kind, NoMemory, Row, Text};
 use std::alloc::Global;
 use std::test::Fail;
 use type_model::{Method, Signature, Term, TypeId, TypeTable};
 use type_rel::{Implements, implements};
+use type_samples::number;
 
 /// An interface with one method, which gives this type.
 fn one_method(alloc: Global, t: &TypeTable, name: &str, of: TypeId) -> Result<Term, NoMemory>
