@@ -10,8 +10,6 @@ mod memory;
 mod names;
 mod replacing;
 mod system;
-#[cfg(test)]
-mod tests;
 mod tree;
 
 pub use device::{Disk, Item, Kind};
@@ -19,5 +17,5 @@ pub use keeper::{FileKeeper, LONGEST};
 pub use listing::list_below;
 pub use memory::{MemDisk, Slot};
 pub use replacing::replace;
-pub use system::SystemDisk;
+pub use system::{SystemDisk, read_most};
 pub use tree::DirTree;

@@ -105,7 +105,7 @@ fn read_piece<F: Read>(
 
 /// The first `most` bytes of a file, however long it grows, of which `likely` are awaited. Each
 /// turn reads something or is the last.
-pub(crate) fn read_most<F: Read>(
+pub fn read_most<F: Read>(
     alloc: Global,
     file: &mut F,
     most: usize,

@@ -1,4 +1,3 @@
 pub mod AskLaws
-mod LinkLemmas
 pub mod TellLaws
 pub mod WaitLemmas

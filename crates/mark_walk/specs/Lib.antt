@@ -1,5 +1,4 @@
 pub mod Asks
-pub mod Links
 pub mod Marking
 pub mod Telling
 pub mod Waiting

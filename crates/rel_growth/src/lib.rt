@@ -6,8 +6,6 @@ mod comparing;
 mod converting;
 mod laws;
 mod meeting;
-#[cfg(test)]
-mod tests;
 
 pub use assigning::assign;
 pub use comparing::compare;

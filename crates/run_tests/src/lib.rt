@@ -8,8 +8,6 @@ mod const_kit_tests;
 #[cfg(test)]
 mod fact_cache_tests;
 #[cfg(test)]
-mod gv_tool_tests;
-#[cfg(test)]
 mod report_text_tests;
 #[cfg(test)]
 mod tree_report_tests;

@@ -2,14 +2,8 @@
 #![tactic(auto)]
 
 #[cfg(test)]
-mod method_sets_tests;
+mod rel_growth_tests;
 #[cfg(test)]
 mod type_model_tests;
 #[cfg(test)]
-mod type_questions_tests;
-#[cfg(test)]
 mod type_rel_tests;
-#[cfg(test)]
-mod typed_tree_tests;
-#[cfg(test)]
-mod types;

@@ -4,11 +4,11 @@ ghost use Rattle.type_model.specs.GoTypes.{IsOver};
 ghost use Rattle.type_model.specs.Orders.{IsOrdered};
 ghost use Rattle.type_model.specs.Tables.{IsTable, count};
 
-use crate::types::number;
 use gv_base::{Bytes, Kind, NoMemory, Row, Text};
 use std::alloc::Global;
 use std::test::Fail;
 use type_model::{Added, Dir, Field, Term, TypeId, TypeName, TypeTable};
+use type_samples::number;
 
 #[test]
 fn types_stand_once(rt: HostRuntime) -> Result<(), Fail> {

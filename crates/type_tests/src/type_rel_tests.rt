@@ -7,12 +7,12 @@ ghost use Rattle.type_rel.specs.Answers.{IsInterface};
 
 mod shared;
 
-use crate::types::number;
 use gv_base::{Kind, NoMemory, Row, Text};
 use std::alloc::Global;
 use std::test::Fail;
 use type_model::{Method, Signature, Term, TypeId, TypeTable};
 use type_rel::{Implements, implements};
+use type_samples::{is_interface, number};
 
 /// An interface with one method, which gives this type.
 fn one_method(alloc: Global, t: &TypeTable, name: &str, of: TypeId) -> Result<Term, NoMemory>
@@ -36,35 +36,6 @@ fn one_method(alloc: Global, t: &TypeTable, name: &str, of: TypeId) -> Result<Te
         of,
     })?;
     Ok(Term::Interface(Row::new(methods)))
-}
-
-/// The methods of an interface type.
-fn interface_methods(t: &TypeTable, a: TypeId) -> Option<&[Method]>
-    requires table { IsTable t.now }
-    requires within { a.0 < count t.now }
-    ensures is { IfSome result (λ wanted. type_at (types_in t.now) a ≡ InterfaceOf (methods_of (types_in t.now) wanted.now)) }
-    ensures below { IfSome result (λ wanted. MethodsBelow (count t.now) wanted.now) }
-    ensures ordered { IfSome result (λ wanted. AreInOrder wanted.now) }
-{
-    match t.term(a) {
-        Term::Interface(methods) => Some(methods.as_slice()),
-        _ => None,
-    }
-}
-
-/// The underlying type is an interface.
-pub fn is_interface(t: &TypeTable, a: TypeId) -> bool
-    requires table { IsTable t.now }
-    requires within { a.0 < count t.now }
-    ensures { IsTrue result → IsInterface (declarations_in t.now) (type_at (types_in t.now) a) }
-{
-    match t.underlying(a) {
-        Some(under) => match interface_methods(t, under) {
-            Some(_) => true,
-            None => false,
-        },
-        None => false,
-    }
 }
 
 /// Whether a type with the methods of `of` lacks this method of `to`; an empty name stands for none.

@@ -18,6 +18,3 @@ pub use laws::{
 };
 pub use step::Step;
 pub use wave::run_wave;
-
-#[cfg(test)]
-mod tests;

@@ -1,16 +1,15 @@
 //! `comparable` of types that are held in many ways, and of a deep one.
-ghost use Rattle.std.specs.Prelude.{ℕ, ◌≡◌, ◌<◌, ◌≤◌, true, false, IfOk, codes, length};
-ghost use Rattle.type_model.specs.GoTypes.{IsOver, FieldsBelow, is_defined, type_at};
+ghost use Rattle.std.specs.Prelude.{ℕ, ◌≡◌, ◌<◌, ◌≤◌, IfOk, codes};
+ghost use Rattle.type_model.specs.GoTypes.{IsOver};
 ghost use Rattle.type_model.specs.Orders.{IsOrdered};
-ghost use Rattle.type_model.specs.Tables.{IsTable, count, declarations_in, types_in};
-ghost use Rattle.type_tests.specs.Apart.{IsFar, AreFar};
+ghost use Rattle.type_model.specs.Tables.{IsTable, count};
 
-use crate::types::number;
 use gv_base::{Bytes, Kind, NoMemory, Row, Text};
 use std::alloc::Global;
 use std::test::Fail;
 use type_model::{Field, Term, TypeId, TypeName, TypeTable};
 use type_rel::comparable;
+use type_samples::{is_apart, number};
 
 fn text(alloc: Global, letters: &str) -> Result<Text, NoMemory>
     ensures { IfOk result (λ t. t ≡ letters.now) }
@@ -55,69 +54,6 @@ fn pair(alloc: Global, of: TypeId) -> Result<Term, NoMemory>
     let second = field(alloc, "B", of)?;
     fields.push(second)?;
     Ok(Term::Struct(Row::new(fields)))
-}
-
-/// A type that is another, and holds none, so that it doesn't hold this one.
-fn is_far(table: &TypeTable, name: TypeId, of: TypeId) -> bool
-    requires table { IsTable table.now }
-    requires named { name.0 < count table.now }
-    requires within { of.0 < count table.now }
-    ensures { result ≡ true → IsFar (declarations_in table.now) (type_at (types_in table.now) name) (type_at (types_in table.now) of) }
-{
-    match table.term(of) {
-        Term::Basic(_) => true,
-        Term::Defined(_) => {
-            if table.same(name, of) {
-                return false;
-            }
-            table.underlying(of).is_none()
-        }
-        Term::Pointer(_) => false,
-        Term::Slice(_) => true,
-        Term::Array(_, _) => false,
-        Term::Map(_, _) => false,
-        Term::Chan(_, _) => false,
-        Term::Func(_) => false,
-        Term::Struct(_) => false,
-        Term::Interface(_) => false,
-    }
-}
-
-/// None of the fields' types holds the type.
-fn are_far(table: &TypeTable, name: TypeId, fields: &[Field]) -> bool
-    requires table { IsTable table.now }
-    requires named { name.0 < count table.now }
-    requires below { FieldsBelow (count table.now) fields.now }
-    ensures { result ≡ true → AreFar (declarations_in table.now) (types_in table.now) (type_at (types_in table.now) name) fields.now (length fields.now) }
-{
-    for k in 0..fields.len() {
-        if !is_far(table, name, fields[k].of) {
-            return false;
-        }
-    }
-    true
-}
-
-/// A struct type whose fields don't hold the type.
-fn is_apart(table: &TypeTable, name: TypeId, under: TypeId) -> bool
-    requires table { IsTable table.now }
-    requires named { name.0 < count table.now }
-    requires within { under.0 < count table.now }
-    ensures apart { result ≡ true → IsFar (declarations_in table.now) (type_at (types_in table.now) name) (type_at (types_in table.now) under) }
-    ensures plain { result ≡ true → is_defined (type_at (types_in table.now) under) ≡ false }
-{
-    match table.term(under) {
-        Term::Struct(fields) => are_far(table, name, fields.as_slice()),
-        Term::Basic(_) => false,
-        Term::Defined(_) => false,
-        Term::Pointer(_) => false,
-        Term::Slice(_) => false,
-        Term::Array(_, _) => false,
-        Term::Map(_, _) => false,
-        Term::Chan(_, _) => false,
-        Term::Func(_) => false,
-        Term::Interface(_) => false,
-    }
 }
 
 /// Declares the type of this number as `struct{ A, B T }` for this T.
