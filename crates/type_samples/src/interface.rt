@@ -8,7 +8,7 @@ ghost use Rattle.type_rel.specs.Answers.{IsInterface};
 use type_model::{Method, Term, TypeId, TypeTable};
 
 /// The methods of an interface type.
-fn interface_methods(t: &TypeTable, a: TypeId) -> Option<&[Method]>
+pub fn interface_methods(t: &TypeTable, a: TypeId) -> Option<&[Method]>
     requires table { IsTable t.now }
     requires within { a.0 < count t.now }
     ensures is { IfSome result (λ wanted. type_at (types_in t.now) a ≡ InterfaceOf (methods_of (types_in t.now) wanted.now)) }

@@ -6,5 +6,5 @@ mod interface;
 mod types;
 
 pub use apart::is_apart;
-pub use interface::is_interface;
+pub use interface::{interface_methods, is_interface};
 pub use types::number;

@@ -12,7 +12,7 @@ use std::alloc::Global;
 use std::test::Fail;
 use type_model::{Method, Signature, Term, TypeId, TypeTable};
 use type_rel::{Implements, implements};
-use type_samples::{is_interface, number};
+use type_samples::{interface_methods, is_interface, number};
 
 /// An interface with one method, which gives this type.
 fn one_method(alloc: Global, t: &TypeTable, name: &str, of: TypeId) -> Result<Term, NoMemory>
