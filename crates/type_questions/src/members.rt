@@ -24,6 +24,7 @@ pub fn field_or_method<S: Seen>(
     name: &str,
     from: &str,
 ) -> Result<Found<Reached<Selection>, S::Item>, NoMemory>
+    requires seen { S.IsSeen seen.now }
     requires table { IsTable t.now }
     requires step { IsInStep t.now (S.base (S.subject seen.now)) (S.under (S.subject seen.now)) S.reads (S.so_far seen.now) }
     requires within { of.0 < count t.now }
@@ -40,6 +41,7 @@ pub fn method_set_of<S: Seen>(
     t: &TypeTable,
     of: TypeId,
 ) -> Result<Found<Reached<Vec<Method>>, S::Item>, NoMemory>
+    requires seen { S.IsSeen seen.now }
     requires table { IsTable t.now }
     requires step { IsInStep t.now (S.base (S.subject seen.now)) (S.under (S.subject seen.now)) S.reads (S.so_far seen.now) }
     requires within { of.0 < count t.now }
