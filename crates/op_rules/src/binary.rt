@@ -15,7 +15,7 @@ use crate::numbers::{DIVISION_BY_ZERO, MISMATCHED_OPERANDS, NOT_COMPARABLE, OPER
 use crate::operand::{Operand, bad, operand_at, silent, value_at};
 use crate::operators::{divides, is_comparable, is_comparison, is_equality, is_shift, takes};
 use crate::shift::{judge_shift, value_of_two};
-use crate::types::{are_alike, common, is_untyped, kind_of, same_type};
+use crate::types::{are_alike, basic_type, common, is_untyped, kind_of, same_type};
 use crate::values::{computed, folded, is_zero};
 use const_eval::Operator;
 use gv_base::{Const, Kind, NoMemory};
@@ -23,7 +23,6 @@ use rule_words::{Answer, Seen, Step};
 use std::alloc::Global;
 use type_model::TypeId;
 use typed_marks::{ConstId, State, Want};
-use typed_tree::basic;
 
 // ---- results
 
@@ -35,7 +34,7 @@ fn result_type(s: &State, op: Operator, of: TypeId) -> TypeId
     ensures within { IsTypeOf s.now result }
 {
     if is_comparison(op) {
-        basic(Kind::UntypedBool)
+        basic_type(s, Kind::UntypedBool)
     } else {
         of
     }

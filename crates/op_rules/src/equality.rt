@@ -19,7 +19,7 @@ use crate::numbers::{MISMATCHED_OPERANDS, NOT_COMPARABLE};
 use crate::operand::{Operand, bad, value_at};
 use crate::operators::is_equality;
 use crate::types::{
-    common, holds_nil, is_basic, is_empty_interface, is_interface, is_nil_type, kind_of,
+    basic_type, common, holds_nil, is_basic, is_empty_interface, is_interface, is_nil_type, kind_of,
 };
 use const_eval::Operator;
 use gv_base::Kind;
@@ -27,7 +27,7 @@ use rule_words::{Answer, Asked, Pair, Rest, Step, operand};
 use type_model::TypeId;
 use type_rel::has_integers;
 use typed_marks::{ConstId, Mark, State, Want};
-use typed_tree::{Mode, basic};
+use typed_tree::Mode;
 
 // ---- E33: an untyped operand beside another type
 
@@ -103,7 +103,7 @@ fn truth(s: &State, want: Want) -> Mark
     ensures over { IsMarkOf s.now result }
     ensures plain { is_plain result ≡ true }
 {
-    operand(s, Mode::Value, basic(Kind::UntypedBool), None, want)
+    operand(s, Mode::Value, basic_type(s, Kind::UntypedBool), None, want)
 }
 
 fn has_nil(s: &State, x: Operand, y: Operand) -> bool

@@ -17,7 +17,7 @@ use crate::kinds::fits_in;
 use crate::numbers::{BAD_SHIFT_COUNT, SHIFTED_OPERAND_IS_NOT_AN_INTEGER};
 use crate::operand::{Operand, bad, operand_at, silent, value_at};
 use crate::operators::mark_of;
-use crate::types::{is_integer, is_untyped};
+use crate::types::{basic_type, is_integer, is_untyped};
 use crate::values::{computed, folded};
 use const_eval::{ConstAnswer, Operator, binary};
 use gv_base::{Const, Kind, NoMemory};
@@ -25,7 +25,6 @@ use rule_words::{Answer, Seen, Step};
 use std::alloc::Global;
 use type_model::TypeId;
 use typed_marks::{ConstId, State, Want};
-use typed_tree::basic;
 
 /// An integer that isn't negative.
 fn is_natural(c: &Const) -> bool
@@ -69,7 +68,7 @@ fn shifted_type(s: &State, of: TypeId) -> TypeId
     ensures within { IsTypeOf s.now result }
 {
     if is_untyped(s, of) {
-        basic(Kind::UntypedInt)
+        basic_type(s, Kind::UntypedInt)
     } else {
         of
     }

@@ -1,7 +1,7 @@
 //! Types as operators count them.
 ghost use Rattle.std.specs.Prelude.{◌≡◌, ◌&&◌};
 ghost use Rattle.gv_base.specs.declared.constant.Kind.{Kind};
-ghost use Rattle.type_model.specs.GoTypes.{type_of, methods_of};
+ghost use Rattle.type_model.specs.GoTypes.{BasicType, type_of, methods_of};
 ghost use Rattle.type_model.specs.Tables.{types_in};
 ghost use Rattle.type_rel.specs.Assigning.{holds_nil};
 ghost use Rattle.type_rel.specs.Kinds.{is_untyped, is_integer};
@@ -17,6 +17,7 @@ use gv_base::Kind;
 use type_model::{Method, Term, TypeId};
 use type_rel::{has_integers, is_free};
 use typed_marks::State;
+use typed_tree::basic;
 
 fn kind_of_term(term: &Term) -> Option<Kind>
     ensures { result ≡ kind_in term.now }
@@ -42,6 +43,15 @@ pub fn kind_of(s: &State, t: TypeId) -> Option<Kind>
     ensures { result ≡ kind_of (type_in s.now t) }
 {
     kind_of_term(s.table.term(t))
+}
+
+/// A basic type.
+pub fn basic_type(s: &State, kind: Kind) -> TypeId
+    requires basics { HasBasics s.now.table }
+    ensures is { type_in s.now result ≡ BasicType kind }
+    ensures within { IsTypeOf s.now result }
+{
+    basic(kind)
 }
 
 pub fn is_basic(s: &State, t: TypeId) -> bool

@@ -10,14 +10,13 @@ ghost use Rattle.op_rules.specs.InCode.{wish_of, IsWishOf, facts_in, AreFactsOf}
 
 use crate::operand::value_at;
 use crate::operators::is_comparison;
-use crate::types::{common, is_untyped, kind_of};
+use crate::types::{basic_type, common, is_untyped, kind_of};
 use const_eval::Operator;
 use gv_base::Kind;
 use rule_words::default_kind;
 use type_model::TypeId;
 use type_rel::{has_integers, is_free};
 use typed_marks::{ConstId, Facts, Mark, State, Want};
-use typed_tree::basic;
 
 fn default_of(s: &State, of: TypeId) -> Want
     requires basics { HasBasics s.now.table }
@@ -26,7 +25,7 @@ fn default_of(s: &State, of: TypeId) -> Want
     ensures within { IsWishOf s.now result }
 {
     match kind_of(s, of) {
-        Some(kind) => Want::Takes(basic(default_kind(kind))),
+        Some(kind) => Want::Takes(basic_type(s, default_kind(kind))),
         None => Want::Free,
     }
 }
