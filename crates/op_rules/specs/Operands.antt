@@ -1,6 +1,7 @@
 -- Operands of operators, and values of constant expressions (Go 1.17, "Operands", "Constant expressions", "Representability").
-use Rattle.std.specs.Prelude.{pos, int_eq, Bool, true, false, ◌||◌, if◌then◌else◌, Option, Some, None, option_map}
+use Rattle.std.specs.Prelude.{pos, Bool, true, false, ◌||◌, if◌then◌else◌, Option, Some, None, option_map}
 use Rattle.std.specs.Option.{option_map_or}
+use Rattle.std.specs.Ordering.{int_eq}
 use Rattle.gv_base.specs.declared.constant.Const.{Const}
 use Rattle.gv_base.specs.declared.constant.Const.TheVariants as const
 use Rattle.const_eval.specs.declared.answer.ConstAnswer.{ConstAnswer}
