@@ -7,6 +7,8 @@ use denote.Ref.{Bor}
 use Rattle.type_model.specs.declared.term.TypeName.{TypeName}
 use Rattle.go_tree.specs.declared.tree.NodeRef.{NodeRef}
 use Rattle.unit_read.specs.declared.subject.Subject.{Subject}
+use Rattle.unit_read.specs.Environments.{IsEnvironment}
+use Rattle.unit_read.specs.Imports.{lead_at}
 use Rattle.unit_read.specs.Passages.{passages}
 use Rattle.unit_read.specs.Units.{Unit, object_at, place_at, spec_at, defined, type_name, named_by}
 
@@ -19,7 +21,7 @@ texts_of texts = map (λ text. text.now) texts
 
 -- the package of a subject
 abbrev pub unit_of : Subject → Unit
-unit_of s = record { path = s.path.now; texts = texts_of s.texts.now; trees = s.trees.now; uses = s.uses.now }
+unit_of s = record { path = s.path.now; texts = texts_of s.texts.now; trees = s.trees.now; uses = s.uses.now; env = s.env.now.interfaces.now }
 
 -- what is kept under a name
 abbrev pub found : {X S : Type 0} → HashMap (Bor (List ℕ)) X S → List ℕ → Option X
@@ -35,6 +37,8 @@ pub record IsRead (s : Subject) : Type 0 where
   pub objects : (at : NodeRef) → cell s.objects.items at ≡ object_at (unit_of s) at
   pub places : (at : NodeRef) → cell s.places.items at ≡ place_at (unit_of s) at
   pub specs : (at : NodeRef) → cell s.specs.items at ≡ spec_at (unit_of s) at
+  pub env : IsEnvironment s.env.now
+  pub leads : (at : NodeRef) → cell s.leads.items at ≡ lead_at (unit_of s) at
   pub types : s.defined.items ≡ defined (unit_of s)
   pub locals : (k : ℕ) (at : NodeRef) → slice_get (defined (unit_of s)) k ≡ Some at → cell s.locals.items at ≡ Some (type_name (unit_of s) at).local
   pub named : (q : List ℕ) → found s.named q ≡ named_by (unit_of s) (top_name (unit_of s) q) (defined (unit_of s))

@@ -3,6 +3,7 @@ use Rattle.std.specs.Prelude.{◌≡◌, ℕ, zero, suc, Bool, ◌&&◌, true, f
 use Rattle.std.specs.Option.{option_map_or}
 use Rattle.std.specs.Str.{bytes_eq}
 use Rattle.gv_base.specs.declared.constant.Kind.TheVariants as kind
+use Rattle.export_data.specs.declared.constants.ConstInterface.{ConstInterface}
 use Rattle.type_model.specs.declared.term.TypeName.{TypeName}
 use Rattle.type_model.specs.GoTypes.{BasicType, InterfaceOf, AndMethod, NoMethod, From, NoType, AndType}
 use Rattle.type_model.specs.Declarations.{Declaration, Declarations}
@@ -26,12 +27,14 @@ use Rattle.unit_read.specs.declared.place.Place.{Place}
 use Rattle.unit_read.specs.Places.{place_of}
 use Rattle.unit_read.specs.Passages.{passages}
 
--- The path of a package, the texts and trees of its files in the order of their paths, and what the uses in them denote.
+-- The path of a package, the texts and trees of its files in the order of their paths, what the uses in them denote, and the interfaces to
+-- which imports lead: of two of one path the first counts.
 pub record Unit : Type 0 where
   pub path : List ℕ
   pub texts : List (List ℕ)
   pub trees : List FileTree
   pub uses : List (NodeRef × Object)
+  pub env : List ConstInterface
 
 -- ---- nodes and tokens
 

@@ -4,8 +4,11 @@ ghost use Rattle.std.specs.Option.{option_copied};
 ghost use Rattle.std.specs.Str.{bytes_eq};
 ghost use Rattle.type_model.specs.Tables.{is_same_name};
 ghost use Rattle.unit_read.specs.Units.{text_in, tree_at, nodes_at, node_at, token_at, spelled, object_at, place_at, spec_at, passage_at, name_at, defined, type_name, type_node};
+ghost use Rattle.unit_read.specs.Imports.{lead_at};
 ghost use Rattle.unit_read.specs.Subjects.{cell, found, unit_of, IsRead};
 
+use crate::environment::Environment;
+use crate::lead::Lead;
 use crate::passage::Passage;
 use crate::place::Place;
 use const_tree::Spec;
@@ -13,19 +16,21 @@ use go_tree::{Bindings, FileTree, Node, NodeRef, Object, Token, token_text};
 use std::collections::HashMap;
 use type_model::TypeName;
 
-/// A package: its path, its files in the order of their paths, and what the uses in them denote; then its passages, and a row for each file
-/// with what is said of each of its nodes: what it denotes, where it stands, and to which specification of constants it belongs; the names
-/// of its defined types, and the first at package level of each name.
+/// A package: its path, its files in the order of their paths, what the uses in them denote, and the interfaces to which imports lead; then
+/// its passages, and a row for each file with what is said of each of its nodes: what it denotes, where it stands, to which specification of
+/// constants it belongs, and to what it leads as an import; the names of its defined types, and the first at package level of each name.
 #[derive(Drop)]
 pub struct Subject<'a> {
     pub path: &'a [u8],
     pub texts: &'a [&'a [u8]],
     pub trees: &'a [FileTree],
     pub uses: &'a Bindings,
+    pub env: &'a Environment<'a>,
     pub passages: Vec<Passage>,
     pub objects: Vec<Vec<Option<Object>>>,
     pub places: Vec<Vec<Option<Place>>>,
     pub specs: Vec<Vec<Option<Spec>>>,
+    pub leads: Vec<Vec<Option<Lead>>>,
     pub defined: Vec<NodeRef>,
     pub locals: Vec<Vec<Option<u64>>>,
     pub named: HashMap<&'a [u8], NodeRef>,
@@ -153,6 +158,14 @@ impl<'a> Subject<'a> {
         ensures { result ≡ place_at (unit_of self.now) at }
     {
         cell(&self.places, at)
+    }
+
+    /// What an import leads to.
+    pub fn lead_at(&self, at: NodeRef) -> Option<Lead>
+        requires { IsRead self.now }
+        ensures { result ≡ lead_at (unit_of self.now) at }
+    {
+        cell(&self.leads, at)
     }
 
     /// The specification of constants to which a node belongs.
