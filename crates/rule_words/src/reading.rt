@@ -25,6 +25,7 @@ fn stage_of(how: How, stage: Stage) -> Stage
         How::Type => Stage::Placed,
         How::TypeAndUnder => Stage::Placed,
         How::Value => stage,
+        How::Mark => stage,
     }
 }
 
@@ -53,6 +54,10 @@ fn marked(u: &Subject, s: &State, how: How, m: Mark) -> Found<Seen, Item>
         }),
         How::TypeAndUnder => known(u, s, m),
         How::Value => known(u, s, m),
+        How::Mark => Found::Is(Seen {
+            mark: m,
+            under: None,
+        }),
     }
 }
 
