@@ -6,8 +6,8 @@ use Rattle.typed_marks.specs.declared.item.Item.{Item}
 use Rattle.typed_marks.specs.declared.state.State.{State}
 use Rattle.typed_marks.specs.Meanings.{Meaning, Quiet, Declares}
 use Rattle.rule_words.specs.Scenes.{type_in, IsTypeOf}
-use Rattle.decl_rules.specs.declared.declaring.Declaring.{Declaring}
-use Rattle.decl_rules.specs.declared.declaring.Declaring.TheVariants as d
+use Rattle.decl_rules.specs.declared.outcome.Declaring.{Declaring}
+use Rattle.decl_rules.specs.declared.outcome.Declaring.TheVariants as d
 
 abbrev pub declaring_in : State → Declaring → Outcome Item Meaning Question Told Meaning
 declaring_in s d.Nothing = Says Quiet

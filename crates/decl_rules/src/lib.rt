@@ -3,13 +3,14 @@
 
 mod constant;
 mod declared;
-mod declaring;
 mod fields;
 mod good;
 mod judges;
 mod objects;
+mod outcome;
 mod params;
 mod reads;
+mod refusal;
 mod rules;
 mod signatures;
 mod structs;
@@ -19,10 +20,10 @@ mod under;
 mod wants;
 
 pub use declared::declared_name;
-pub use declaring::Declaring;
 pub use fields::field;
 pub use judges::judge_decl;
 pub use objects::judge_object;
+pub use outcome::Declaring;
 pub use reads::decl_reads;
 pub use rules::{BAD_ARRAY_LENGTH, BAD_CONSTANT_TYPE, DUPLICATE_MEMBER, WRONG_NUMBER_OF_VALUES};
 pub use signatures::judge_signature;

@@ -1,25 +1,25 @@
 //! The mark of an object, by where its name stands.
-ghost use Rattle.std.specs.Prelude.{◌≡◌, not, Some, IfOk, option_map, option_and_then};
+ghost use Rattle.std.specs.Prelude.{◌≡◌, Some, IfOk, option_map};
 ghost use Rattle.mark_walk.specs.Telling.{tell};
 ghost use Rattle.typed_marks.specs.States.{so_far};
 ghost use Rattle.unit_read.specs.Subjects.{unit_of, IsRead};
-ghost use Rattle.unit_read.specs.Units.{around, is_none, is_top, type_name_at};
+ghost use Rattle.unit_read.specs.Units.{type_name_at};
 ghost use Rattle.rule_words.specs.Scenes.{IsScene, said, IsMarkOf};
 ghost use Rattle.rule_words.specs.Steps.{step_in, IsStepOf};
-ghost use Rattle.decl_rules.specs.Objects.{variable_mark, function_mark, valued_mark, alias_mark, placed_ask, value_node, defined_rule, kind_rule, is_method, is_function, part_size, is_plain_function, is_bad_init, refusal_of, is_exempt, object_in, placed_object, object_rule};
+ghost use Rattle.decl_rules.specs.Objects.{variable_mark, function_mark, valued_mark, alias_mark, placed_ask, value_node, defined_rule, kind_rule, object_in, placed_object, object_rule};
 
 use crate::constant::judge_constant;
 use crate::good::{broken, gives_type, good, known, silent};
-use crate::signatures::results_node;
+use crate::refusal::{is_exempt, refusal_of};
 use go_tree::{Node, NodeKind, NodeRef};
 use gv_base::{NoMemory, Text};
-use package_objects::{count, item, node_of, part_count, part_of};
+use package_objects::{count, item, part_of};
 use rule_words::{Step, look};
 use std::alloc::Global;
 use type_model::{Term, TypeName};
 use type_questions::Found;
 use typed_marks::{Facts, Mark, Stage, State};
-use typed_tree::{BAD_INIT, DECLARATION_CYCLE, Mode, REDECLARED, Rule};
+use typed_tree::Mode;
 use unit_read::{Place, Subject};
 
 fn variable(s: &State, m: Mark) -> Step
@@ -226,120 +226,6 @@ fn judge_kind(
         }
         NodeKind::Alias => Ok(alias_at(u, s, file, part_of(node, 1))),
         _ => Ok(silent()),
-    }
-}
-
-// ---- what refuses a name
-
-fn around(u: &Subject, at: NodeRef) -> Option<NodeRef>
-    requires { IsRead u.now }
-    ensures { result ≡ around (unit_of u.now) at }
-{
-    match u.place_at(at) {
-        Some(p) => Some(NodeRef {
-            file: at.file,
-            node: p.around,
-        }),
-        None => None,
-    }
-}
-
-fn twice_around(u: &Subject, at: NodeRef) -> Option<NodeRef>
-    requires { IsRead u.now }
-    ensures { result ≡ option_and_then (around (unit_of u.now)) (around (unit_of u.now) at) }
-{
-    match around(u, at) {
-        Some(node) => around(u, node),
-        None => None,
-    }
-}
-
-fn is_around(u: &Subject, at: Option<NodeRef>) -> bool
-    requires { IsRead u.now }
-    ensures { result ≡ not (is_none (option_and_then (around (unit_of u.now)) at)) }
-{
-    match at {
-        Some(node) => around(u, node).is_some(),
-        None => false,
-    }
-}
-
-/// Whether the name is declared at package level.
-fn is_top(u: &Subject, name: NodeRef) -> bool
-    requires { IsRead u.now }
-    ensures { result ≡ is_top (unit_of u.now) name }
-{
-    !is_around(u, twice_around(u, name))
-}
-
-fn is_method(kind: NodeKind) -> bool
-    ensures { result ≡ is_method kind }
-{
-    match kind {
-        NodeKind::MethodDecl => true,
-        _ => false,
-    }
-}
-
-fn is_function(kind: NodeKind) -> bool
-    ensures { result ≡ is_function kind }
-{
-    match kind {
-        NodeKind::FuncDecl => true,
-        _ => false,
-    }
-}
-
-fn part_size_in(nodes: &[Node], n: u32) -> usize
-    ensures { result ≡ part_size nodes.now (Some n) }
-{
-    match node_of(nodes, n) {
-        Some(node) => part_count(node),
-        None => 0,
-    }
-}
-
-fn part_size(nodes: &[Node], n: Option<u32>) -> usize
-    ensures { result ≡ part_size nodes.now n }
-{
-    match n {
-        Some(n) => part_size_in(nodes, n),
-        None => 0,
-    }
-}
-
-fn is_exempt(nodes: &[Node], node: &Node) -> bool
-    ensures { result ≡ is_exempt nodes.now node.now.kind node.now }
-{
-    if is_method(node.kind) {
-        return true;
-    }
-    is_function(node.kind)
-        && (part_size(nodes, part_of(node, 1)) == 0 && results_node(nodes, node, 2).is_none())
-}
-
-fn is_bad_init(u: &Subject, name: NodeRef, exempt: bool) -> bool
-    requires { IsRead u.now }
-    ensures { result ≡ is_bad_init (unit_of u.now) name exempt }
-{
-    is_top(u, name) && (u.name_at(name) == b"init".as_slice() && !exempt)
-}
-
-/// What refuses the name of an object: E1, E2, E4.
-fn refusal_of(u: &Subject, name: NodeRef, exempt: bool) -> Option<Rule>
-    requires { IsRead u.now }
-    ensures { result ≡ refusal_of (unit_of u.now) name exempt }
-{
-    if u.is_redeclared(name) {
-        return Some(REDECLARED);
-    }
-    if is_bad_init(u, name, exempt) {
-        return Some(BAD_INIT);
-    }
-    if u.is_cyclic(name) {
-        Some(DECLARATION_CYCLE)
-    } else {
-        None
     }
 }
 

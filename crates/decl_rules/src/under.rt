@@ -2,7 +2,7 @@
 ghost use Rattle.std.specs.Prelude.{◌≡◌, option_map};
 ghost use Rattle.type_model.specs.declared.term.TypeName.{TypeName};
 ghost use Rattle.typed_marks.specs.declared.state.State.{State};
-ghost use Rattle.decl_rules.specs.declared.declaring.Declaring.TheVariants as d;
+ghost use Rattle.decl_rules.specs.declared.outcome.Declaring.TheVariants as d;
 ghost use Rattle.mark_walk.specs.Telling.{tell};
 ghost use Rattle.typed_marks.specs.States.{so_far};
 ghost use Rattle.unit_read.specs.Subjects.{unit_of, IsRead};
@@ -11,8 +11,8 @@ ghost use Rattle.decl_rules.specs.Good.{known_of, AreFactsOf};
 ghost use Rattle.decl_rules.specs.Objects.{placed_ask, written_in, written_type, declaring, underlying_rule, named_rule, own_rule, type_rule, under_rule};
 ghost use Rattle.decl_rules.specs.Declarings.{declaring_in, IsDeclaringOf};
 
-use crate::declaring::Declaring;
 use crate::good::known;
+use crate::outcome::Declaring;
 use go_tree::NodeRef;
 use package_objects::part_of;
 use rule_words::{look, under_of};
