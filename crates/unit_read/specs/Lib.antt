@@ -2,6 +2,7 @@ pub mod Environments
 pub mod Exports
 pub mod Imports
 pub mod Index
+pub mod Members
 pub mod Places
 pub mod Passages
 pub mod Rows
