@@ -105,7 +105,6 @@ known_part u m = bind (mark_under u m) (λ under. done (part_with m under))
 abbrev pub marked_part : Unit → How → Meaning → Asks Part
 marked_part u h.Type m = done (part_with m None)
 marked_part u h.TypeAndUnder m = known_part u m
-marked_part u h.Mark m = done (part_with m None)
 marked_part u h.Value m = known_part u m
 marked_part u h.Mark m = done (part_with m None)
 

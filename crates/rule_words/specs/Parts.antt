@@ -28,7 +28,6 @@ part_at parts i = option_map_or (λ (p : Part). p) (slice_get parts i) no_part
 abbrev pub stage_of : How → Stage → Stage
 stage_of h.Type stage = s.Placed
 stage_of h.TypeAndUnder stage = s.Placed
-stage_of h.Mark stage = stage
 stage_of h.Value stage = stage
 stage_of h.Mark stage = stage
 

@@ -11,8 +11,6 @@ pub enum How {
     Mark,
     /// Its mark at the stage at which the whole is judged, and the underlying type of its final type: a value.
     Value,
-    /// Its mark at that stage, alone: what may be a type or a value.
-    Mark,
 }
 
 /// A node that is read as a part of another.

@@ -26,7 +26,6 @@ fn stage_of(how: How, stage: Stage) -> Stage
         How::TypeAndUnder => Stage::Placed,
         How::Mark => stage,
         How::Value => stage,
-        How::Mark => stage,
     }
 }
 
@@ -59,10 +58,6 @@ fn marked(u: &Subject, s: &State, how: How, m: Mark) -> Found<Seen, Item>
             under: None,
         }),
         How::Value => known(u, s, m),
-        How::Mark => Found::Is(Seen {
-            mark: m,
-            under: None,
-        }),
     }
 }
 
