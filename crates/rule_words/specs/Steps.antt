@@ -1,12 +1,13 @@
 -- How far code has gone in a rule that puts questions.
 use Rattle.std.specs.Prelude.{◌≡◌, true, Option, Some, None}
-use Rattle.type_model.specs.GoTypes.{GoType}
+use Rattle.type_model.specs.GoTypes.{GoType, methods_of, MethodsBelow}
+use Rattle.type_model.specs.Tables.{types_in, count}
 use Rattle.mark_walk.specs.Telling.{Outcome, Says, Waits, Puts}
 use Rattle.typed_marks.specs.declared.item.Item.{Item}
 use Rattle.typed_marks.specs.declared.mark.ConstId.{ConstId}
 use Rattle.typed_marks.specs.declared.state.State.{State}
 use Rattle.typed_marks.specs.Meanings.{Meaning, constant_at}
-use Rattle.type_questions.specs.Questions.{Question, IsComparable, MethodSet, Told}
+use Rattle.type_questions.specs.Questions.{Question, AssignableTo, IsComparable, MethodSet, Told}
 use Rattle.rule_words.specs.declared.step.Asked.{Asked}
 use Rattle.rule_words.specs.declared.step.Asked.TheVariants as q
 use Rattle.rule_words.specs.declared.step.Pair.{Pair}
@@ -21,6 +22,8 @@ use Rattle.rule_words.specs.Answers.{answer_in, IsAnswerOf, is_plain}
 
 abbrev pub question_in : State → Asked → Question
 question_in s (q.Assignable of value to) = plain_assign (type_in s of) (constant_at s.constants.items value) (type_in s to)
+question_in s (q.AssignableBy of value methods to) =
+    AssignableTo (record { v = type_in s of; value = constant_at s.constants.items value; set = methods_of (types_in s.table) methods.items; to = type_in s to })
 question_in s (q.Methods of) = MethodSet (type_in s of)
 question_in s (q.Comparable of) = IsComparable (type_in s of)
 
@@ -43,6 +46,7 @@ step_in s (step.Puts asked rest) = Puts (question_in s asked) (rest_in s rest)
 
 abbrev pub IsAskedOf : State → Asked → Type 0
 IsAskedOf s (q.Assignable of value to) = IsTypeOf s of × IsTypeOf s to
+IsAskedOf s (q.AssignableBy of value methods to) = IsTypeOf s of × MethodsBelow (count s.table) methods.items × IsTypeOf s to
 IsAskedOf s (q.Methods of) = IsTypeOf s of
 IsAskedOf s (q.Comparable of) = IsTypeOf s of
 

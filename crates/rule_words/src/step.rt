@@ -1,6 +1,6 @@
 //! How far a rule has gone.
 use crate::answer::Answer;
-use type_model::TypeId;
+use type_model::{Method, TypeId};
 use typed_marks::{ConstId, Item, Mark};
 use typed_tree::Rule;
 
@@ -9,6 +9,8 @@ use typed_tree::Rule;
 pub enum Asked {
     /// Whether an operand without methods, of this type and, where it is a constant, of this value, may be assigned to a type.
     Assignable(TypeId, Option<ConstId>, TypeId),
+    /// The same of an operand with these methods.
+    AssignableBy(TypeId, Option<ConstId>, Vec<Method>, TypeId),
     /// Which methods a type has.
     Methods(TypeId),
     /// Whether a type is comparable.
