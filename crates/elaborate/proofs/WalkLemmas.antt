@@ -1,5 +1,5 @@
 -- The walk over a package's items.
-use Rattle.std.proofs.Common.{IfSome, MatchOption, ◌≡◌, ◌⊎◌, ℕ, zero, suc, ◌+◌, ◌<◌, ◌≤◌, Bool, true, false, if◌then◌else◌, Option, Some, None, refl, sym, ap, ◌∙◌, subst, inl, inr, arith}
+use Rattle.std.proofs.Common.{IfSome, IsTrue, MatchOption, ◌≡◌, ◌⊎◌, ℕ, zero, suc, ◌+◌, ◌<◌, ◌≤◌, Bool, true, false, if◌then◌else◌, Option, Some, None, refl, sym, ap, ◌∙◌, subst, inl, inr, arith}
 use Rattle.std.specs.Option.{option_or, option_map_or}
 use Rattle.mark_walk.specs.Asks.{Ask, done, Gives, Awaits, Keeps, IsMarked}
 use Rattle.mark_walk.specs.Marking.{Goes}
@@ -29,7 +29,9 @@ use Rattle.rule_words.specs.declared.step.Step.{Step}
 use Rattle.rule_words.specs.declared.step.Step.TheVariants as step
 use Rattle.rule_words.specs.Steps.{question_in, rest_in, step_in}
 use Rattle.elaborate.specs.declared.questions.Answered.{Answered}
-use Rattle.elaborate.specs.Settling.{told_in, Follows}
+use Rattle.rule_words.specs.Answers.{answer_in}
+use Rattle.rule_words.specs.Steps.{IsStepOf}
+use Rattle.elaborate.specs.Settling.{told_in, Follows, IsSettled, left, outcome_of}
 use Rattle.rule_words.specs.Asking.{Rule, type_item, declaration_told, item}
 use Rattle.mark_walk.specs.declared.walk.Walk.{Walk}
 use Rattle.elaborate.specs.Walks.{blocks_of, says_of, pends_of, item_rule, IsItemOf}
@@ -129,8 +131,8 @@ pub pending_found : (u : Unit) (so_far : Item → Option Meaning) (t : TypeTable
     → ((name : TypeName) → type_at (types_in t) of ≡ DefinedType name → IfSome result (λ i. type_item u name ≡ Some i))
     → ((name : TypeName) (i : Item) → type_at (types_in t) of ≡ DefinedType name → result ≡ None → type_item u name ≡ Some i → so_far i ≡ None → ⊥)
     → MatchOption result (RestsOnNothing t (base_of u) (type_item u) declaration_told so_far of) (λ i. RestsOn t (base_of u) (type_item u) declaration_told so_far of i)
-pending_found u so_far t of None waits is none name named undeclared = of_nothing u so_far name undeclared (λ i at free. none name i named refl at free)
-pending_found u so_far t of (Some i) waits is none name named undeclared = (is name named, waits)
+pending_found u so_far t of None waits is none = λ name named undeclared. of_nothing u so_far name undeclared (λ i at free. none name i named refl at free)
+pending_found u so_far t of (Some i) waits is none = λ name named undeclared. (is name named, waits)
 
 -- ---- before anything is marked
 
@@ -144,3 +146,13 @@ first_declared u so_far none name = by (type_item u name) where
   by : (o : Option Item) → option_or (base_of u name) (option_map_or declaration_told (option_map_or so_far o None) None) ≡ base_of u name
   by None = or_none (base_of u name)
   by (Some i) = ap (λ x. option_or (base_of u name) x) (none i) ∙ or_none (base_of u name)
+
+-- a step that puts no question comes to its outcome
+pub outcome_settled : (u : Subject) (s : State) (first now : Step) → left now ≡ 0 → IsStepOf s now → Follows u s first now → IsSettled u s first (outcome_of now)
+outcome_settled u s first (step.Says given) none over follows = (over, follows.yields (answer_in s given) refl)
+outcome_settled u s first (step.Waits item) none over follows = follows.expects item refl
+outcome_settled u s first (step.Puts asked rest) none over follows = absurd (omega arith)
+
+pub none_left : (n : ℕ) (b : Bool) → (0 < n → IsTrue b) → b ≡ false → n ≡ 0
+none_left zero b asks no_more = refl
+none_left (suc n) b asks no_more = absurd (subst IsTrue no_more (asks (omega arith)))

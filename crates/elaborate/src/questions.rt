@@ -88,7 +88,7 @@ fn is_assignable(
     requires of { IsTypeOf s.now of }
     requires methods { MethodsBelow (count s.now.table) methods.now }
     requires to { IsTypeOf s.now to }
-    ensures told { IfOk result (IsAnsweredTo u.now s.now (assign_by s.now of value methods.now to)) }
+    ensures { IfOk result (IsAnsweredTo u.now s.now (assign_by s.now of value methods.now to)) }
 {
     let x = operand(alloc, s, of, value)?;
     let scene = Scene {
@@ -109,7 +109,7 @@ fn methods_of(
 ) -> Result<Found<Answered, Item>, NoMemory>
     requires scene { IsScene u.now s.now }
     requires of { IsTypeOf s.now of }
-    ensures told { IfOk result (IsAnsweredTo u.now s.now (MethodSet (type_in s.now of))) }
+    ensures { IfOk result (IsAnsweredTo u.now s.now (MethodSet (type_in s.now of))) }
 {
     let scene = Scene {
         subject: u,
@@ -130,7 +130,7 @@ fn comparable(
 ) -> Result<Found<Answered, Item>, NoMemory>
     requires scene { IsScene u.now s.now }
     requires of { IsTypeOf s.now of }
-    ensures told { IfOk result (IsAnsweredTo u.now s.now (IsComparable (type_in s.now of))) }
+    ensures { IfOk result (IsAnsweredTo u.now s.now (IsComparable (type_in s.now of))) }
 {
     let scene = Scene {
         subject: u,
@@ -152,7 +152,7 @@ pub fn ask(
 ) -> Result<Found<Answered, Item>, NoMemory>
     requires scene { IsScene u.now s.now }
     requires asked { IsAskedOf s.now asked }
-    ensures told { IfOk result (IsAnsweredTo u.now s.now (question_in s.now asked)) }
+    ensures { IfOk result (IsAnsweredTo u.now s.now (question_in s.now asked)) }
 {
     match asked {
         Asked::Assignable(of, value, to) => {
