@@ -155,4 +155,4 @@ outcome_settled u s first (step.Puts asked rest) none over follows = absurd (ome
 
 pub none_left : (n : ℕ) (b : Bool) → (0 < n → IsTrue b) → b ≡ false → n ≡ 0
 none_left zero b asks no_more = refl
-none_left (suc n) b asks no_more = absurd (subst IsTrue no_more (asks (omega arith)))
+none_left (suc n) b asks no_more = absurd (let never : false ≡ true = subst IsTrue no_more (asks (omega arith)) in cc)
