@@ -33,6 +33,8 @@ impl Seen for Marks {
 
     ghost subject = { λ s. s.table };
 
+    ghost IsSeen = { λ s. Unit {0} };
+
     ghost base = { λ t. declarations_in t };
 
     ghost under = { λ t name. one_item name };

@@ -106,6 +106,7 @@ abbrev pub marked_part : Unit → How → Meaning → Asks Part
 marked_part u h.Type m = done (part_with m None)
 marked_part u h.TypeAndUnder m = known_part u m
 marked_part u h.Value m = known_part u m
+marked_part u h.Mark m = done (part_with m None)
 
 abbrev pub part_ask : Unit → Stage → ℕ → Read → Asks Part
 part_ask u stage block read = bind (mark_ask u (stage_of read.how stage) block read.node) (λ m. marked_part u read.how m)

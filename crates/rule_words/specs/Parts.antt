@@ -29,6 +29,7 @@ abbrev pub stage_of : How → Stage → Stage
 stage_of h.Type stage = s.Placed
 stage_of h.TypeAndUnder stage = s.Placed
 stage_of h.Value stage = stage
+stage_of h.Mark stage = stage
 
 abbrev pub read_as : How → ℕ → Read
 read_as how n = record { how = how; node = n }

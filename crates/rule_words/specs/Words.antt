@@ -10,7 +10,7 @@ use Rattle.typed_tree.specs.declared.mark.Mode.TheVariants as mode
 use Rattle.typed_tree.specs.declared.place.Want.{Want as Demand}
 use Rattle.typed_tree.specs.declared.place.Want.TheVariants as demand
 use Rattle.typed_tree.specs.declared.rule.Rule.{Rule as RuleNumber}
-use Rattle.typed_marks.specs.Meanings.{Known, Wish, Free, Takes, Assigned, Meaning, Right, Wrong, Beyond, Quiet, Wishes, Declares}
+use Rattle.typed_marks.specs.Meanings.{Known, Wish, Free, Takes, Fits, Assigned, Meaning, Right, Wrong, Beyond, Quiet, Wishes, Declares}
 use Rattle.rule_words.specs.Asking.{Rule}
 
 -- what a rule makes of a part; nothing is said where the part isn't good
@@ -72,6 +72,7 @@ is_untyped_kind _ = false
 abbrev pub taken : Kind → Wish → GoType
 taken kind Free = BasicType (default_kind kind)
 taken kind (Takes to) = to
+taken kind (Fits to) = to
 taken kind (Assigned to) = to
 
 -- an untyped operand takes the type that is wanted, or its default; a typed one has its own

@@ -17,6 +17,6 @@ pub use marks::look;
 pub use read::{How, Read};
 pub use reading::{part, parts};
 pub use seen::Seen;
-pub use step::{Asked, Rest, Step};
+pub use step::{Asked, Pair, Rest, Step};
 pub use under::{mark_under, pending, under_of};
-pub use wanted::{Wanted, last_of, operand, wanted_by};
+pub use wanted::{Wanted, default_kind, last_of, operand, wanted_by};

@@ -7,6 +7,8 @@ pub enum How {
     Type,
     /// The same, and the underlying type of the type that it is.
     TypeAndUnder,
+    /// Its mark alone, at the stage at which the whole is judged: what may be a type, a package or a value.
+    Mark,
     /// Its mark at the stage at which the whole is judged, and the underlying type of its final type: a value.
     Value,
 }

@@ -24,6 +24,7 @@ fn stage_of(how: How, stage: Stage) -> Stage
     match how {
         How::Type => Stage::Placed,
         How::TypeAndUnder => Stage::Placed,
+        How::Mark => stage,
         How::Value => stage,
     }
 }
@@ -52,6 +53,10 @@ fn marked(u: &Subject, s: &State, how: How, m: Mark) -> Found<Seen, Item>
             under: None,
         }),
         How::TypeAndUnder => known(u, s, m),
+        How::Mark => Found::Is(Seen {
+            mark: m,
+            under: None,
+        }),
         How::Value => known(u, s, m),
     }
 }

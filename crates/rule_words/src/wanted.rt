@@ -38,7 +38,8 @@ pub fn wanted_by(s: &State, m: Mark) -> Wanted
     }
 }
 
-fn default_kind(kind: Kind) -> Kind
+/// The default type of an untyped operand of a kind.
+pub fn default_kind(kind: Kind) -> Kind
     ensures { result ≡ default_kind kind }
 {
     match kind {
@@ -72,6 +73,7 @@ fn taken(s: &State, kind: Kind, want: Want) -> TypeId
     match want {
         Want::Free => basic(default_kind(kind)),
         Want::Takes(to) => to,
+        Want::Fits(to) => to,
         Want::Assigned(to) => to,
     }
 }

@@ -4,7 +4,12 @@ use Rattle.std.proofs.Common.{◌≡◌, Option, None, refl, subst}
 use Rattle.type_model.specs.declared.term.TypeName.{TypeName}
 use Rattle.type_model.specs.declared.table.TypeTable.{TypeTable}
 use Rattle.type_model.specs.Declarations.{Declaration, Declarations}
-use Rattle.type_model.specs.Tables.{declarations_in}
+use Rattle.std.specs.Global.{Vec}
+use Rattle.type_model.specs.declared.term.Method.{Method}
+use Rattle.type_model.specs.GoTypes.{GoType, MethodsBelow}
+use Rattle.type_model.specs.Tables.{count, declarations_in}
+use Rattle.method_sets.specs.Levels.{EnoughToList, NeedsToList}
+use Rattle.method_sets.specs.Replies.{IsListIn}
 use Rattle.type_growth.specs.declared.reply.Reply.{Reply}
 use Rattle.type_growth.specs.declared.reply.Reply.TheVariants as reply
 use Rattle.type_growth.specs.Lasting.{Lasts, IsReply}
@@ -14,7 +19,7 @@ use Rattle.type_questions.specs.declared.reached.Found.{Found}
 use Rattle.type_questions.specs.declared.reached.Found.TheVariants.{Is, Wait}
 use Rattle.type_questions.specs.Over.{declared, says_over, pends_over, OnFound}
 use Rattle.type_questions.specs.Questions.{Told}
-use Rattle.type_questions.specs.Judging.{IsInStep, IsFoundBy, IsOfTable, seen_as}
+use Rattle.type_questions.specs.Judging.{IsInStep, IsFoundBy, IsOfTable, AreMethodsBelow, seen_as}
 use Rattle.type_questions.proofs.OverLaws.{base_none}
 
 pub of_table : {Q A : Type 0} (Enough : Declarations → Q → Type 0) (Needs : Declarations → Q → TypeName → Type 0) (Says : Declarations → Q → A → Type 0)
@@ -70,3 +75,14 @@ module _ {I M : Type 0} (base : Declarations) (under : TypeName → Option I) (r
       → OnFound found (λ x. (y : Reached A) × (into x ≡ into y) × says_over base under reads Enough Needs Says so_far q y) (λ item. pends_over base under reads Needs so_far q item)
   found_told r found is by =
       on_found found (found_shown base under reads so_far t step Enough Needs Says lasts into q Says (λ (a : A). a) (λ a said. said) r found is by)
+
+-- the methods of a reply are over the table
+pub methods_below : {I M : Type 0} (base : Declarations) (under : TypeName → Option I) (reads : M → Option Declaration) (so_far : I → Option M) (t : TypeTable) (of : GoType)
+    (r : Reply (Vec Method)) (found : Found (Reached (Vec Method)) I) → IsReply EnoughToList NeedsToList (IsListIn t) t of r → IsFoundBy t base under reads so_far r found
+    → AreMethodsBelow t found
+methods_below base under reads so_far t of (reply.Is a) (Is (Got b)) (enough, set) same = subst (λ (v : Vec Method). MethodsBelow (count t) v.items) same set.below
+methods_below base under reads so_far t of (reply.Is a) (Is Lost) said never = tt
+methods_below base under reads so_far t of (reply.Is a) (Wait item) said never = tt
+methods_below base under reads so_far t of (reply.Waits id) (Is (Got b)) said never = absurd never
+methods_below base under reads so_far t of (reply.Waits id) (Is Lost) said nothing = tt
+methods_below base under reads so_far t of (reply.Waits id) (Wait item) said waits = tt

@@ -3,7 +3,9 @@ use Rattle.std.specs.Prelude.{◌≡◌, ◌<◌, Option, Some, None}
 use Rattle.type_model.specs.declared.term.TypeId.{TypeId}
 use Rattle.type_model.specs.declared.term.TypeName.{TypeName}
 use Rattle.type_model.specs.declared.table.TypeTable.{TypeTable}
-use Rattle.type_model.specs.GoTypes.{DefinedType, type_at}
+use Rattle.std.specs.Global.{Vec}
+use Rattle.type_model.specs.declared.term.Method.{Method}
+use Rattle.type_model.specs.GoTypes.{DefinedType, type_at, MethodsBelow}
 use Rattle.type_model.specs.Declarations.{Declaration, Declarations}
 use Rattle.type_model.specs.Tables.{types_in, count, declarations_in}
 use Rattle.type_growth.specs.Growth.{Grows}
@@ -60,3 +62,9 @@ DeclaresAll t base under reads so_far = (name : TypeName) → declarations_in t 
 pub record IsItemOf {I : Type 0} (under : TypeName → Option I) (name : TypeName) (item : I) : Type 0 where
   pub here : under name ≡ Some item
   pub alone : (other : TypeName) → under other ≡ Some item → other ≡ name
+
+-- methods that are answered are over the table
+abbrev pub AreMethodsBelow : {I : Type 0} → TypeTable → Found (Reached (Vec Method)) I → Type 0
+AreMethodsBelow t (Is (Got methods)) = MethodsBelow (count t) methods.items
+AreMethodsBelow t (Is Lost) = Unit {0}
+AreMethodsBelow t (Wait item) = Unit {0}

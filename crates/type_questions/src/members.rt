@@ -5,7 +5,7 @@ ghost use Rattle.type_model.specs.Tables.{types_in, count, IsTable};
 ghost use Rattle.method_sets.specs.Levels.{chosen_in, select_of};
 ghost use Rattle.method_sets.specs.Replies.{listed_in};
 ghost use Rattle.type_questions.specs.Questions.{FieldOrMethod, MethodSet, Selecting, Listing, IsFound};
-ghost use Rattle.type_questions.specs.Judging.{IsInStep, seen_as};
+ghost use Rattle.type_questions.specs.Judging.{IsInStep, AreMethodsBelow, seen_as};
 
 use crate::reach::reach;
 use crate::reached::{Found, Reached};
@@ -24,6 +24,7 @@ pub fn field_or_method<S: Seen>(
     name: &str,
     from: &str,
 ) -> Result<Found<Reached<Selection>, S::Item>, NoMemory>
+    requires seen { S.IsSeen seen.now }
     requires table { IsTable t.now }
     requires step { IsInStep t.now (S.base (S.subject seen.now)) (S.under (S.subject seen.now)) S.reads (S.so_far seen.now) }
     requires within { of.0 < count t.now }
@@ -40,10 +41,12 @@ pub fn method_set_of<S: Seen>(
     t: &TypeTable,
     of: TypeId,
 ) -> Result<Found<Reached<Vec<Method>>, S::Item>, NoMemory>
+    requires seen { S.IsSeen seen.now }
     requires table { IsTable t.now }
     requires step { IsInStep t.now (S.base (S.subject seen.now)) (S.under (S.subject seen.now)) S.reads (S.so_far seen.now) }
     requires within { of.0 < count t.now }
-    ensures { IfOk result (λ found. IsFound (S.base (S.subject seen.now)) (S.under (S.subject seen.now)) S.reads (S.so_far seen.now) (MethodSet (type_at (types_in t.now) of)) (λ reached. Listing (seen_as (λ methods. listed_in t.now methods.items) reached)) found) }
+    ensures told { IfOk result (λ found. IsFound (S.base (S.subject seen.now)) (S.under (S.subject seen.now)) S.reads (S.so_far seen.now) (MethodSet (type_at (types_in t.now) of)) (λ reached. Listing (seen_as (λ methods. listed_in t.now methods.items) reached)) found) }
+    ensures below { IfOk result (λ found. AreMethodsBelow t.now found) }
 {
     let reply = list(alloc, t, of)?;
     Ok(reach(seen, t, reply))

@@ -13,6 +13,7 @@ pub(crate) fn reach<S: Seen, A>(
     t: &TypeTable,
     reply: Reply<A>,
 ) -> Found<Reached<A>, S::Item>
+    requires seen { S.IsSeen seen.now }
     requires table { IsTable t.now }
     requires within { IsOfTable t.now reply }
     ensures { IsFoundBy t.now (S.base (S.subject seen.now)) (S.under (S.subject seen.now)) S.reads (S.so_far seen.now) reply result }

@@ -29,6 +29,7 @@ pub fn assignable_to<S: Seen>(
     methods: &[Method],
     to: TypeId,
 ) -> Found<Reached<bool>, S::Item>
+    requires seen { S.IsSeen seen.now }
     requires table { IsTable t.now }
     requires step { IsInStep t.now (S.base (S.subject seen.now)) (S.under (S.subject seen.now)) S.reads (S.so_far seen.now) }
     requires operand { x.now.of.0 < count t.now }
@@ -48,6 +49,7 @@ pub fn convertible_to<S: Seen>(
     methods: &[Method],
     to: TypeId,
 ) -> Found<Reached<bool>, S::Item>
+    requires seen { S.IsSeen seen.now }
     requires table { IsTable t.now }
     requires step { IsInStep t.now (S.base (S.subject seen.now)) (S.under (S.subject seen.now)) S.reads (S.so_far seen.now) }
     requires operand { x.now.of.0 < count t.now }
@@ -66,6 +68,7 @@ pub fn is_comparable<S: Seen>(
     t: &TypeTable,
     of: TypeId,
 ) -> Result<Found<Reached<bool>, S::Item>, NoMemory>
+    requires seen { S.IsSeen seen.now }
     requires table { IsTable t.now }
     requires step { IsInStep t.now (S.base (S.subject seen.now)) (S.under (S.subject seen.now)) S.reads (S.so_far seen.now) }
     requires within { of.0 < count t.now }
@@ -104,6 +107,7 @@ pub fn missing_method<S: Seen>(
     methods: &[Method],
     of: TypeId,
 ) -> Result<Found<Reached<Implements>, S::Item>, NoMemory>
+    requires seen { S.IsSeen seen.now }
     requires table { IsTable t.now }
     requires step { IsInStep t.now (S.base (S.subject seen.now)) (S.under (S.subject seen.now)) S.reads (S.so_far seen.now) }
     requires methods { MethodsBelow (count t.now) methods.now }

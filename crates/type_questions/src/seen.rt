@@ -19,6 +19,9 @@ pub trait Seen {
 
     ghost subject: { Self → Subject };
 
+    /// What holds of it throughout.
+    ghost IsSeen: { Self → Type 0 };
+
     /// What is declared from the start: by packages that are imported, and by the universe block.
     ghost base: { Subject → Declarations };
 
@@ -35,6 +38,7 @@ pub trait Seen {
     /// declared. None where it has one, so that its declaration gives nothing, and where no item declares
     /// the name.
     fn pending(&self, t: &TypeTable, id: TypeId) -> Option<Self::Item>
+        requires seen { IsSeen self.now }
         requires table { IsTable t.now }
         requires within { id.0 < count t.now }
         ensures { MatchOption result (RestsOnNothing t.now (base (subject self.now)) (under (subject self.now)) reads (so_far self.now) id) (λ item. RestsOn t.now (base (subject self.now)) (under (subject self.now)) reads (so_far self.now) id item) };

@@ -22,7 +22,7 @@ use Rattle.typed_marks.specs.declared.mark.Want.TheVariants as w
 use Rattle.typed_marks.specs.declared.mark.Mark.{Mark}
 use Rattle.typed_marks.specs.declared.mark.Mark.TheVariants as m
 use Rattle.typed_marks.specs.Items.{is_item, number_of}
-use Rattle.typed_marks.specs.Meanings.{Meaning, Known, Right, Wishes, Takes, Assigned, constant_at, known_in, wish_in, declaration_of, declared, mark_in, AreWithin, IsValueWithin, IsWantWithin, IsDeclared, IsMarkIn}
+use Rattle.typed_marks.specs.Meanings.{Meaning, Known, Right, Wishes, Takes, Fits, Assigned, constant_at, known_in, wish_in, declaration_of, declared, mark_in, AreWithin, IsValueWithin, IsWantWithin, IsDeclared, IsMarkIn}
 use Rattle.typed_marks.specs.States.{cell, kept, said_over}
 
 -- what is declared is declared so
@@ -67,11 +67,13 @@ module _ (old new : TypeTable) (constants more : List Const) (has : HasMore old 
   wish_same : (want : Want) → IsWantWithin (count old) want → wish_in (types_in new) want ≡ wish_in (types_in old) want
   wish_same w.Free is = refl
   wish_same (w.Takes of) low = ap Takes (type_same of low)
+  wish_same (w.Fits of) low = ap Fits (type_same of low)
   wish_same (w.Assigned of) low = ap Assigned (type_same of low)
 
   want_low : (want : Want) → IsWantWithin (count old) want → IsWantWithin (count new) want
   want_low w.Free is = tt
   want_low (w.Takes of) low = type_low of low
+  want_low (w.Fits of) low = type_low of low
   want_low (w.Assigned of) low = type_low of low
 
   declaration_at : (of : TypeId) → IsDeclared (types_in old) (declarations_in old) (count old) of

@@ -24,10 +24,12 @@ pub record Known : Type 0 where
   pub value : Option Const
   pub last : GoType
 
--- which type a place wants: none, one that an untyped expression takes, or one to which the expression is assigned
+-- which type a place wants: none; one that an untyped expression takes, and around which it is tested, or in which a constant is
+-- representable; or one to which the expression is assigned
 pub data Wish : Type 0 where
   Free : Wish
   Takes : GoType → Wish
+  Fits : GoType → Wish
   Assigned : GoType → Wish
 
 -- What is said of an item. Of a node or an object it is good, or breaks a rule, or lies outside the profile, or nothing is said, since a part that
@@ -51,6 +53,7 @@ known_in types constants f = record { mode = f.mode; of = type_at types f.of; va
 abbrev pub wish_in : List GoType → Want → Wish
 wish_in types w.Free = Free
 wish_in types (w.Takes of) = Takes (type_at types of)
+wish_in types (w.Fits of) = Fits (type_at types of)
 wish_in types (w.Assigned of) = Assigned (type_at types of)
 
 -- the declaration of a defined type
@@ -91,6 +94,7 @@ IsValueWithin n (Some id) = id.0 < n
 abbrev pub IsWantWithin : ℕ → Want → Type 0
 IsWantWithin n w.Free = Unit {0}
 IsWantWithin n (w.Takes of) = of.0 < n
+IsWantWithin n (w.Fits of) = of.0 < n
 IsWantWithin n (w.Assigned of) = of.0 < n
 
 pub record AreWithin (types constants : ℕ) (f : Facts) : Type 0 where

@@ -23,6 +23,8 @@ pub enum Want {
     Free,
     /// An untyped expression takes this one; what stands around tests it.
     Takes(TypeId),
+    /// An untyped expression takes this one, in which a constant is representable.
+    Fits(TypeId),
     /// The expression is assigned to this type (Go 1.17, "Assignability").
     Assigned(TypeId),
 }

@@ -1,2 +1,6 @@
+mod CellLemmas
+mod EnvironmentLemmas
+mod IndexLemmas
+mod NameLemmas
 mod RowLemmas
 mod TypeLemmas

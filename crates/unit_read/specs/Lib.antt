@@ -1,4 +1,10 @@
+pub mod Environments
+pub mod Exports
+pub mod Imports
+pub mod Index
+pub mod Members
 pub mod Places
 pub mod Passages
+pub mod Rows
 pub mod Subjects
 pub mod Units

@@ -1,5 +1,6 @@
 -- What is kept of a package that has been read.
-use Rattle.std.specs.Prelude.{◌≡◌, ℕ, List, map, Option, Some, option_and_then, slice_get}
+use Rattle.std.specs.Prelude.{◌≡◌, ℕ, Bool, false, List, map, Option, Some, option_and_then, option_map, slice_get, slice_index_or}
+use Rattle.std.specs.Option.{option_map_or}
 use Rattle.std.specs.Global.{Vec}
 use Rattle.std.specs.HashMap.{HashMap, get_by}
 use Rattle.std.specs.Str.{bytes_eq}
@@ -7,19 +8,26 @@ use denote.Ref.{Bor}
 use Rattle.type_model.specs.declared.term.TypeName.{TypeName}
 use Rattle.go_tree.specs.declared.tree.NodeRef.{NodeRef}
 use Rattle.unit_read.specs.declared.subject.Subject.{Subject}
+use Rattle.unit_read.specs.Environments.{IsEnvironment}
+use Rattle.unit_read.specs.Imports.{lead_at}
 use Rattle.unit_read.specs.Passages.{passages}
-use Rattle.unit_read.specs.Units.{Unit, object_at, place_at, spec_at, defined, type_name, named_by}
+use Rattle.unit_read.specs.Units.{Unit, object_at, place_at, spec_at, defined, type_name, type_name_at, named_by, copy_at}
+use Rattle.unit_read.specs.Members.{is_repeat}
 
 -- what a table of rows, one for each file, has for a node
 abbrev pub cell : {X : Type 0} → List (Vec (Option X)) → NodeRef → Option X
 cell {X} rows at = option_and_then (λ (row : Vec (Option X)). option_and_then (λ (o : Option X). o) (slice_get row.items at.node)) (slice_get rows at.file)
+
+-- what a table of flags, a row for each file, has for a node
+abbrev pub flag : List (Vec Bool) → NodeRef → Bool
+flag rows at = option_map_or (λ (row : Vec Bool). slice_index_or row.items at.node false) (slice_get rows at.file) false
 
 abbrev pub texts_of : List (Bor (List ℕ)) → List (List ℕ)
 texts_of texts = map (λ text. text.now) texts
 
 -- the package of a subject
 abbrev pub unit_of : Subject → Unit
-unit_of s = record { path = s.path.now; texts = texts_of s.texts.now; trees = s.trees.now; uses = s.uses.now }
+unit_of s = record { path = s.path.now; texts = texts_of s.texts.now; trees = s.trees.now; uses = s.uses.now; env = s.env.now.interfaces.now; redeclared = flag s.redeclared.items; cyclic = flag s.cyclic.items }
 
 -- what is kept under a name
 abbrev pub found : {X S : Type 0} → HashMap (Bor (List ℕ)) X S → List ℕ → Option X
@@ -35,6 +43,11 @@ pub record IsRead (s : Subject) : Type 0 where
   pub objects : (at : NodeRef) → cell s.objects.items at ≡ object_at (unit_of s) at
   pub places : (at : NodeRef) → cell s.places.items at ≡ place_at (unit_of s) at
   pub specs : (at : NodeRef) → cell s.specs.items at ≡ spec_at (unit_of s) at
+  pub env : IsEnvironment s.env.now
+  pub leads : (at : NodeRef) → cell s.leads.items at ≡ lead_at (unit_of s) at
   pub types : s.defined.items ≡ defined (unit_of s)
   pub locals : (k : ℕ) (at : NodeRef) → slice_get (defined (unit_of s)) k ≡ Some at → cell s.locals.items at ≡ Some (type_name (unit_of s) at).local
+  pub inside : (at : NodeRef) → cell s.locals.items at ≡ option_map (λ (n : TypeName). n.local) (type_name_at (unit_of s) at)
+  pub repeats : (at : NodeRef) → flag s.repeats.items at ≡ is_repeat (unit_of s) at
+  pub copies : (at : NodeRef) → cell s.copies.items at ≡ copy_at (unit_of s) at
   pub named : (q : List ℕ) → found s.named q ≡ named_by (unit_of s) (top_name (unit_of s) q) (defined (unit_of s))

@@ -1,8 +1,9 @@
 -- A package as its rules read it: its files with their trees, what the uses in them denote, and what stands where in them.
-use Rattle.std.specs.Prelude.{◌≡◌, ℕ, zero, suc, Bool, ◌&&◌, true, false, if◌then◌else◌, List, [], ◌∷◌, length, Option, Some, None, slice_get, slice_index_or, option_and_then, option_map, codes}
+use Rattle.std.specs.Prelude.{◌≡◌, ℕ, zero, suc, Bool, ◌&&◌, ◌||◌, true, false, if◌then◌else◌, List, [], ◌∷◌, length, Option, Some, None, slice_get, slice_index_or, option_and_then, option_map, codes, nat_eq}
 use Rattle.std.specs.Option.{option_map_or}
 use Rattle.std.specs.Str.{bytes_eq}
 use Rattle.gv_base.specs.declared.constant.Kind.TheVariants as kind
+use Rattle.export_data.specs.declared.constants.ConstInterface.{ConstInterface}
 use Rattle.type_model.specs.declared.term.TypeName.{TypeName}
 use Rattle.type_model.specs.GoTypes.{BasicType, InterfaceOf, AndMethod, NoMethod, From, NoType, AndType}
 use Rattle.type_model.specs.Declarations.{Declaration, Declarations}
@@ -26,12 +27,17 @@ use Rattle.unit_read.specs.declared.place.Place.{Place}
 use Rattle.unit_read.specs.Places.{place_of}
 use Rattle.unit_read.specs.Passages.{passages}
 
--- The path of a package, the texts and trees of its files in the order of their paths, and what the uses in them denote.
+-- The path of a package, the texts and trees of its files in the order of their paths, what the uses in them denote, and the interfaces to
+-- which imports lead: of two of one path the first counts; which of the names that it declares are declared before in their block, and which
+-- are cyclic: they need themselves.
 pub record Unit : Type 0 where
   pub path : List ℕ
   pub texts : List (List ℕ)
   pub trees : List FileTree
   pub uses : List (NodeRef × Object)
+  pub env : List ConstInterface
+  pub redeclared : NodeRef → Bool
+  pub cyclic : NodeRef → Bool
 
 -- ---- nodes and tokens
 
@@ -97,6 +103,17 @@ spec_at u at = first_from at.node (specs_in (nodes_at u at.file))
 abbrev pub passage_at : Unit → ℕ → Option Passage
 passage_at u block = slice_get (passages u.trees) block
 
+abbrev pub is_repeated_at : NodeRef → Passage → Bool
+is_repeated_at at p = nat_eq p.file at.file && option_map_or (λ (s : Spec). nat_eq s.node at.node) p.spec false
+
+abbrev pub copy_among : NodeRef → ℕ → List Passage → Option ℕ
+copy_among at block [] = None
+copy_among at block (p ∷ list) = if is_repeated_at at p then Some block else copy_among at (suc block) list
+
+-- the block of the list that a specification repeats
+abbrev pub copy_at : Unit → NodeRef → Option ℕ
+copy_at u at = copy_among at 0 (passages u.trees)
+
 -- ---- the types that are declared
 
 abbrev pub is_defined_node : NodeKind → Bool
@@ -138,6 +155,14 @@ place_in at (other ∷ list) n = if same_key (at.file, at.node) (other.file, oth
 -- The name of a defined type by the node of its name. What tells those in functions apart is their place among all, from 1.
 abbrev pub type_name : Unit → NodeRef → TypeName
 type_name u at = record { «package» = u.path; name = name_at u at; local = if is_top u at then 0 else place_in at (defined u) 1 }
+
+abbrev pub is_among : NodeRef → List NodeRef → Bool
+is_among at [] = false
+is_among at (other ∷ list) = same_key (at.file, at.node) (other.file, other.node) || is_among at list
+
+-- the name of a defined type, if one is declared at the node
+abbrev pub type_name_at : Unit → NodeRef → Option TypeName
+type_name_at u at = if is_among at (defined u) then Some (type_name u at) else None
 
 abbrev pub named_by : Unit → TypeName → List NodeRef → Option NodeRef
 named_by u name [] = None

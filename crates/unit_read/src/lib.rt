@@ -1,12 +1,21 @@
-//! How a package is read: where its nodes stand, and which passages of its files are read as one.
+//! How a package is read: where its nodes stand, which passages of its files are read as one, and what its imports lead to.
 #![tactic(auto)]
 
+mod environment;
+mod exported;
+mod index;
+mod lead;
+mod leads;
 mod passage;
 mod passage_list;
 mod place;
 mod places;
 mod subject;
 
+pub use environment::Environment;
+pub use exported::{exported_of, judge_lead};
+pub use lead::Lead;
+pub use leads::lead_rows;
 pub use passage::Passage;
 pub use passage_list::passages;
 pub use place::{Place, Standing};

@@ -1,11 +1,15 @@
 //! What is kept of a package that has been read.
-ghost use Rattle.std.specs.Prelude.{◌≡◌, ◌<◌, ◌-◌, Some, slice_get, option_and_then};
+ghost use Rattle.std.specs.Prelude.{◌≡◌, ◌<◌, ◌-◌, Some, false, slice_get, slice_index_or, option_and_then};
 ghost use Rattle.std.specs.Option.{option_copied};
 ghost use Rattle.std.specs.Str.{bytes_eq};
 ghost use Rattle.type_model.specs.Tables.{is_same_name};
-ghost use Rattle.unit_read.specs.Units.{text_in, tree_at, nodes_at, node_at, token_at, spelled, object_at, place_at, spec_at, passage_at, name_at, defined, type_name, type_node};
-ghost use Rattle.unit_read.specs.Subjects.{cell, found, unit_of, IsRead};
+ghost use Rattle.unit_read.specs.Units.{text_in, tree_at, nodes_at, node_at, token_at, spelled, object_at, place_at, spec_at, passage_at, name_at, defined, type_name, type_node, copy_at};
+ghost use Rattle.unit_read.specs.Imports.{lead_at};
+ghost use Rattle.unit_read.specs.Members.{is_repeat};
+ghost use Rattle.unit_read.specs.Subjects.{cell, flag, found, unit_of, IsRead};
 
+use crate::environment::Environment;
+use crate::lead::Lead;
 use crate::passage::Passage;
 use crate::place::Place;
 use const_tree::Spec;
@@ -13,22 +17,30 @@ use go_tree::{Bindings, FileTree, Node, NodeRef, Object, Token, token_text};
 use std::collections::HashMap;
 use type_model::TypeName;
 
-/// A package: its path, its files in the order of their paths, and what the uses in them denote; then its passages, and a row for each file
-/// with what is said of each of its nodes: what it denotes, where it stands, and to which specification of constants it belongs; the names
-/// of its defined types, and the first at package level of each name.
+/// A package: its path, its files in the order of their paths, what the uses in them denote, and the interfaces to which imports lead; then
+/// its passages, and a row for each file with what is said of each of its nodes: what it denotes, where it stands, to which specification of
+/// constants it belongs, and to what it leads as an import; the names of its defined types, and the first at package level of each name; and
+/// flags: which names are declared before in their block, which need themselves, and which members of structs and interfaces have the name of
+/// an earlier one; and by which block a list is repeated.
 #[derive(Drop)]
 pub struct Subject<'a> {
     pub path: &'a [u8],
     pub texts: &'a [&'a [u8]],
     pub trees: &'a [FileTree],
     pub uses: &'a Bindings,
+    pub env: &'a Environment<'a>,
     pub passages: Vec<Passage>,
     pub objects: Vec<Vec<Option<Object>>>,
     pub places: Vec<Vec<Option<Place>>>,
     pub specs: Vec<Vec<Option<Spec>>>,
+    pub leads: Vec<Vec<Option<Lead>>>,
     pub defined: Vec<NodeRef>,
     pub locals: Vec<Vec<Option<u64>>>,
     pub named: HashMap<&'a [u8], NodeRef>,
+    pub redeclared: Vec<Vec<bool>>,
+    pub cyclic: Vec<Vec<bool>>,
+    pub repeats: Vec<Vec<bool>>,
+    pub copies: Vec<Vec<Option<usize>>>,
 }
 
 fn token_of<'a>(tree: &'a FileTree, token: u32) -> Option<&'a Token>
@@ -59,6 +71,25 @@ fn cell<T: Copy>(rows: &Vec<Vec<Option<T>>>, at: NodeRef) -> Option<T>
     match row_at(rows, at.file) {
         Some(row) => cell_at(row, at.node),
         None => None,
+    }
+}
+
+fn flag_at(row: &Vec<bool>, node: u32) -> bool
+    ensures { result ≡ slice_index_or row.now.items node false }
+{
+    match row.get(node as usize) {
+        Some(flag) => *flag,
+        None => false,
+    }
+}
+
+/// What a table of flags has for a node.
+fn flag(rows: &Vec<Vec<bool>>, at: NodeRef) -> bool
+    ensures { result ≡ flag rows.now.items at }
+{
+    match row_at(rows, at.file) {
+        Some(row) => flag_at(row, at.node),
+        None => false,
     }
 }
 
@@ -155,6 +186,14 @@ impl<'a> Subject<'a> {
         cell(&self.places, at)
     }
 
+    /// What an import leads to.
+    pub fn lead_at(&self, at: NodeRef) -> Option<Lead>
+        requires { IsRead self.now }
+        ensures { result ≡ lead_at (unit_of self.now) at }
+    {
+        cell(&self.leads, at)
+    }
+
     /// The specification of constants to which a node belongs.
     pub fn spec_at(&self, at: NodeRef) -> Option<Spec>
         requires { IsRead self.now }
@@ -176,6 +215,36 @@ impl<'a> Subject<'a> {
         ensures { result ≡ cell self.now.locals.items at }
     {
         cell(&self.locals, at)
+    }
+
+    /// Whether a name is declared before in its block (Go 1.17, "Declarations and scope").
+    pub fn is_redeclared(&self, name: NodeRef) -> bool
+        ensures { result ≡ (unit_of self.now).redeclared name }
+    {
+        flag(&self.redeclared, name)
+    }
+
+    /// Whether the declaration of a name needs itself.
+    pub fn is_cyclic(&self, name: NodeRef) -> bool
+        ensures { result ≡ (unit_of self.now).cyclic name }
+    {
+        flag(&self.cyclic, name)
+    }
+
+    /// Whether a member of a struct or an interface has the name of an earlier one.
+    pub fn is_repeat(&self, at: NodeRef) -> bool
+        requires { IsRead self.now }
+        ensures { result ≡ is_repeat (unit_of self.now) at }
+    {
+        flag(&self.repeats, at)
+    }
+
+    /// The block of the list that a specification of constants repeats.
+    pub fn copy_at(&self, spec: NodeRef) -> Option<usize>
+        requires { IsRead self.now }
+        ensures { result ≡ copy_at (unit_of self.now) spec }
+    {
+        cell(&self.copies, spec)
     }
 
     fn is_called(&self, at: NodeRef, name: &TypeName) -> bool

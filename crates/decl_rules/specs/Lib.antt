@@ -1,0 +1,11 @@
+pub mod Declarings
+pub mod Good
+pub mod Types
+pub mod Signatures
+pub mod Structs
+pub mod Taken
+pub mod Specifications
+pub mod Members
+pub mod Objects
+pub mod Wants
+pub mod Rules

@@ -1,0 +1,202 @@
+-- The mark of an object, by where its name stands (Go 1.17, "Declarations and scope"), and what its type is declared with.
+use Rattle.std.specs.Prelude.{ℕ, ◌==◌, ◌&&◌, ◌||◌, Bool, true, false, not, if◌then◌else◌, List, [], length, codes, Option, Some, None, slice_get, option_and_then}
+use Rattle.std.specs.Option.{option_map_or}
+use Rattle.std.specs.Str.{bytes_eq}
+use Rattle.go_tree.specs.declared.tree.Node.{Node}
+use Rattle.go_tree.specs.declared.tree.NodeKind.{NodeKind}
+use Rattle.go_tree.specs.declared.tree.NodeKind.TheVariants as k
+use Rattle.go_tree.specs.declared.tree.NodeRef.{NodeRef}
+use Rattle.object_order.specs.Spots.{place}
+use Rattle.const_tree.specs.declared.constant.Spec.{Spec}
+use Rattle.const_tree.specs.Constants.{typing_of, values_of, is_repeated}
+use Rattle.package_objects.specs.Declares.{items, part}
+use Rattle.type_model.specs.declared.term.TypeName.{TypeName}
+use Rattle.type_model.specs.Declarations.{Declaration}
+use Rattle.type_model.specs.GoTypes.{GoType, DefinedType}
+use Rattle.mark_walk.specs.Asks.{done, bind}
+use Rattle.typed_tree.specs.Declarations.{has_constants}
+use Rattle.typed_tree.specs.declared.mark.Mode.TheVariants as mode
+use Rattle.typed_tree.specs.declared.rule.Rule.{Rule as RuleNumber}
+use Rattle.typed_tree.specs.declared.rule.TheConstants.{REDECLARED, BAD_INIT, DECLARATION_CYCLE}
+use Rattle.typed_marks.specs.declared.item.Stage.TheVariants as s
+use Rattle.typed_marks.specs.Meanings.{Known, Meaning, Right, Wrong, Quiet, Declares}
+use Rattle.unit_read.specs.declared.place.Place.{Place}
+use Rattle.unit_read.specs.Units.{Unit, nodes_at, node_at, name_at, place_at, spec_at, is_top, type_name_at}
+use Rattle.unit_read.specs.Units.{copy_at}
+use Rattle.rule_words.specs.declared.read.How.TheVariants as h
+use Rattle.rule_words.specs.Parts.{Part, read_as}
+use Rattle.rule_words.specs.Asking.{Rule, mark_ask, part_ask, under_ask}
+use Rattle.rule_words.specs.Answers.{typed}
+use Rattle.rule_words.specs.Words.{need_type}
+use Rattle.decl_rules.specs.Good.{given}
+use Rattle.decl_rules.specs.Types.{gives_type}
+use Rattle.decl_rules.specs.Signatures.{results_node}
+
+-- ---- variables and functions
+
+abbrev pub variable : GoType → Meaning
+variable of = Right (record { mode = mode.Variable; of = of; value = None; last = of })
+
+abbrev pub function : GoType → Meaning
+function of = Right (record { mode = mode.Value; of = of; value = None; last = of })
+
+abbrev pub variable_mark : Meaning → Rule
+variable_mark m = given m (λ x. done (variable x.of))
+
+abbrev pub function_mark : Meaning → Rule
+function_mark m = given m (λ x. done (function x.of))
+
+-- "Variable declarations": without a type each variable has that of its value, converted first to its default type if it is untyped
+abbrev pub valued_mark : Meaning → Rule
+valued_mark m = given m (λ x. done (variable x.last))
+
+abbrev pub alias_mark : Meaning → Rule
+alias_mark m = given m (λ x. done (Right (record { mode = x.mode; of = x.of; value = None; last = x.of })))
+
+-- what a rule makes of the mark of a node in its place
+abbrev pub placed_ask : Unit → ℕ → Option ℕ → (Meaning → Rule) → Rule
+placed_ask u file None rest = done Quiet
+placed_ask u file (Some n) rest = bind (mark_ask u s.Placed file n) (λ m. rest m)
+
+-- the value of a variable: nothing is said here where one value stands for several
+abbrev pub value_node : List Node → Node → ℕ → Option ℕ
+value_node nodes node i =
+    if length (items nodes (part node 0)) == length (items nodes (part node 1)) then slice_get (items nodes (part node 1)) i else None
+
+-- ---- constants
+
+-- a constant: its own type is that of its value
+abbrev pub constant_of : Known → Meaning
+constant_of x = Right (record { mode = x.mode; of = x.of; value = x.value; last = x.of })
+
+abbrev pub untyped_constant : Meaning → Rule
+untyped_constant m = given m (λ x. done (constant_of x))
+
+-- a constant of this type, with the value of this operand; of a type that has none nothing is said
+abbrev pub with_type : Known → Known → Meaning
+with_type t x = Right (record { mode = mode.Constant; of = t.of; value = x.value; last = t.of })
+
+abbrev pub typed_constant : Known → Meaning → Rule
+typed_constant t m = given m (λ x. done (with_type t x))
+
+abbrev pub of_type : Unit → ℕ → Option ℕ → Known → GoType → Rule
+of_type u block value t under = if has_constants under then placed_ask u block value (typed_constant t) else done Quiet
+
+abbrev pub of_part : Unit → ℕ → Option ℕ → Option GoType → Known → Rule
+of_part u block value under t = need_type under (of_type u block value t)
+
+abbrev pub with_typing : Unit → ℕ → Option ℕ → Part → Rule
+with_typing u block value p = given p.mark (λ t. of_part u block value p.under t)
+
+-- the constant of this value, in the block in which that is read; its type is read where it is written
+abbrev pub constant_in : Unit → ℕ → ℕ → Option ℕ → Option ℕ → Rule
+constant_in u file block None value = placed_ask u block value untyped_constant
+constant_in u file block (Some t) value = bind (part_ask u s.Placed file (read_as h.TypeAndUnder t)) (λ p. with_typing u block value p)
+
+-- "Constant declarations": a list without values repeats the one before
+abbrev pub block_of : Unit → ℕ → List Node → Spec → Option ℕ
+block_of u file nodes spec = if is_repeated nodes spec then copy_at u (place file spec.node) else Some file
+
+abbrev pub constant_by : Unit → ℕ → List Node → ℕ → Spec → Rule
+constant_by u file nodes i spec =
+    option_map_or (λ block. constant_in u file block (typing_of nodes spec) (slice_get (values_of nodes spec) i)) (block_of u file nodes spec) (done Quiet)
+
+abbrev pub constant_rule : Unit → NodeRef → ℕ → Rule
+constant_rule u name i = option_map_or (constant_by u name.file (nodes_at u name.file) i) (spec_at u name) (done Quiet)
+
+-- ---- types
+
+abbrev pub defined_rule : Unit → NodeRef → Rule
+defined_rule u name = option_map_or (λ n. gives_type (DefinedType n)) (type_name_at u name) (done Quiet)
+
+-- ---- objects
+
+abbrev pub kind_rule : Unit → NodeRef → Place → NodeKind → Node → Rule
+kind_rule u name p k.ConstNames node = constant_rule u name p.index
+kind_rule u name p k.ConstValues node = constant_rule u name p.index
+kind_rule u name p k.ConstTyped node = constant_rule u name p.index
+kind_rule u name p k.VarTyped node = placed_ask u name.file (part node 1) variable_mark
+kind_rule u name p k.VarTypedValues node = placed_ask u name.file (part node 1) variable_mark
+kind_rule u name p k.VarValues node = placed_ask u name.file (value_node (nodes_at u name.file) node p.index) valued_mark
+kind_rule u name p k.Param node = placed_ask u name.file (Some p.around) variable_mark
+kind_rule u name p k.SpreadParam node = placed_ask u name.file (Some p.around) variable_mark
+kind_rule u name p k.FuncDecl node = placed_ask u name.file (Some p.around) function_mark
+kind_rule u name p k.MethodDecl node = placed_ask u name.file (Some p.around) function_mark
+kind_rule u name p k.Defined node = defined_rule u name
+kind_rule u name p k.Alias node = placed_ask u name.file (part node 1) alias_mark
+kind_rule u name p _ node = done Quiet
+
+abbrev pub is_method : NodeKind → Bool
+is_method k.MethodDecl = true
+is_method _ = false
+
+abbrev pub is_function : NodeKind → Bool
+is_function k.FuncDecl = true
+is_function _ = false
+
+abbrev pub part_size : List Node → Option ℕ → ℕ
+part_size nodes o = option_map_or (λ (node : Node). length node.parts) (option_and_then (λ n. slice_get nodes n) o) 0
+
+-- "Program execution": a function `init` without parameters and results
+abbrev pub is_plain_function : List Node → NodeKind → Node → Option ℕ → Bool
+is_plain_function nodes kind node results = is_function kind && (part_size nodes (part node 1) == 0 && option_map_or (λ n. false) results true)
+
+-- E2: "the identifier init can only be declared as a function"
+abbrev pub is_bad_init : Unit → NodeRef → Bool → Bool
+is_bad_init u name plain = is_top u name && (bytes_eq (name_at u name) (codes "init") && not plain)
+
+-- E1, E2, E4: what refuses the name of an object
+abbrev pub refusal_of : Unit → NodeRef → Bool → Option RuleNumber
+refusal_of u name exempt =
+    if u.redeclared name then Some REDECLARED else (if is_bad_init u name exempt then Some BAD_INIT else (if u.cyclic name then Some DECLARATION_CYCLE else None))
+
+-- what a declaration of `init` may be: a function without parameters and results, or a method
+abbrev pub is_exempt : List Node → NodeKind → Node → Bool
+is_exempt nodes kind node = is_method kind || is_plain_function nodes kind node (results_node nodes node 2)
+
+abbrev pub unless_refused : Option RuleNumber → Rule → Rule
+unless_refused None rest = rest
+unless_refused (Some rule) rest = done (Wrong rule)
+
+abbrev pub object_in : Unit → NodeRef → Place → Node → Rule
+object_in u name p node = unless_refused (refusal_of u name (is_exempt (nodes_at u name.file) node.kind node)) (kind_rule u name p node.kind node)
+
+abbrev pub placed_object : Unit → NodeRef → Place → Rule
+placed_object u name p = option_map_or (object_in u name p) (node_at u (place name.file p.around)) (done Quiet)
+
+-- The mark of the object that is declared at a name.
+abbrev pub object_rule : Unit → NodeRef → Rule
+object_rule u name = option_map_or (placed_object u name) (place_at u name) (done Quiet)
+
+-- ---- what a type is declared with
+
+-- the type expression behind the name of a type
+abbrev pub written_in : Unit → ℕ → Place → Option ℕ
+written_in u file p = option_and_then (λ (node : Node). part node 1) (node_at u (place file p.around))
+
+abbrev pub written_type : Unit → NodeRef → Option ℕ
+written_type u name = option_and_then (written_in u name.file) (place_at u name)
+
+abbrev pub declared_with : GoType → Rule
+declared_with of = done (Declares (record { under = of; methods = [] }))
+
+abbrev pub declaring : Option GoType → Rule
+declaring under = need_type under declared_with
+
+-- "Types": the underlying type is that of the type to which it refers in its declaration
+abbrev pub underlying_rule : Unit → Known → Rule
+underlying_rule u x = bind (under_ask u x.of) (λ under. declaring under)
+
+abbrev pub named_rule : Unit → Meaning → Rule
+named_rule u m = given m (λ x. underlying_rule u x)
+
+-- a type that is refused or cyclic is declared by nothing
+abbrev pub own_rule : Unit → NodeRef → Meaning → Rule
+own_rule u name m = given m (λ x. placed_ask u name.file (written_type u name) (named_rule u))
+
+abbrev pub type_rule : Unit → NodeRef → TypeName → Rule
+type_rule u name n = bind (mark_ask u s.Object name.file name.node) (λ m. own_rule u name m)
+
+-- What the defined type is declared with whose name stands here. Its methods aren't told yet.
+abbrev pub under_rule : Unit → NodeRef → Rule
+under_rule u name = option_map_or (type_rule u name) (type_name_at u name) (done Quiet)

@@ -1,0 +1,290 @@
+//! The mark of an object, by where its name stands.
+ghost use Rattle.std.specs.Prelude.{◌≡◌, Some, IfOk, option_map};
+ghost use Rattle.mark_walk.specs.Telling.{tell};
+ghost use Rattle.typed_marks.specs.States.{so_far};
+ghost use Rattle.unit_read.specs.Subjects.{unit_of, IsRead};
+ghost use Rattle.unit_read.specs.Units.{type_name_at};
+ghost use Rattle.rule_words.specs.Scenes.{IsScene, said, IsMarkOf};
+ghost use Rattle.rule_words.specs.Steps.{step_in, IsStepOf};
+ghost use Rattle.decl_rules.specs.Objects.{variable_mark, function_mark, valued_mark, alias_mark, placed_ask, value_node, defined_rule, kind_rule, object_in, placed_object, object_rule};
+
+use crate::constant::judge_constant;
+use crate::good::{broken, gives_type, good, known, silent};
+use crate::refusal::{is_exempt, refusal_of};
+use go_tree::{Node, NodeKind, NodeRef};
+use gv_base::{NoMemory, Text};
+use package_objects::{count, item, part_of};
+use rule_words::{Step, look};
+use std::alloc::Global;
+use type_model::{Term, TypeName};
+use type_questions::Found;
+use typed_marks::{Facts, Mark, Stage, State};
+use typed_tree::Mode;
+use unit_read::{Place, Subject};
+
+fn variable(s: &State, m: Mark) -> Step
+    requires { IsMarkOf s.now m }
+    ensures is { step_in s.now result ≡ tell (so_far s.now) (variable_mark (said s.now m)) }
+    ensures over { IsStepOf s.now result }
+{
+    match known(s, m) {
+        Some(x) => good(Facts {
+            mode: Mode::Variable,
+            of: x.of,
+            value: None,
+            last: x.of,
+        }),
+        None => silent(),
+    }
+}
+
+fn function(s: &State, m: Mark) -> Step
+    requires { IsMarkOf s.now m }
+    ensures is { step_in s.now result ≡ tell (so_far s.now) (function_mark (said s.now m)) }
+    ensures over { IsStepOf s.now result }
+{
+    match known(s, m) {
+        Some(x) => good(Facts {
+            mode: Mode::Value,
+            of: x.of,
+            value: None,
+            last: x.of,
+        }),
+        None => silent(),
+    }
+}
+
+/// A variable without a type: it has the final type of its value.
+fn valued(s: &State, m: Mark) -> Step
+    requires { IsMarkOf s.now m }
+    ensures is { step_in s.now result ≡ tell (so_far s.now) (valued_mark (said s.now m)) }
+    ensures over { IsStepOf s.now result }
+{
+    match known(s, m) {
+        Some(x) => good(Facts {
+            mode: Mode::Variable,
+            of: x.last,
+            value: None,
+            last: x.last,
+        }),
+        None => silent(),
+    }
+}
+
+fn alias(s: &State, m: Mark) -> Step
+    requires { IsMarkOf s.now m }
+    ensures is { step_in s.now result ≡ tell (so_far s.now) (alias_mark (said s.now m)) }
+    ensures over { IsStepOf s.now result }
+{
+    match known(s, m) {
+        Some(x) => good(Facts {
+            mode: x.mode,
+            of: x.of,
+            value: None,
+            last: x.of,
+        }),
+        None => silent(),
+    }
+}
+
+fn variable_at(u: &Subject, s: &State, file: u32, n: Option<u32>) -> Step
+    requires { IsScene u.now s.now }
+    ensures is { step_in s.now result ≡ tell (so_far s.now) (placed_ask (unit_of u.now) file n variable_mark) }
+    ensures over { IsStepOf s.now result }
+{
+    let Some(n) = n else {
+        return silent();
+    };
+    match look(u, s, Stage::Placed, file as usize, n) {
+        Found::Is(m) => variable(s, m),
+        Found::Wait(item) => Step::Waits(item),
+    }
+}
+
+fn function_at(u: &Subject, s: &State, file: u32, n: u32) -> Step
+    requires { IsScene u.now s.now }
+    ensures is { step_in s.now result ≡ tell (so_far s.now) (placed_ask (unit_of u.now) file (Some n) function_mark) }
+    ensures over { IsStepOf s.now result }
+{
+    match look(u, s, Stage::Placed, file as usize, n) {
+        Found::Is(m) => function(s, m),
+        Found::Wait(item) => Step::Waits(item),
+    }
+}
+
+fn valued_at(u: &Subject, s: &State, file: u32, n: Option<u32>) -> Step
+    requires { IsScene u.now s.now }
+    ensures is { step_in s.now result ≡ tell (so_far s.now) (placed_ask (unit_of u.now) file n valued_mark) }
+    ensures over { IsStepOf s.now result }
+{
+    let Some(n) = n else {
+        return silent();
+    };
+    match look(u, s, Stage::Placed, file as usize, n) {
+        Found::Is(m) => valued(s, m),
+        Found::Wait(item) => Step::Waits(item),
+    }
+}
+
+fn alias_at(u: &Subject, s: &State, file: u32, n: Option<u32>) -> Step
+    requires { IsScene u.now s.now }
+    ensures is { step_in s.now result ≡ tell (so_far s.now) (placed_ask (unit_of u.now) file n alias_mark) }
+    ensures over { IsStepOf s.now result }
+{
+    let Some(n) = n else {
+        return silent();
+    };
+    match look(u, s, Stage::Placed, file as usize, n) {
+        Found::Is(m) => alias(s, m),
+        Found::Wait(item) => Step::Waits(item),
+    }
+}
+
+fn value_node(nodes: &[Node], node: &Node, i: usize) -> Option<u32>
+    ensures { result ≡ value_node nodes.now node.now i }
+{
+    if count(nodes, part_of(node, 0)) == count(nodes, part_of(node, 1)) {
+        item(nodes, part_of(node, 1), i)
+    } else {
+        None
+    }
+}
+
+fn text_of(alloc: Global, bytes: &[u8]) -> Result<Text, NoMemory>
+    ensures { IfOk result (λ text. text ≡ bytes.now) }
+{
+    match std::str::from_utf8(bytes) {
+        Ok(text) => {
+            let copy = Text::of(alloc, text)?;
+            Ok(copy)
+        }
+        Err(_) => Err(NoMemory),
+    }
+}
+
+/// The name of the defined type that is declared at a node.
+pub fn type_name(alloc: Global, u: &Subject, at: NodeRef, local: u64) -> Result<TypeName, NoMemory>
+    requires read { IsRead u.now }
+    requires local { option_map (λ n. n.local) (type_name_at (unit_of u.now) at) ≡ Some local }
+    ensures { IfOk result (λ n. Some n ≡ type_name_at (unit_of u.now) at) }
+{
+    let package = text_of(alloc, u.path)?;
+    let name = text_of(alloc, u.name_at(at))?;
+    Ok(TypeName {
+        package,
+        name,
+        local,
+    })
+}
+
+fn defined(alloc: Global, u: &Subject, s: &State, at: NodeRef) -> Result<Step, NoMemory>
+    requires { IsScene u.now s.now }
+    ensures is { IfOk result (λ step. step_in s.now step ≡ tell (so_far s.now) (defined_rule (unit_of u.now) at)) }
+    ensures over { IfOk result (IsStepOf s.now) }
+{
+    match u.local_at(at) {
+        Some(local) => {
+            let name = type_name(alloc, u, at, local)?;
+            Ok(gives_type(Term::Defined(name)))
+        }
+        None => Ok(silent()),
+    }
+}
+
+fn judge_kind(
+    alloc: Global,
+    u: &Subject,
+    s: &State,
+    name: NodeRef,
+    p: Place,
+    node: &Node,
+) -> Result<Step, NoMemory>
+    requires { IsScene u.now s.now }
+    ensures is { IfOk result (λ step. step_in s.now step ≡ tell (so_far s.now) (kind_rule (unit_of u.now) name p node.now.kind node.now)) }
+    ensures over { IfOk result (IsStepOf s.now) }
+{
+    let file = name.file;
+    match node.kind {
+        NodeKind::ConstNames => Ok(judge_constant(u, s, name, p.index)),
+        NodeKind::ConstValues => Ok(judge_constant(u, s, name, p.index)),
+        NodeKind::ConstTyped => Ok(judge_constant(u, s, name, p.index)),
+        NodeKind::VarTyped => Ok(variable_at(u, s, file, part_of(node, 1))),
+        NodeKind::VarTypedValues => Ok(variable_at(u, s, file, part_of(node, 1))),
+        NodeKind::VarValues => Ok(valued_at(
+            u,
+            s,
+            file,
+            value_node(u.nodes_at(file), node, p.index),
+        )),
+        NodeKind::Param => Ok(variable_at(u, s, file, Some(p.around))),
+        NodeKind::SpreadParam => Ok(variable_at(u, s, file, Some(p.around))),
+        NodeKind::FuncDecl => Ok(function_at(u, s, file, p.around)),
+        NodeKind::MethodDecl => Ok(function_at(u, s, file, p.around)),
+        NodeKind::Defined => {
+            let step = defined(alloc, u, s, name)?;
+            Ok(step)
+        }
+        NodeKind::Alias => Ok(alias_at(u, s, file, part_of(node, 1))),
+        _ => Ok(silent()),
+    }
+}
+
+fn object_in(
+    alloc: Global,
+    u: &Subject,
+    s: &State,
+    name: NodeRef,
+    p: Place,
+    node: &Node,
+) -> Result<Step, NoMemory>
+    requires { IsScene u.now s.now }
+    ensures is { IfOk result (λ step. step_in s.now step ≡ tell (so_far s.now) (object_in (unit_of u.now) name p node.now)) }
+    ensures over { IfOk result (IsStepOf s.now) }
+{
+    match refusal_of(u, name, is_exempt(u.nodes_at(name.file), node)) {
+        Some(rule) => Ok(broken(rule)),
+        None => {
+            let step = judge_kind(alloc, u, s, name, p, node)?;
+            Ok(step)
+        }
+    }
+}
+
+fn placed_object(
+    alloc: Global,
+    u: &Subject,
+    s: &State,
+    name: NodeRef,
+    p: Place,
+) -> Result<Step, NoMemory>
+    requires { IsScene u.now s.now }
+    ensures is { IfOk result (λ step. step_in s.now step ≡ tell (so_far s.now) (placed_object (unit_of u.now) name p)) }
+    ensures over { IfOk result (IsStepOf s.now) }
+{
+    let at = NodeRef {
+        file: name.file,
+        node: p.around,
+    };
+    match u.node_at(at) {
+        Some(node) => {
+            let step = object_in(alloc, u, s, name, p, node)?;
+            Ok(step)
+        }
+        None => Ok(silent()),
+    }
+}
+
+/// The mark of the object that is declared at a name, or what it waits for.
+pub fn judge_object(alloc: Global, u: &Subject, s: &State, name: NodeRef) -> Result<Step, NoMemory>
+    requires { IsScene u.now s.now }
+    ensures is { IfOk result (λ step. step_in s.now step ≡ tell (so_far s.now) (object_rule (unit_of u.now) name)) }
+    ensures over { IfOk result (IsStepOf s.now) }
+{
+    match u.place_at(name) {
+        Some(p) => {
+            let step = placed_object(alloc, u, s, name, p)?;
+            Ok(step)
+        }
+        None => Ok(silent()),
+    }
+}

@@ -1,0 +1,14 @@
+//! Numbers of rules.
+use typed_tree::Rule;
+
+/// E11 bad array length
+pub const BAD_ARRAY_LENGTH: Rule = Rule(11);
+
+/// E14 duplicate field or method
+pub const DUPLICATE_MEMBER: Rule = Rule(14);
+
+/// E98 bad constant type
+pub const BAD_CONSTANT_TYPE: Rule = Rule(98);
+
+/// E99 wrong number of values
+pub const WRONG_NUMBER_OF_VALUES: Rule = Rule(99);

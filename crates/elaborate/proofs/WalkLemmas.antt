@@ -1,0 +1,158 @@
+-- The walk over a package's items.
+use Rattle.std.proofs.Common.{IfSome, IsTrue, MatchOption, ◌≡◌, ◌⊎◌, ℕ, zero, suc, ◌+◌, ◌<◌, ◌≤◌, Bool, true, false, if◌then◌else◌, Option, Some, None, refl, sym, ap, ◌∙◌, subst, inl, inr, arith}
+use Rattle.std.specs.Option.{option_or, option_map_or}
+use Rattle.mark_walk.specs.Asks.{Ask, done, Gives, Awaits, Keeps, IsMarked}
+use Rattle.mark_walk.specs.Marking.{Goes}
+use Rattle.mark_walk.specs.Telling.{Outcome, Says, Waits, Puts, tell, Yields, Expects}
+use Rattle.mark_walk.proofs.AskLaws.{goes_itself, goes_then, marked_still}
+use Rattle.mark_walk.proofs.TellLaws.{yields_gives, expects_awaits}
+use Rattle.type_model.specs.declared.term.TypeName.{TypeName}
+use Rattle.typed_marks.specs.declared.item.Item.{Item}
+use Rattle.typed_marks.specs.declared.item.Stage.{Stage}
+use Rattle.typed_marks.specs.declared.state.State.{State}
+use Rattle.typed_marks.specs.Items.{is_item, IsItem, stage_number}
+use Rattle.typed_marks.specs.Meanings.{Meaning, Quiet}
+use Rattle.typed_marks.specs.States.{so_far}
+use Rattle.type_model.specs.declared.term.TypeId.{TypeId}
+use Rattle.type_model.specs.declared.table.TypeTable.{TypeTable}
+use Rattle.type_model.specs.GoTypes.{DefinedType, type_at}
+use Rattle.type_model.specs.Declarations.{Declaration}
+use Rattle.type_model.specs.Tables.{types_in}
+use Rattle.type_questions.specs.Judging.{RestsOn, RestsOnNothing}
+use Rattle.type_questions.specs.Over.{declared, IsOfNothing, IsPending}
+use Rattle.unit_read.specs.declared.subject.Subject.{Subject}
+use Rattle.unit_read.specs.Units.{Unit, base_of}
+use Rattle.unit_read.specs.Subjects.{unit_of}
+use Rattle.rule_words.specs.declared.step.Asked.{Asked}
+use Rattle.rule_words.specs.declared.step.Rest.{Rest}
+use Rattle.rule_words.specs.declared.step.Step.{Step}
+use Rattle.rule_words.specs.declared.step.Step.TheVariants as step
+use Rattle.rule_words.specs.Steps.{question_in, rest_in, step_in}
+use Rattle.elaborate.specs.declared.questions.Answered.{Answered}
+use Rattle.rule_words.specs.Answers.{answer_in}
+use Rattle.rule_words.specs.Steps.{IsStepOf}
+use Rattle.elaborate.specs.Settling.{told_in, Follows, IsSettled, left, outcome_of}
+use Rattle.rule_words.specs.Asking.{Rule, type_item, declaration_told, item}
+use Rattle.mark_walk.specs.declared.walk.Walk.{Walk}
+use Rattle.elaborate.specs.Walks.{blocks_of, says_of, pends_of, item_rule, IsItemOf}
+use Rattle.elaborate.specs.Elaborated.{IsAtWork}
+use Rattle.elaborate.specs.Covering.{Went, Ended, AreStagesMarked, AreNodesMarked, AreBlocksMarked}
+
+-- ---- what is declared by nothing, or waits
+
+pub of_nothing : (u : Unit) (so_far : Item → Option Meaning) (name : TypeName) → declared (base_of u) (type_item u) declaration_told so_far name ≡ None
+    → ((i : Item) → type_item u name ≡ Some i → so_far i ≡ None → ⊥) → IsOfNothing (type_item u) declaration_told so_far name
+of_nothing u so_far name none marked = by (type_item u name) refl none where
+  told : (b : Option _) (m : Meaning) → option_or b (declaration_told m) ≡ None → declaration_told m ≡ None
+  told None m e = e
+  told (Some d) m e = absurd cc
+
+  at : (i : Item) → type_item u name ≡ Some i → (o : Option Meaning) → so_far i ≡ o → option_or (base_of u name) (option_map_or declaration_told o None) ≡ None
+      → IsOfNothing (type_item u) declaration_told so_far name
+  at i is None e none = absurd (marked i is e)
+  at i is (Some m) e none = inr (i, m, is, e, told (base_of u name) m none)
+
+  by : (o : Option Item) → type_item u name ≡ o → option_or (base_of u name) (option_map_or declaration_told (option_map_or so_far o None) None) ≡ None
+      → IsOfNothing (type_item u) declaration_told so_far name
+  by None is none = inl is
+  by (Some i) is none = at i is (so_far i) refl none
+
+-- ---- rules of items
+
+pub rule_of_item : (rule : Unit → Item → Rule) (u : Unit) (i : Item) → IsItemOf u i → item_rule rule u i ≡ rule u i
+rule_of_item rule u i is = ap (λ (b : Bool). if b then rule u i else done Quiet) is
+
+-- ---- from state to state
+
+pub went_itself : (rule : Unit → Item → Rule) (u : Subject) (s : State) → IsAtWork u s → Went rule u u s s
+went_itself rule u s work = record { work = work; unit = refl; goes = goes_itself (says_of (unit_of u)) (item_rule rule (unit_of u)) (so_far s) }
+
+pub went_then : (rule : Unit → Item → Rule) (u0 u1 u2 : Subject) (s0 s1 s2 : State) → Went rule u0 u1 s0 s1 → Went rule u1 u2 s1 s2 → Went rule u0 u2 s0 s2
+went_then rule u0 u1 u2 s0 s1 s2 a b = record {
+  work = b.work;
+  unit = b.unit ∙ a.unit;
+  goes = goes_then (says_of (unit_of u0)) (item_rule rule (unit_of u0)) (so_far s0) (so_far s1) (so_far s2) a.goes
+      (subst (λ (u : Unit). Goes (says_of u) (item_rule rule u) (so_far s1) (so_far s2)) a.unit b.goes);
+}
+
+-- what is said of one package is said of the other, which is the same
+pub ended_for : (rule : Unit → Item → Rule) (u0 u1 : Unit) (s : State) (walk : Walk Item) (Marked : (Item → Option Meaning) → Type 0) (circle : Option Item)
+    → u1 ≡ u0 → Ended rule u1 s walk Marked circle → Ended rule u0 s walk Marked circle
+ended_for rule u0 u1 s walk Marked circle same ended = subst (λ (u : Unit). Ended rule u s walk Marked circle) same ended
+
+pub ended_as : (rule : Unit → Item → Rule) (u : Unit) (s : State) (walk : Walk Item) (One Other : (Item → Option Meaning) → Type 0) (circle : Option Item)
+    → (circle ≡ None → One (so_far s) → Other (so_far s)) → Ended rule u s walk One circle → Ended rule u s walk Other circle
+ended_as rule u s walk One Other circle turn ended = record {
+  rests = ended.rests;
+  marked = λ none. turn none (ended.marked none);
+  waits = ended.waits;
+}
+
+-- ---- what was marked is marked
+
+pub stages_still : (block n count : ℕ) (x y : Item → Option Meaning) → Keeps x y → AreStagesMarked block n count x → AreStagesMarked block n count y
+stages_still block n count x y keeps all stage low = marked_still x y (item stage block n) keeps (all stage low)
+
+pub nodes_still : (block low count : ℕ) (x y : Item → Option Meaning) → Keeps x y → AreNodesMarked block low count x → AreNodesMarked block low count y
+nodes_still block low count x y keeps all k is stage = marked_still x y (item stage block (low + k)) keeps (all k is stage)
+
+pub blocks_still : (u : Unit) (count : ℕ) (x y : Item → Option Meaning) → Keeps x y → AreBlocksMarked u count x → AreBlocksMarked u count y
+blocks_still u count x y keeps all i low is = marked_still x y i keeps (all i low is)
+
+-- ---- one question after the other
+
+pub follows_itself : (u : Subject) (s : State) (x : Step) → Follows u s x x
+follows_itself u s x = record { yields = λ m is. is; expects = λ i is. is }
+
+pub follows_then : (u : Subject) (s : State) (x y z : Step) → Follows u s x y → Follows u s y z → Follows u s x z
+follows_then u s x y z a b = record { yields = λ m is. a.yields m (b.yields m is); expects = λ i is. a.expects i (b.expects i is) }
+
+-- once the question is answered, the step goes on as its rest says
+pub follows_told : (u : Subject) (s : State) (asked : Asked) (rest : Rest) (told : Answered) (next : Step)
+    → says_of (unit_of u) (so_far s) (question_in s asked) (told_in s told) → step_in s next ≡ tell (so_far s) (rest_in s rest (told_in s told))
+    → Follows u s (step.Puts asked rest) next
+follows_told u s asked rest told next said is = record {
+  yields = λ m more. (told_in s told, said, yields_gives (says_of (unit_of u)) (so_far s) (rest_in s rest (told_in s told)) (step_in s next) m (sym is) more);
+  expects = λ i more. inr (told_in s told, said, expects_awaits (says_of (unit_of u)) (pends_of (unit_of u)) (so_far s) (rest_in s rest (told_in s told)) (step_in s next) i (sym is) more);
+}
+
+-- while the question waits, so does the step
+pub follows_waits : (u : Subject) (s : State) (asked : Asked) (rest : Rest) (item : Item) → pends_of (unit_of u) (so_far s) (question_in s asked) item
+    → Follows u s (step.Puts asked rest) (step.Waits item)
+follows_waits u s asked rest item waits = record {
+  yields = λ m never. absurd never;
+  expects = λ i same. inl (subst (λ (j : Item). pends_of (unit_of u) (so_far s) (question_in s asked) j) same waits);
+}
+
+-- ---- what is pending
+
+pub pending_found : (u : Unit) (so_far : Item → Option Meaning) (t : TypeTable) (of : TypeId) (result : Option Item)
+    → IfSome result (λ i. so_far i ≡ None)
+    → ((name : TypeName) → type_at (types_in t) of ≡ DefinedType name → IfSome result (λ i. type_item u name ≡ Some i))
+    → ((name : TypeName) (i : Item) → type_at (types_in t) of ≡ DefinedType name → result ≡ None → type_item u name ≡ Some i → so_far i ≡ None → ⊥)
+    → MatchOption result (RestsOnNothing t (base_of u) (type_item u) declaration_told so_far of) (λ i. RestsOn t (base_of u) (type_item u) declaration_told so_far of i)
+pending_found u so_far t of None waits is none = λ name named undeclared. of_nothing u so_far name undeclared (λ i at free. none name i named refl at free)
+pending_found u so_far t of (Some i) waits is none = λ name named undeclared. (is name named, waits)
+
+-- ---- before anything is marked
+
+or_none : (b : Option Declaration) → option_or b None ≡ b
+or_none None = refl
+or_none (Some d) = refl
+
+pub first_declared : (u : Unit) (so_far : Item → Option Meaning) → ((i : Item) → option_map_or declaration_told (so_far i) None ≡ None) → (name : TypeName)
+    → declared (base_of u) (type_item u) declaration_told so_far name ≡ base_of u name
+first_declared u so_far none name = by (type_item u name) where
+  by : (o : Option Item) → option_or (base_of u name) (option_map_or declaration_told (option_map_or so_far o None) None) ≡ base_of u name
+  by None = or_none (base_of u name)
+  by (Some i) = ap (λ x. option_or (base_of u name) x) (none i) ∙ or_none (base_of u name)
+
+-- a step that puts no question comes to its outcome
+pub outcome_settled : (u : Subject) (s : State) (first now : Step) → left now ≡ 0 → IsStepOf s now → Follows u s first now → IsSettled u s first (outcome_of now)
+outcome_settled u s first (step.Says given) none over follows = (over, follows.yields (answer_in s given) refl)
+outcome_settled u s first (step.Waits item) none over follows = follows.expects item refl
+outcome_settled u s first (step.Puts asked rest) none over follows = absurd (omega arith)
+
+pub none_left : (n : ℕ) (b : Bool) → (0 < n → IsTrue b) → b ≡ false → n ≡ 0
+none_left zero b asks no_more = refl
+none_left (suc n) b asks no_more = absurd (let never : false ≡ true = subst IsTrue no_more (asks (omega arith)) in cc)

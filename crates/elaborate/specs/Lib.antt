@@ -1,0 +1,4 @@
+pub mod Walks
+pub mod Settling
+pub mod Elaborated
+pub mod Covering

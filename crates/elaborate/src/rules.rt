@@ -1,0 +1,30 @@
+//! The rules by which items are marked.
+ghost use Rattle.std.specs.Prelude.{◌≡◌, IfOk};
+ghost use Rattle.mark_walk.specs.Telling.{tell};
+ghost use Rattle.typed_marks.specs.declared.item.Item.{Item as AnItem};
+ghost use Rattle.typed_marks.specs.Items.{IsItem};
+ghost use Rattle.typed_marks.specs.States.{so_far};
+ghost use Rattle.unit_read.specs.Units.{Unit};
+ghost use Rattle.unit_read.specs.Subjects.{unit_of};
+ghost use Rattle.rule_words.specs.Asking.{Rule};
+ghost use Rattle.rule_words.specs.Scenes.{IsScene};
+ghost use Rattle.rule_words.specs.Steps.{step_in, IsStepOf};
+
+use gv_base::NoMemory;
+use rule_words::Step;
+use std::alloc::Global;
+use typed_marks::{Item, State};
+use unit_read::Subject;
+
+/// Rules, and the code that follows them.
+pub trait Rules {
+    /// The rule of each item of a package.
+    ghost rule: { Unit → AnItem → Rule };
+
+    /// How far the rule of an item goes over the marks so far.
+    fn judge(&self, alloc: Global, u: &Subject, s: &State, item: Item) -> Result<Step, NoMemory>
+        requires scene { IsScene u.now s.now }
+        requires item { IsItem s.now.blocks.items item }
+        ensures is { IfOk result (λ step. step_in s.now step ≡ tell (so_far s.now) (rule (unit_of u.now) item)) }
+        ensures over { IfOk result (IsStepOf s.now) };
+}

@@ -1,0 +1,105 @@
+//! Rules of a package as rules of the walk.
+ghost use Rattle.std.specs.Prelude.{◌≡◌, None, IfOk, OnOk};
+ghost use Rattle.typed_marks.specs.Meanings.{Meaning};
+ghost use Rattle.typed_marks.specs.States.{so_far};
+ghost use Rattle.type_questions.specs.Questions.{Question, Told};
+ghost use Rattle.unit_read.specs.Units.{Unit};
+ghost use Rattle.unit_read.specs.Subjects.{unit_of};
+ghost use Rattle.mark_walk.specs.Marking.{Steps};
+ghost use Rattle.elaborate.specs.Walks.{IsItemOf, count_of, number_in, own_numbers, says_of, pends_of, answers_last, item_rule};
+ghost use Rattle.elaborate.specs.Elaborated.{IsAtWork};
+
+use crate::rules::Rules;
+use crate::settling::settle;
+use gv_base::NoMemory;
+use mark_walk::Marking;
+use rule_words::keep;
+use std::alloc::Global;
+use type_questions::Found;
+use typed_marks::{Item, State, number_of};
+use unit_read::Subject;
+
+/// A package that is being marked.
+#[derive(Drop)]
+pub struct Work<'a, R: Rules> {
+    pub alloc: Global,
+    pub rules: &'a R,
+    pub subject: &'a Subject<'a>,
+    pub state: State,
+}
+
+/// Marks an item by its rule, or answers the item for which the rule waits.
+fn step<R: Rules>(
+    alloc: Global,
+    rules: &R,
+    u: &Subject,
+    s: &mut State,
+    item: Item,
+) -> Result<Option<Item>, NoMemory>
+    requires work { IsAtWork u.now s.old }
+    requires item { IsItemOf (unit_of u.now) item }
+    requires unmarked { so_far s.old item ≡ None }
+    ensures work { OnOk result (IsAtWork u.now s.new) }
+    ensures steps { IfOk result (Steps (says_of (unit_of u.now)) (pends_of (unit_of u.now)) (IsItemOf (unit_of u.now)) (item_rule R.rule (unit_of u.now)) (so_far s.old) (so_far s.new) item) }
+{
+    let step = rules.judge(alloc, u, s, item)?;
+    let found = settle(alloc, u, s, step)?;
+    match found {
+        Found::Wait(other) => Ok(Some(other)),
+        Found::Is(answer) => {
+            keep(u, s, item, answer)?;
+            Ok(None)
+        }
+    }
+}
+
+impl<'a, R: Rules> Marking for Work<'a, R> {
+    type Item = Item;
+
+    ghost Meaning = { Meaning };
+
+    ghost Question = { Question };
+
+    ghost Answer = { Told };
+
+    ghost Subject = { Unit };
+
+    ghost subject = { λ w. unit_of w.subject.now };
+
+    ghost says = { says_of };
+
+    ghost pends = { pends_of };
+
+    ghost IsItem = { IsItemOf };
+
+    ghost count = { count_of };
+
+    ghost number = { number_in };
+
+    ghost rule = { λ u i. item_rule R.rule u i };
+
+    ghost IsState = { λ w. IsAtWork w.subject.now w.state };
+
+    ghost so_far = { λ w. so_far w.state };
+
+    ghost lasts = { answers_last };
+
+    ghost numbers = { own_numbers };
+
+    fn count(&self) -> usize {
+        self.state.cells.len()
+    }
+
+    fn number(&self, item: Item) -> usize {
+        number_of(&self.state.blocks, item, self.state.cells.len())
+    }
+
+    fn is_marked(&self, item: Item) -> bool {
+        self.state.is_marked(item)
+    }
+
+    fn judge(&mut self, item: Item) -> Result<Option<Item>, NoMemory> {
+        let waits = step(self.alloc, self.rules, self.subject, &mut self.state, item)?;
+        Ok(waits)
+    }
+}

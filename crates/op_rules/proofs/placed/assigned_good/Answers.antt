@@ -1,0 +1,18 @@
+use Rattle.std.proofs.Common.{option_map, sym, ap, ◌∙◌}
+use Rattle.mark_walk.specs.Telling.{Says}
+use Rattle.mark_walk.proofs.TellLaws.{told_bind}
+use Rattle.typed_marks.specs.States.{so_far}
+use Rattle.unit_read.specs.Subjects.{unit_of}
+use Rattle.rule_words.specs.Asking.{under_ask}
+use Rattle.rule_words.specs.Scenes.{told_by, said, type_in}
+use Rattle.op_rules.specs.InCode.{facts_in}
+use Rattle.op_rules.specs.Placed.{assigned_to}
+use Rattle.op_rules.proofs.placed.assigned_good.Goals as goal
+
+pub returns-in-Is-clause-is : goal.returns-in-Is-clause-is
+returns-in-Is-clause-is c =
+    let s = c.args.s.now in
+    let to = type_in s c.args.to in
+    c.assigned_to.ensures.is
+    ∙ sym (told_bind (so_far s) (under_ask (unit_of c.args.u.now) to) (assigned_to (facts_in s c.args.x) to (said s c.args.good)) (Says (option_map (type_in s) c.in-Is.under))
+    (sym c.under_of.ensures.is ∙ ap (told_by (option_map (type_in s))) c.in-Is.is))

@@ -1,0 +1,11 @@
+pub mod Binary
+pub mod InCode
+pub mod Names
+pub mod Operands
+pub mod Placed
+pub mod Rules
+pub mod Same
+pub mod Shifts
+pub mod Types
+pub mod Unary
+pub mod Wants

@@ -1,0 +1,130 @@
+-- What a place makes of what stands there (Go 1.17, "Operands", "Assignability", "Representability", "Constant declarations").
+use Rattle.std.specs.Prelude.{Bool, true, false, not, ◌||◌, if◌then◌else◌, Option, Some, None}
+use Rattle.gv_base.specs.declared.constant.Const.{Const}
+use Rattle.mark_walk.specs.Asks.{done, bind}
+use Rattle.type_model.specs.GoTypes.{GoType}
+use Rattle.type_rel.specs.Kinds.{is_untyped}
+use Rattle.typed_tree.specs.declared.mark.Mode.{Mode}
+use Rattle.typed_tree.specs.declared.mark.Mode.TheVariants as mode
+use Rattle.typed_tree.specs.declared.place.Want.{Want as Demand}
+use Rattle.typed_tree.specs.declared.place.Want.TheVariants as demand
+use Rattle.typed_tree.specs.declared.rule.Rule.{Rule as RuleNumber}
+use Rattle.op_rules.specs.declared.numbers.TheConstants.{SEVERAL_VALUES}
+use Rattle.typed_tree.specs.declared.rule.TheConstants.{NOT_A_TYPE, NOT_A_VALUE, NIL_WITHOUT_A_TYPE, CONSTANT_OVERFLOW, NOT_ASSIGNABLE, NOT_CONSTANT}
+use Rattle.typed_tree.specs.Operands.{fits_in}
+use Rattle.typed_tree.specs.Places.{is_single, is_type, is_constant, is_nil_mode, is_package, is_builtin}
+use Rattle.typed_marks.specs.Meanings.{Known, Wish, Free, Takes, Fits, Assigned, Meaning, Right, Wrong, Beyond, Quiet, Wishes, Declares}
+use Rattle.unit_read.specs.Units.{Unit}
+use Rattle.rule_words.specs.Asking.{Rule, under_ask}
+use Rattle.rule_words.specs.Putting.{held, assign_ask}
+use Rattle.rule_words.specs.Words.{Wanted, test}
+use Rattle.op_rules.specs.Operands.{tested}
+use Rattle.op_rules.specs.Rules.{takes_default}
+use Rattle.op_rules.specs.Types.{is_of}
+use Rattle.op_rules.specs.Wants.{is_shifted}
+
+-- ---- E30
+
+-- the constant is representable, where a basic type is taken
+abbrev pub goes_into : Const → GoType → Bool
+goes_into c under = is_of (fits_in c) under
+
+abbrev pub overflowing : Known → Const → Option GoType → Meaning
+overflowing x c None = Quiet
+overflowing x c (Some under) = tested (goes_into c under) CONSTANT_OVERFLOW (Right x)
+
+-- an untyped constant is representable in the type that it takes
+abbrev pub represented_value : Unit → Known → Option Const → Rule
+represented_value u x None = done (Right x)
+represented_value u x (Some c) = bind (under_ask u x.last) (λ under. done (overflowing x c under))
+
+abbrev pub represented : Unit → Known → Rule
+represented u x = if is_of is_untyped x.of then represented_value u x x.value else done (Right x)
+
+-- ---- E32
+
+-- A shift that isn't constant is assigned with the type that its operand took.
+abbrev pub assigned_type : Known → GoType
+assigned_type x = if is_shifted x then x.last else x.of
+
+abbrev pub assigned_to : Known → GoType → Meaning → Option GoType → Rule
+assigned_to x to good under = assign_ask (takes_default under) (assigned_type x) x.value to (held good NOT_ASSIGNABLE)
+
+abbrev pub assigned_good : Unit → Known → GoType → Meaning → Rule
+assigned_good u x to good = bind (under_ask u to) (assigned_to x to good)
+
+-- E32, then E30 of an untyped constant whose default type an interface takes
+abbrev pub assigned : Unit → Known → GoType → Rule
+assigned u x to = bind (represented u x) (assigned_good u x to)
+
+-- ---- what is wanted of a value
+
+-- E26, where the default type would be needed; E30
+abbrev pub wished_free : Unit → Known → Rule
+wished_free u x = test (not (is_nil_mode x.mode)) NIL_WITHOUT_A_TYPE (represented u x)
+
+abbrev pub wished_value : Unit → Wish → Known → Rule
+wished_value u Free x = wished_free u x
+wished_value u (Takes to) x = done (Right x)
+wished_value u (Fits to) x = represented u x
+wished_value u (Assigned to) x = assigned u x to
+
+-- a constant that is declared keeps its untyped type, unless it has a type to which it is assigned
+abbrev pub wished_constant : Unit → Wish → Known → Rule
+wished_constant u Free x = done (Right x)
+wished_constant u (Takes to) x = done (Right x)
+wished_constant u (Fits to) x = done (Right x)
+wished_constant u (Assigned to) x = assigned u x to
+
+-- ---- what has to stand there
+
+abbrev pub is_many : Mode → Bool
+is_many mode.Many = true
+is_many _ = false
+
+abbrev pub is_value : Mode → Bool
+is_value mode = is_single mode || is_many mode
+
+-- E24 where no value stands, E25 where several do
+abbrev pub single_fault : Mode → Option RuleNumber
+single_fault mode = if is_value mode then (if is_many mode then Some SEVERAL_VALUES else None) else Some NOT_A_VALUE
+
+-- E97, E32
+abbrev pub single_constant : Unit → Wish → Known → Rule
+single_constant u wish x = test (is_constant x.mode) NOT_CONSTANT (wished_constant u wish x)
+
+-- what is wanted of a single value; nil has no type as a shift count
+abbrev pub single_demanded : Unit → Wish → Known → Demand → Rule
+single_demanded u wish x demand.Operand = wished_value u wish x
+single_demanded u wish x demand.Count = test (not (is_nil_mode x.mode)) NIL_WITHOUT_A_TYPE (done (Right x))
+single_demanded u wish x demand.Constant = single_constant u wish x
+single_demanded u wish x demand.Nothing = done (Right x)
+single_demanded u wish x demand.Inside = done (Right x)
+single_demanded u wish x demand.Owner = done (Right x)
+single_demanded u wish x demand.Type = done (Right x)
+
+abbrev pub unless : Option RuleNumber → Rule → Rule
+unless None rest = rest
+unless (Some rule) rest = done (Wrong rule)
+
+abbrev pub value_demanded : Unit → Wish → Known → Demand → Rule
+value_demanded u wish x demand = unless (single_fault x.mode) (single_demanded u wish x demand)
+
+-- Between parentheses stands no package, and before a dot no built-in function.
+abbrev pub demanded : Unit → Wish → Known → Demand → Rule
+demanded u wish x demand.Nothing = done (Right x)
+demanded u wish x demand.Inside = test (not (is_package x.mode)) NOT_A_VALUE (done (Right x))
+demanded u wish x demand.Owner = test (not (is_builtin x.mode)) NOT_A_VALUE (done (Right x))
+demanded u wish x demand.Type = test (is_type x.mode) NOT_A_TYPE (done (Right x))
+demanded u wish x demand.Operand = value_demanded u wish x demand.Operand
+demanded u wish x demand.Count = value_demanded u wish x demand.Count
+demanded u wish x demand.Constant = value_demanded u wish x demand.Constant
+
+-- The mark of a node in its place; what isn't good stays.
+abbrev pub placed_rule : Unit → Wanted → Meaning → Rule
+placed_rule u w (Right x) = demanded u w.wish x w.demand
+placed_rule u w (Wrong rule) = done (Wrong rule)
+placed_rule u w (Beyond limit) = done (Beyond limit)
+placed_rule u w Quiet = done Quiet
+placed_rule u w (Wishes demand wish) = done Quiet
+placed_rule u w (Declares d) = done Quiet

@@ -1,0 +1,95 @@
+-- What imports lead to (Go 1.17, "Import declarations", "Qualified identifiers").
+use Rattle.std.specs.Prelude.{ℕ, Bool, true, false, if◌then◌else◌, List, map, Option, Some, None, slice_get, option_and_then, option_map, bytes_eq, codes}
+use Rattle.std.specs.Option.{option_map_or}
+use Rattle.gv_base.specs.declared.constant.Kind.TheVariants as kind
+use Rattle.go_tree.specs.Lexeme.{place_of}
+use Rattle.go_tree.specs.ImportPaths.{path_of}
+use Rattle.go_tree.specs.Values.{text_value}
+use Rattle.go_tree.specs.declared.tree.Node.{Node}
+use Rattle.go_tree.specs.declared.tree.NodeKind.{NodeKind}
+use Rattle.go_tree.specs.declared.tree.NodeKind.TheVariants as k
+use Rattle.go_tree.specs.declared.tree.NodeRef.{NodeRef}
+use Rattle.go_tree.specs.declared.bindings.Object.{Object}
+use Rattle.go_tree.specs.declared.bindings.Object.TheVariants as o
+use Rattle.export_data.specs.declared.constants.ConstOut.{ConstOut}
+use Rattle.export_data.specs.declared.constants.ConstInterface.{ConstInterface}
+use Rattle.type_model.specs.GoTypes.{BasicType}
+use Rattle.typed_tree.specs.declared.mark.Mode.TheVariants as mode
+use Rattle.typed_tree.specs.declared.rule.Limit.{Limit}
+use Rattle.typed_tree.specs.declared.rule.Limit.TheVariants.{Unsafe, Cgo, DotImport}
+use Rattle.typed_tree.specs.Meanings.{Meaning, Right, Beyond, Quiet}
+use Rattle.typed_tree.specs.Operands.{constant_mark}
+use Rattle.unit_read.specs.declared.lead.Lead.{Lead}
+use Rattle.unit_read.specs.Units.{Unit, node_at, last_spelled}
+
+-- ---- specifications
+
+abbrev pub is_import : NodeKind → Bool
+is_import k.ImportPath = true
+is_import k.ImportDot = true
+is_import k.ImportNamed = true
+is_import _ = false
+
+abbrev pub dot_limit : NodeKind → Option Limit
+dot_limit k.ImportDot = Some DotImport
+dot_limit _ = None
+
+-- profile: `unsafe` and `C`, whatever the form of the import, and imports of all names
+abbrev pub path_limit : List ℕ → NodeKind → Option Limit
+path_limit path kind =
+    if bytes_eq path (codes "unsafe") then Some Unsafe else (if bytes_eq path (codes "C") then Some Cgo else dot_limit kind)
+
+-- ---- packages
+
+abbrev pub paths_of : List ConstInterface → List (List ℕ)
+paths_of env = map (λ (i : ConstInterface). i.path) env
+
+-- What an import of this literal leads to: the limit outside which it lies, if it does, and the number of the interface that has
+-- its path, if one has.
+abbrev pub lead_by : List ConstInterface → List ℕ → NodeKind → Lead
+lead_by env literal kind = record { limit = path_limit (text_value literal) kind; interface = place_of (paths_of env) (path_of literal) }
+
+abbrev pub lead_of : Unit → ℕ → Node → Option Lead
+lead_of u f node = if is_import node.kind then Some (lead_by u.env (last_spelled u f node) node.kind) else None
+
+-- what the import at a node leads to
+abbrev pub lead_at : Unit → NodeRef → Option Lead
+lead_at u at = option_and_then (lead_of u at.file) (node_at u at)
+
+abbrev pub import_limit : Unit → NodeRef → Option Limit
+import_limit u at = option_and_then (λ (l : Lead). l.limit) (lead_at u at)
+
+abbrev pub package_mark : Meaning
+package_mark = Right (record { mode = mode.Package; of = BasicType kind.UntypedNil; value = None })
+
+abbrev pub package_of : Option ℕ → Meaning
+package_of None = Quiet
+package_of (Some i) = package_mark
+
+abbrev pub meaning_by : Option Limit → Option ℕ → Meaning
+meaning_by None interface = package_of interface
+meaning_by (Some l) interface = Beyond l
+
+-- What an import means: a package; a use is Silent where it lies outside the profile or leads to none.
+abbrev pub import_meaning : Unit → NodeRef → Meaning
+import_meaning u at = option_map_or (λ (l : Lead). meaning_by l.limit l.interface) (lead_at u at) Quiet
+
+-- ---- exported constants
+
+abbrev pub names_of : List ConstOut → List (List ℕ)
+names_of list = map (λ (c : ConstOut). c.name) list
+
+abbrev pub out_mark : ConstOut → Meaning
+out_mark c = constant_mark c.kind c.value
+
+-- the constant that an interface has for a name
+abbrev pub exported_in : List ℕ → ConstInterface → Option Meaning
+exported_in name i = option_and_then (λ j. option_map out_mark (slice_get i.list j)) (place_of (names_of i.list) name)
+
+abbrev pub exported_by : List ConstInterface → List ℕ → Lead → Option Meaning
+exported_by env name l = option_and_then (λ i. option_and_then (exported_in name) (slice_get env i)) l.interface
+
+-- what the package of an import has for a name
+abbrev pub exported_of : Unit → List ℕ → Option Object → Option Meaning
+exported_of u name (Some (o.Import at)) = option_and_then (exported_by u.env name) (lead_at u at)
+exported_of u name _ = None
