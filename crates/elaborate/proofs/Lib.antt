@@ -1,2 +1,5 @@
 mod AnswerLemmas
 mod WalkLemmas
+mod StepLemmas
+mod QuestionLemmas
+mod CoverLemmas

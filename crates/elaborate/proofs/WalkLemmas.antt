@@ -1,5 +1,5 @@
 -- The walk over a package's items.
-use Rattle.std.proofs.Common.{IfSome, IsTrue, MatchOption, ◌≡◌, ◌⊎◌, ℕ, zero, suc, ◌+◌, ◌<◌, ◌≤◌, Bool, true, false, if◌then◌else◌, Option, Some, None, refl, sym, ap, ◌∙◌, subst, inl, inr, arith}
+use Rattle.std.proofs.Common.{IfSome, IsTrue, MatchOption, ◌≡◌, ◌⊎◌, ℕ, zero, suc, ◌+◌, ◌<◌, ◌≤◌, Bool, true, false, if◌then◌else◌, Option, Some, None, refl, sym, ap, ◌∙◌, subst, inl, inr, arith, true≢false}
 use Rattle.std.specs.Option.{option_or, option_map_or}
 use Rattle.mark_walk.specs.Asks.{Ask, done, Gives, Awaits, Keeps, IsMarked}
 use Rattle.mark_walk.specs.Marking.{Goes}
@@ -155,4 +155,4 @@ outcome_settled u s first (step.Puts asked rest) none over follows = absurd (ome
 
 pub none_left : (n : ℕ) (b : Bool) → (0 < n → IsTrue b) → b ≡ false → n ≡ 0
 none_left zero b asks no_more = refl
-none_left (suc n) b asks no_more = absurd (let never : false ≡ true = subst IsTrue no_more (asks (omega arith)) in cc)
+none_left (suc n) b asks no_more = absurd (true≢false (sym (asks (omega arith)) ∙ no_more))

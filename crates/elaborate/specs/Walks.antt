@@ -20,7 +20,7 @@ blocks_of u = laid 0 (spans (passages u.trees))
 abbrev pub count_of : Unit → ℕ
 count_of u = room (spans (passages u.trees))
 
--- five for each node of each passage
+-- six for each node of each passage
 abbrev pub IsItemOf : Unit → Item → Type 0
 IsItemOf u i = IsItem (blocks_of u) i
 

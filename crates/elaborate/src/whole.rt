@@ -53,14 +53,15 @@ fn mark_one<R: Rules>(
 }
 
 fn stage_of(number: usize) -> Stage
-    requires { number < 5 }
+    requires { number < 6 }
     ensures { stage_number result ≡ number }
 {
     match number {
         0 => Stage::Before,
         1 => Stage::Wanted,
-        2 => Stage::Placed,
-        3 => Stage::Object,
+        2 => Stage::Judged,
+        3 => Stage::Placed,
+        4 => Stage::Object,
         _ => Stage::Under,
     }
 }
@@ -78,15 +79,15 @@ fn mark_node<R: Rules>(
     ensures went { OnOk result (Went R.rule work.old.subject.now work.new.subject.now work.old.state work.new.state) }
     ensures ended { IfOk result (Ended R.rule (unit_of work.old.subject.now) work.new.state walk.new (IsNodeMarked block node)) }
 {
-    for number in 0..5 {
+    for number in 0..6 {
         let item = Item {
             stage: stage_of(number),
             block,
             node,
         };
         let circle = mark_one(walk, work, item)?;
-        if circle.is_some() {
-            return Ok(circle);
+        if let Some(other) = circle {
+            return Ok(Some(other));
         }
     }
     Ok(None)
@@ -107,8 +108,8 @@ fn mark_block<R: Rules>(
 {
     for k in 0..block.size {
         let circle = mark_node(walk, work, number, block.low + k)?;
-        if circle.is_some() {
-            return Ok(circle);
+        if let Some(other) = circle {
+            return Ok(Some(other));
         }
     }
     Ok(None)
@@ -132,8 +133,8 @@ fn mark_all<R: Rules>(walk: &mut Walk<Item>, work: &mut Work<R>) -> Result<Optio
     for k in 0..count {
         let block = block_at(&work.state.blocks, k);
         let circle = mark_block(walk, work, k, block)?;
-        if circle.is_some() {
-            return Ok(circle);
+        if let Some(other) = circle {
+            return Ok(Some(other));
         }
     }
     Ok(None)

@@ -1,5 +1,5 @@
 //! One item is marked with what its rule gives.
-ghost use Rattle.std.specs.Prelude.{◌≡◌, ◌<◌, None, true, IfOk, OnOk};
+ghost use Rattle.std.specs.Prelude.{◌≡◌, ◌<◌, None, true, IfOk, OnOk, length};
 ghost use Rattle.mark_walk.specs.Asks.{Adds};
 ghost use Rattle.type_model.specs.GoTypes.{type_at, type_of, IsOver};
 ghost use Rattle.type_model.specs.Orders.{IsOrdered};
@@ -26,6 +26,7 @@ fn keep_mark(u: &Subject, s: &mut State, item: Item, mark: Mark)
     ensures scene { IsScene u.now s.new }
     ensures adds { Adds (so_far s.old) (so_far s.new) item (said s.old mark) }
     ensures blocks { s.new.blocks ≡ s.old.blocks }
+    ensures cells { length s.new.cells.items ≡ length s.old.cells.items }
 {
     s.keep(item, mark);
 }
@@ -55,6 +56,7 @@ fn keep_type(u: &Subject, s: &mut State, item: Item, mode: Mode, term: Term) -> 
     ensures scene { OnOk result (IsScene u.now s.new) }
     ensures adds { OnOk result (Adds (so_far s.old) (so_far s.new) item (typed mode (type_of (types_in s.old.table) term))) }
     ensures blocks { OnOk result (s.new.blocks ≡ s.old.blocks) }
+    ensures cells { OnOk result (length s.new.cells.items ≡ length s.old.cells.items) }
 {
     let added = s.add(term)?;
     keep_mark(u, s, item, mark_of(mode, added));
@@ -78,6 +80,7 @@ fn keep_constant(
     ensures scene { OnOk result (IsScene u.now s.new) }
     ensures adds { OnOk result (Adds (so_far s.old) (so_far s.new) item (constant (type_in s.old of) (type_in s.old last) value)) }
     ensures blocks { OnOk result (s.new.blocks ≡ s.old.blocks) }
+    ensures cells { OnOk result (length s.new.cells.items ≡ length s.old.cells.items) }
 {
     let value = s.add_constant(value)?;
     let facts = Facts {
@@ -99,6 +102,7 @@ pub fn keep(u: &Subject, s: &mut State, item: Item, answer: Answer) -> Result<()
     ensures scene { OnOk result (IsScene u.now s.new) }
     ensures adds { OnOk result (Adds (so_far s.old) (so_far s.new) item (answer_in s.old answer)) }
     ensures blocks { OnOk result (s.new.blocks ≡ s.old.blocks) }
+    ensures cells { OnOk result (length s.new.cells.items ≡ length s.old.cells.items) }
 {
     match answer {
         Answer::Mark(mark) => {

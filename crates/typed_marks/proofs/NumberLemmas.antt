@@ -13,22 +13,24 @@ use Rattle.typed_marks.specs.States.{block_of as block_from, room, laid}
 use Rattle.typed_marks.specs.Items.{is_in, is_item, IsItem, stage_number, number_in, number_of, AreBlocks}
 
 stage_by : ℕ → Stage
-stage_by n = if nat_eq n 0 then s.Before else (if nat_eq n 1 then s.Wanted else (if nat_eq n 2 then s.Placed else (if nat_eq n 3 then s.Object else s.Under)))
+stage_by n = if nat_eq n 0 then s.Before else (if nat_eq n 1 then s.Wanted else (if nat_eq n 2 then s.Judged else (if nat_eq n 3 then s.Placed else (if nat_eq n 4 then s.Object else s.Under))))
 
 by_number : (x : Stage) → stage_by (stage_number x) ≡ x
 unfolding stage_by
 by_number s.Before = refl
 by_number s.Wanted = refl
+by_number s.Judged = refl
 by_number s.Placed = refl
 by_number s.Object = refl
 by_number s.Under = refl
 
-one_stage : (a b : Stage) → stage_number a ≡ stage_number b → a ≡ b
+pub one_stage : (a b : Stage) → stage_number a ≡ stage_number b → a ≡ b
 one_stage a b e = sym (by_number a) ∙ ap stage_by e ∙ by_number b
 
-pub stage_low : (x : Stage) → stage_number x < 5
+pub stage_low : (x : Stage) → stage_number x < 6
 stage_low s.Before = omega arith
 stage_low s.Wanted = omega arith
+stage_low s.Judged = omega arith
 stage_low s.Placed = omega arith
 stage_low s.Object = omega arith
 stage_low s.Under = omega arith
@@ -56,7 +58,7 @@ pub number_is : (blocks : List Block) (i : Item) (b : Block) → slice_get block
 number_is blocks i b at = ap (λ o. option_map_or (number_in i.stage i.node) o 0) at
 
 -- the number of an item lies in its block
-pub number_low : (b : Block) (x : Stage) (n : ℕ) → is_in n b ≡ true → (b.start ≤ number_in x n b) × (number_in x n b < b.start + 5 * b.size)
+pub number_low : (b : Block) (x : Stage) (n : ℕ) → is_in n b ≡ true → (b.start ≤ number_in x n b) × (number_in x n b < b.start + 6 * b.size)
 number_low b x n is =
     let (k, low, at, less) = in_is n b is in
     let few = stage_low x in
@@ -73,11 +75,11 @@ number_below blocks count i are is =
 compare : (a b : ℕ) → (a < b) ⊎ ((a ≡ b) ⊎ (b < a))
 compare a b = grind arith
 
-five_stages : (k j s t : ℕ) → s < 5 → t < 5 → 5 * k + s ≡ 5 * j + t → s ≡ t
-five_stages k j s t a b e = omega arith
+six_stages : (k j s t : ℕ) → s < 6 → t < 6 → 6 * k + s ≡ 6 * j + t → s ≡ t
+six_stages k j s t a b e = omega arith
 
-five_nodes : (k j s t : ℕ) → s < 5 → t < 5 → 5 * k + s ≡ 5 * j + t → k ≡ j
-five_nodes k j s t a b e = omega arith
+six_nodes : (k j s t : ℕ) → s < 6 → t < 6 → 6 * k + s ≡ 6 * j + t → k ≡ j
+six_nodes k j s t a b e = omega arith
 
 abbrev made : Stage → ℕ → ℕ → Item
 made stage block node = record { stage = stage; block = block; node = node }
@@ -88,9 +90,9 @@ in_one b x y m n in_m in_n e =
     let (j, j_low, j_at, j_is) = in_is n b in_n in
     let few = stage_low x in
     let also = stage_low y in
-    let five : 5 * k + stage_number x ≡ 5 * j + stage_number y = omega arith in
-    let nodes = five_nodes k j (stage_number x) (stage_number y) few also five in
-    (one_stage x y (five_stages k j (stage_number x) (stage_number y) few also five), omega arith)
+    let six : 6 * k + stage_number x ≡ 6 * j + stage_number y = omega arith in
+    let nodes = six_nodes k j (stage_number x) (stage_number y) few also six in
+    (one_stage x y (six_stages k j (stage_number x) (stage_number y) few also six), omega arith)
 
 module _ (blocks : List Block) (count : ℕ) (are : AreBlocks blocks count) where
   apart : (i j : Item) → i.block < j.block → IsItem blocks i → IsItem blocks j → number_of blocks i ≡ number_of blocks j → ⊥
@@ -129,25 +131,25 @@ no_blocks blocks count bare = record {
   apart = λ j k a b less at also. absurd (let none = ap (λ (xs : List Block). slice_get xs j) bare in cc);
 }
 
-pub block_more : (blocks new : List Block) (b : Block) (count more : ℕ) → AreBlocks blocks count → new ≡ blocks ++ b ∷ [] → b.start ≡ count → more ≡ count + 5 * b.size → AreBlocks new more
+pub block_more : (blocks new : List Block) (b : Block) (count more : ℕ) → AreBlocks blocks count → new ≡ blocks ++ b ∷ [] → b.start ≡ count → more ≡ count + 6 * b.size → AreBlocks new more
 block_more blocks new b count more are is start end = record { within = within; apart = apart } where
   at_new : (k : ℕ) (x : Block) → slice_get new k ≡ Some x → (slice_get blocks k ≡ Some x) ⊎ ((k ≡ length blocks) × (b ≡ x))
   at_new k x at = push_cases blocks b x k (ap (λ (xs : List Block). slice_get xs k) (sym is) ∙ at)
 
-  within : (k : ℕ) (x : Block) → slice_get new k ≡ Some x → x.start + 5 * x.size ≤ more
+  within : (k : ℕ) (x : Block) → slice_get new k ≡ Some x → x.start + 6 * x.size ≤ more
   within k x at = elim (at_new k x at) [
     | inl old ↦ (let low = are.within k x old in omega arith)
-    | inr (last, same) ↦ subst (λ (y : Block). y.start + 5 * y.size ≤ more) same (omega arith)
+    | inr (last, same) ↦ subst (λ (y : Block). y.start + 6 * y.size ≤ more) same (omega arith)
   ]
 
-  apart : (j k : ℕ) (x y : Block) → j < k → slice_get new j ≡ Some x → slice_get new k ≡ Some y → x.start + 5 * x.size ≤ y.start
+  apart : (j k : ℕ) (x y : Block) → j < k → slice_get new j ≡ Some x → slice_get new k ≡ Some y → x.start + 6 * x.size ≤ y.start
   apart j k x y less at also = elim (at_new k y also) [
     | inl old ↦ elim (at_new j x at) [
       | inl first ↦ are.apart j k x y less first old
       | inr (last, same) ↦ absurd (let low = slice_get_within blocks k y old in omega arith)
     ]
     | inr (last, same) ↦ elim (at_new j x at) [
-      | inl first ↦ subst (λ (z : Block). x.start + 5 * x.size ≤ z.start) same (let low = are.within j x first in omega arith)
+      | inl first ↦ subst (λ (z : Block). x.start + 6 * x.size ≤ z.start) same (let low = are.within j x first in omega arith)
       | inr (first, also_same) ↦ absurd (omega arith)
     ]
   ]
@@ -157,21 +159,21 @@ block_more blocks new b count more are is start end = record { within = within; 
 laid_low : (n : ℕ) (spans : List Span) (k : ℕ) (b : Block) → slice_get (laid n spans) k ≡ Some b → n ≤ b.start
 laid_low n [] k b e = absurd cc
 laid_low n (s ∷ spans) zero b e = let same : block_from s n ≡ b = cc in subst (λ (x : Block). n ≤ x.start) same (omega arith)
-laid_low n (s ∷ spans) (suc k) b e = let low : n + 5 * s.size ≤ b.start = laid_low (n + 5 * s.size) spans k b e in omega arith
+laid_low n (s ∷ spans) (suc k) b e = let low : n + 6 * s.size ≤ b.start = laid_low (n + 6 * s.size) spans k b e in omega arith
 
-laid_within : (n : ℕ) (spans : List Span) (k : ℕ) (b : Block) → slice_get (laid n spans) k ≡ Some b → b.start + 5 * b.size ≤ n + room spans
+laid_within : (n : ℕ) (spans : List Span) (k : ℕ) (b : Block) → slice_get (laid n spans) k ≡ Some b → b.start + 6 * b.size ≤ n + room spans
 laid_within n [] k b e = absurd cc
 laid_within n (s ∷ spans) zero b e =
-    let same : block_from s n ≡ b = cc in subst (λ (x : Block). x.start + 5 * x.size ≤ n + (5 * s.size + room spans)) same (omega arith)
-laid_within n (s ∷ spans) (suc k) b e = let low : b.start + 5 * b.size ≤ (n + 5 * s.size) + room spans = laid_within (n + 5 * s.size) spans k b e in omega arith
+    let same : block_from s n ≡ b = cc in subst (λ (x : Block). x.start + 6 * x.size ≤ n + (6 * s.size + room spans)) same (omega arith)
+laid_within n (s ∷ spans) (suc k) b e = let low : b.start + 6 * b.size ≤ (n + 6 * s.size) + room spans = laid_within (n + 6 * s.size) spans k b e in omega arith
 
 laid_apart : (n : ℕ) (spans : List Span) (j k : ℕ) (a b : Block) → j < k → slice_get (laid n spans) j ≡ Some a → slice_get (laid n spans) k ≡ Some b
-    → a.start + 5 * a.size ≤ b.start
+    → a.start + 6 * a.size ≤ b.start
 laid_apart n [] j k a b low e f = absurd cc
 laid_apart n (s ∷ spans) j zero a b low e f = absurd (omega arith)
 laid_apart n (s ∷ spans) zero (suc k) a b low e f =
-    let same : block_from s n ≡ a = cc in subst (λ (x : Block). x.start + 5 * x.size ≤ b.start) same (laid_low (n + 5 * s.size) spans k b f)
-laid_apart n (s ∷ spans) (suc j) (suc k) a b low e f = laid_apart (n + 5 * s.size) spans j k a b (omega arith) e f
+    let same : block_from s n ≡ a = cc in subst (λ (x : Block). x.start + 6 * x.size ≤ b.start) same (laid_low (n + 6 * s.size) spans k b f)
+laid_apart n (s ∷ spans) (suc j) (suc k) a b low e f = laid_apart (n + 6 * s.size) spans j k a b (omega arith) e f
 
 pub laid_blocks : (spans : List Span) → AreBlocks (laid 0 spans) (room spans)
-laid_blocks spans = record { within = λ k b e. (let low : b.start + 5 * b.size ≤ 0 + room spans = laid_within 0 spans k b e in omega arith); apart = laid_apart 0 spans }
+laid_blocks spans = record { within = λ k b e. (let low : b.start + 6 * b.size ≤ 0 + room spans = laid_within 0 spans k b e in omega arith); apart = laid_apart 0 spans }

@@ -20,18 +20,19 @@ IsItem blocks i = is_item blocks i ≡ true
 abbrev pub stage_number : Stage → ℕ
 stage_number s.Before = 0
 stage_number s.Wanted = 1
-stage_number s.Placed = 2
-stage_number s.Object = 3
-stage_number s.Under = 4
+stage_number s.Judged = 2
+stage_number s.Placed = 3
+stage_number s.Object = 4
+stage_number s.Under = 5
 
--- five items a node, node by node
+-- six items a node, node by node
 abbrev pub number_in : Stage → ℕ → Block → ℕ
-number_in stage n b = b.start + 5 * (n - b.low) + stage_number stage
+number_in stage n b = b.start + 6 * (n - b.low) + stage_number stage
 
 abbrev pub number_of : List Block → Item → ℕ
 number_of blocks i = option_map_or (number_in i.stage i.node) (slice_get blocks i.block) 0
 
 -- the items of blocks have the numbers below the count, each its own
 pub record AreBlocks (blocks : List Block) (count : ℕ) : Type 0 where
-  pub within : (k : ℕ) (b : Block) → slice_get blocks k ≡ Some b → b.start + 5 * b.size ≤ count
-  pub apart : (j k : ℕ) (a b : Block) → j < k → slice_get blocks j ≡ Some a → slice_get blocks k ≡ Some b → a.start + 5 * a.size ≤ b.start
+  pub within : (k : ℕ) (b : Block) → slice_get blocks k ≡ Some b → b.start + 6 * b.size ≤ count
+  pub apart : (j k : ℕ) (a b : Block) → j < k → slice_get blocks j ≡ Some a → slice_get blocks k ≡ Some b → a.start + 6 * a.size ≤ b.start

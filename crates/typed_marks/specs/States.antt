@@ -47,12 +47,12 @@ block_of span start = record { low = span.low; size = span.size; start = start }
 -- how many items the nodes of these spans have
 abbrev pub room : List Span → ℕ
 room [] = 0
-room (span ∷ spans) = 5 * span.size + room spans
+room (span ∷ spans) = 6 * span.size + room spans
 
 -- blocks of these spans, one after the other from a number on
 abbrev pub laid : ℕ → List Span → List Block
 laid start [] = []
-laid start (span ∷ spans) = block_of span start ∷ laid (start + 5 * span.size) spans
+laid start (span ∷ spans) = block_of span start ∷ laid (start + 6 * span.size) spans
 
 -- ---- growing
 

@@ -7,6 +7,8 @@ pub enum Stage {
     Before,
     /// What the place of a node wants of it.
     Wanted,
+    /// A node of which that is wanted, before its place tests it.
+    Judged,
     /// A node in its place.
     Placed,
     /// The object that is declared at a name.

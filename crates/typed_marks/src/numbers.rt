@@ -32,19 +32,20 @@ fn stage_number(stage: Stage) -> usize
     match stage {
         Stage::Before => 0,
         Stage::Wanted => 1,
-        Stage::Placed => 2,
-        Stage::Object => 3,
-        Stage::Under => 4,
+        Stage::Judged => 2,
+        Stage::Placed => 3,
+        Stage::Object => 4,
+        Stage::Under => 5,
     }
 }
 
 fn number_in(stage: Stage, node: usize, block: Block, count: usize) -> usize
-    requires within { block.start + 5 * block.size ≤ count }
+    requires within { block.start + 6 * block.size ≤ count }
     requires is { is_in node block ≡ true }
     ensures number { result ≡ number_in stage node block }
     ensures low { result < count }
 {
-    block.start + 5 * (node - block.low) + stage_number(stage)
+    block.start + 6 * (node - block.low) + stage_number(stage)
 }
 
 /// The number of an item among all; `count` is how many there are.

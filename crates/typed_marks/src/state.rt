@@ -38,10 +38,11 @@ fn add_one(cells: &mut Vec<Option<Mark>>) -> Result<(), NoMemory>
 }
 
 /// Cells for the items of one node.
-fn add_five(cells: &mut Vec<Option<Mark>>) -> Result<(), NoMemory>
-    ensures length { OnOk result (length cells.new.items ≡ length cells.old.items + 5) }
+fn add_six(cells: &mut Vec<Option<Mark>>) -> Result<(), NoMemory>
+    ensures length { OnOk result (length cells.new.items ≡ length cells.old.items + 6) }
     ensures none { OnOk result (AllNone cells.old.items → AllNone cells.new.items) }
 {
+    add_one(cells)?;
     add_one(cells)?;
     add_one(cells)?;
     add_one(cells)?;
@@ -52,12 +53,12 @@ fn add_five(cells: &mut Vec<Option<Mark>>) -> Result<(), NoMemory>
 
 /// Cells for the items of so many nodes.
 fn add_cells(cells: &mut Vec<Option<Mark>>, size: usize) -> Result<(), NoMemory>
-    ensures length { OnOk result (length cells.new.items ≡ length cells.old.items + 5 * size) }
+    ensures length { OnOk result (length cells.new.items ≡ length cells.old.items + 6 * size) }
     ensures none { OnOk result (AllNone cells.old.items → AllNone cells.new.items) }
 {
     for n in 0..size {
         let _ = n;
-        add_five(cells)?;
+        add_six(cells)?;
     }
     Ok(())
 }
@@ -71,7 +72,7 @@ fn add_block(
     requires blocks { AreBlocks blocks.old.items (length cells.old.items) }
     ensures blocks { OnOk result (AreBlocks blocks.new.items (length cells.new.items)) }
     ensures block { OnOk result (blocks.new.items ≡ blocks.old.items ++ block_of span (length cells.old.items) ∷ []) }
-    ensures cells { OnOk result (length cells.new.items ≡ length cells.old.items + 5 * span.size) }
+    ensures cells { OnOk result (length cells.new.items ≡ length cells.old.items + 6 * span.size) }
     ensures none { OnOk result (AllNone cells.old.items → AllNone cells.new.items) }
 {
     let start = cells.len();
@@ -171,6 +172,7 @@ impl State {
         ensures table { self.new.table ≡ self.old.table }
         ensures constants { self.new.constants ≡ self.old.constants }
         ensures blocks { self.new.blocks ≡ self.old.blocks }
+        ensures cells { length self.new.cells.items ≡ length self.old.cells.items }
     {
         let number = number_of(&self.blocks, item, self.cells.len());
         put(&mut self.cells, number, mark);
@@ -184,6 +186,7 @@ impl State {
         ensures grown { OnOk result (HasGrown self.old self.new) }
         ensures added { IfOk result (IsAdded self.old.table self.new.table term) }
         ensures constants { self.new.constants ≡ self.old.constants }
+        ensures cells { self.new.cells ≡ self.old.cells }
     {
         let added = self.table.add(term)?;
         Ok(added)
@@ -196,6 +199,7 @@ impl State {
         ensures table { OnOk result (self.new.table ≡ self.old.table) }
         ensures added { IfOk result (λ id. id.0 ≡ length self.old.constants.items) }
         ensures constants { OnOk result (self.new.constants.items ≡ self.old.constants.items ++ constant ∷ []) }
+        ensures cells { self.new.cells ≡ self.old.cells }
     {
         let id = ConstId(self.constants.len());
         self.constants.push(constant)?;
@@ -226,6 +230,7 @@ impl State {
         ensures declares { OnOk result (Declares self.old.table self.new.table name under methods.items) }
         ensures constants { OnOk result (self.new.constants ≡ self.old.constants) }
         ensures blocks { OnOk result (self.new.blocks ≡ self.old.blocks) }
+        ensures cells { OnOk result (length self.new.cells.items ≡ length self.old.cells.items) }
     {
         self.table.declare(name, under, methods)?;
         self.keep(item, Mark::Declared(of));

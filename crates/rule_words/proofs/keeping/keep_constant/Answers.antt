@@ -1,3 +1,6 @@
+use Rattle.std.proofs.Common.{Option, length, ap, ◌∙◌}
+use Rattle.std.specs.Global.{Vec}
+use Rattle.typed_marks.specs.declared.mark.Mark.{Mark}
 use Rattle.rule_words.proofs.KeepLemmas.{grown_scene, stays_adds, added_constant}
 use Rattle.rule_words.proofs.keeping.keep_constant.Goals as goal
 
@@ -9,3 +12,6 @@ returns-clause-adds c =
     stays_adds _ _ _ c.args.item _ _
     (added_constant c.args.s.now c.add_constant.new.self c.args.of c.args.last c.in_ok-value.value c.args.value c.in_ok-value.ensures.table c.in_ok-value.ensures.added c.in_ok-value.ensures.constants)
     c.in_ok-value.ensures.grown.stays c.keep_mark.ensures.adds
+
+pub returns-clause-cells : goal.returns-clause-cells
+returns-clause-cells c = c.keep_mark.ensures.cells ∙ ap (λ (cells : Vec (Option Mark)). length cells.items) c.in_ok-value.ensures.cells

@@ -1,4 +1,4 @@
-use Rattle.std.proofs.Common.{◌≡◌, ◌∙◌, sym, ap, subst, set, List, Option, Some}
+use Rattle.std.proofs.Common.{◌≡◌, ◌∙◌, sym, ap, subst, length, set, length-set, List, Option, Some}
 use Rattle.mark_walk.specs.Asks.{Adds}
 use Rattle.typed_marks.specs.declared.mark.Mark.{Mark}
 use Rattle.typed_marks.specs.Items.{number_of}
@@ -15,3 +15,7 @@ returns-clause-adds c =
     c.put.ensures ∙ ap (λ n. set s.cells.items n (Some c.args.mark)) (c.number_of-number.ensures.number ∙ ap (λ bs. number_of bs c.args.item) c.deref.ensures.value) in
     subst (λ (cells : List (Option Mark)). Adds (said_over s.table s.constants.items s.blocks.items s.cells.items) (said_over s.table s.constants.items s.blocks.items cells) c.args.item (mark_in s.table s.constants.items c.args.mark))
     (sym are) (adds_cell s.table s.constants.items s.blocks.items s.cells.items c.args.item c.args.mark c.requires.state.blocks c.requires.item c.requires.unmarked)
+
+pub returns-clause-cells : goal.returns-clause-cells
+returns-clause-cells c =
+    ap (λ (cells : List (Option Mark)). length cells) c.put.ensures ∙ length-set c.args.self.now.cells.items c.number_of-number.result (Some c.args.mark)

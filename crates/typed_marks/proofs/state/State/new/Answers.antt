@@ -13,7 +13,7 @@ loop-k-preserved c =
       blocks = ensures.blocks;
       laid = ensures.block ∙ ap (λ n. c.loop-k.blocks.items ++ block_of span n ∷ []) c.loop-k.invariant.room ∙ ap (λ xs. xs ++ block_of span (room before) ∷ []) c.loop-k.invariant.laid
           ∙ sym (laid_last before span) ∙ sym (ap (laid 0) on);
-      room = ensures.cells ∙ ap (λ n. n + 5 * span.size) c.loop-k.invariant.room ∙ sym (room_on before span) ∙ sym (ap room on);
+      room = ensures.cells ∙ ap (λ n. n + 6 * span.size) c.loop-k.invariant.room ∙ sym (room_on before span) ∙ sym (ap room on);
       none = ensures.none c.loop-k.invariant.none;
     }
 

@@ -1,0 +1,194 @@
+-- How the items of a package come to be marked, one after the other.
+use Rattle.std.proofs.Common.{◌≡◌, ◌⊎◌, ℕ, ◌<◌, ◌+◌, ◌-◌, Bool, true, false, if◌then◌else◌, List, length, Option, Some, None, slice_get, refl, sym, ap, ◌∙◌, subst, inl, inr, arith}
+use Rattle.std.specs.Option.{option_map_or}
+use Rattle.std.proofs.lemmas.Option.{slice_get_within}
+use Rattle.gv_base.proofs.Lists.{same_some}
+use Rattle.mark_walk.specs.Asks.{done, IsMarked, Sound, IsFirst, AreAllMarked, IsTheAnnotation, filled}
+use Rattle.mark_walk.specs.declared.walk.Walk.{Walk}
+use Rattle.mark_walk.proofs.AskLaws.{goes_itself, goes_then, first_sound, the_annotation}
+use Rattle.typed_marks.specs.declared.item.Item.{Item}
+use Rattle.typed_marks.specs.declared.item.Stage.{Stage}
+use Rattle.typed_marks.specs.declared.item.Block.{Block}
+use Rattle.typed_marks.specs.declared.state.State.{State}
+use Rattle.typed_marks.specs.Items.{is_in, is_item, IsItem, stage_number}
+use Rattle.typed_marks.specs.Meanings.{Meaning, Quiet}
+use Rattle.typed_marks.specs.States.{so_far, IsState}
+use Rattle.typed_marks.proofs.NumberLemmas.{one_stage, stage_low, in_is, block_of}
+use Rattle.typed_marks.proofs.CellLemmas.{no_item_quiet}
+use Rattle.unit_read.specs.declared.subject.Subject.{Subject}
+use Rattle.unit_read.specs.Units.{Unit, base_of}
+use Rattle.unit_read.specs.Subjects.{unit_of, IsRead}
+use Rattle.rule_words.specs.Asking.{Rule, type_item, declaration_told, item}
+use Rattle.rule_words.specs.Scenes.{IsScene}
+use Rattle.type_model.specs.Tables.{declarations_in}
+use Rattle.type_model.specs.declared.table.TypeTable.{TypeTable}
+use Rattle.type_model.specs.declared.term.TypeName.{TypeName}
+use Rattle.typed_tree.specs.Basics.{HasBasics}
+use Rattle.elaborate.proofs.WalkLemmas.{first_declared}
+use Rattle.type_questions.specs.Over.{declared}
+use Rattle.elaborate.specs.Walks.{blocks_of, count_of, says_of, pends_of, item_rule, IsItemOf, answers_last}
+use Rattle.elaborate.specs.Elaborated.{IsAtWork, IsAnnotated, IsInCircle}
+use Rattle.elaborate.specs.Covering.{Went, Ended, IsAtRest, IsCircleAt, IsElaborated, IsNodeOf, IsNodeMarked, AreStagesMarked, AreNodesMarked, AreBlocksMarked}
+
+-- ---- from one package to the same
+
+pub rest_at : (u0 u1 : Unit) (s : State) (walk : Walk Item) → u1 ≡ u0 → IsAtRest u0 s walk → IsAtRest u1 s walk
+rest_at u0 u1 s walk same rests = subst (λ (u : Unit). IsAtRest u s walk) (sym same) rests
+
+pub rest_from : (u0 u1 : Unit) (s : State) (walk : Walk Item) → u1 ≡ u0 → IsAtRest u1 s walk → IsAtRest u0 s walk
+rest_from u0 u1 s walk same rests = subst (λ (u : Unit). IsAtRest u s walk) same rests
+
+pub item_at : (u0 u1 : Unit) (i : Item) → u1 ≡ u0 → IsItemOf u0 i → IsItemOf u1 i
+item_at u0 u1 i same is = subst (λ (u : Unit). IsItemOf u i) (sym same) is
+
+pub node_at : (u0 u1 : Unit) (block n : ℕ) → u1 ≡ u0 → IsNodeOf u0 block n → IsNodeOf u1 block n
+node_at u0 u1 block n same is stage = subst (λ (u : Unit). IsItemOf u (item stage block n)) (sym same) (is stage)
+
+pub scene_for : (u0 u1 : Subject) (s : State) → unit_of u1 ≡ unit_of u0 → IsRead u0 → IsScene u1 s → IsScene u0 s
+scene_for u0 u1 s same read scene = record {
+  read = read;
+  state = scene.state;
+  basics = scene.basics;
+  step = λ name. subst (λ (u : Unit). declarations_in s.table name ≡ declared (base_of u) (type_item u) declaration_told (so_far s) name) same (scene.step name);
+}
+
+-- ---- a circle ends all
+
+pub early : (rule : Unit → Item → Rule) (u0 u1 : Unit) (s : State) (walk : Walk Item) (One Other : (Item → Option Meaning) → Type 0) (circle : Option Item) (i : Item)
+    → u1 ≡ u0 → circle ≡ Some i → Ended rule u1 s walk One circle → Ended rule u0 s walk Other (Some i)
+early rule u0 u1 s walk One Other circle i same is ended = record {
+  rests = λ none. absurd (let never : Some i ≡ None = none in cc);
+  marked = λ none. absurd (let never : Some i ≡ None = none in cc);
+  waits = subst (λ (u : Unit). IsCircleAt rule u s (Some i)) same (subst (λ (o : Option Item). IsCircleAt rule u1 s o) is ended.waits);
+}
+
+pub ended_well : (rule : Unit → Item → Rule) (u : Unit) (s : State) (walk : Walk Item) (Marked : (Item → Option Meaning) → Type 0) → IsAtRest u s walk → Marked (so_far s)
+    → Ended rule u s walk Marked None
+ended_well rule u s walk Marked rests marked = record { rests = λ none. rests; marked = λ none. marked; waits = tt }
+
+-- ---- one more is marked
+
+less_or_last : (a k : ℕ) → a < k + 1 → (a < k) ⊎ (a ≡ k)
+less_or_last a k low = grind (arith, low)
+
+pub next_stage : (block n k : ℕ) (x : Item → Option Meaning) (stage : Stage) → stage_number stage ≡ k → AreStagesMarked block n k x → IsMarked x (item stage block n)
+    → AreStagesMarked block n (k + 1) x
+next_stage block n k x stage is all one other low = elim (less_or_last (stage_number other) k low) [
+  | inl less ↦ all other less
+  | inr last ↦ subst (λ (s : Stage). IsMarked x (item s block n)) (one_stage stage other (is ∙ sym last)) one
+]
+
+pub all_stages : (block n k : ℕ) (x : Item → Option Meaning) → k ≡ 6 → AreStagesMarked block n k x → IsNodeMarked block n x
+all_stages block n k x is all stage = all stage (subst (λ (m : ℕ). stage_number stage < m) (sym is) (stage_low stage))
+
+pub next_node : (block low k : ℕ) (x : Item → Option Meaning) → AreNodesMarked block low k x → IsNodeMarked block (low + k) x → AreNodesMarked block low (k + 1) x
+next_node block low k x all one j is = elim (less_or_last j k is) [
+  | inl less ↦ all j less
+  | inr last ↦ subst (λ (m : ℕ). IsNodeMarked block (low + m) x) (sym last) one
+]
+
+pub nodes_in : (u : Unit) (number k : ℕ) (block : Block) → slice_get (blocks_of u) number ≡ Some block → k < block.size → IsNodeOf u number (block.low + k)
+nodes_in u number k block at low stage = ap (λ (o : Option Block). option_map_or (is_in (block.low + k)) o false) at ∙ within where
+  within : is_in (block.low + k) block ≡ true
+  within = grind (arith, low)
+
+node_of : (u : Unit) (x : Item → Option Meaning) (i : Item) (block : Block) → slice_get (blocks_of u) i.block ≡ Some block → AreNodesMarked i.block block.low block.size x → IsItemOf u i → IsMarked x i
+node_of u x i block at all is =
+    let found = block_of (blocks_of u) i is in
+    let same = same_some (slice_get (blocks_of u) i.block) found.0 block found.1 at in
+    let where_at = in_is i.node block (subst (λ (b : Block). is_in i.node b ≡ true) same found.2) in
+    subst (λ (n : ℕ). IsMarked x (item i.stage i.block n)) (sym where_at.2) (all where_at.0 where_at.1 i.stage)
+
+pub next_block : (u : Unit) (k : ℕ) (block : Block) (x : Item → Option Meaning) → slice_get (blocks_of u) k ≡ Some block → AreBlocksMarked u k x → AreNodesMarked k block.low block.size x
+    → AreBlocksMarked u (k + 1) x
+next_block u k block x at all one i low is = elim (less_or_last i.block k low) [
+  | inl less ↦ all i less is
+  | inr last ↦ node_of u x i block (ap (slice_get (blocks_of u)) last ∙ at) (subst (λ (b : ℕ). AreNodesMarked b block.low block.size x) (sym last) one) is
+]
+
+pub no_stage : (block n : ℕ) (x : Item → Option Meaning) → AreStagesMarked block n 0 x
+no_stage block n x stage low = absurd (omega (arith, low))
+
+pub no_node : (block low : ℕ) (x : Item → Option Meaning) → AreNodesMarked block low 0 x
+no_node block low x k is = absurd (omega (arith, is))
+
+pub no_block : (u : Unit) (x : Item → Option Meaning) → AreBlocksMarked u 0 x
+no_block u x i low = absurd (omega (arith, low))
+
+-- ---- all of it
+
+-- of what is no item nothing is said
+quiet : (s : State) (i : Item) → is_item s.blocks.items i ≡ false → so_far s i ≡ Some Quiet
+unfolding so_far
+quiet s i none = no_item_quiet s.table s.constants.items s.blocks.items s.cells.items i none
+
+rule_of_none : (rule : Unit → Item → Rule) (u : Unit) (i : Item) → is_item (blocks_of u) i ≡ false → item_rule rule u i ≡ done Quiet
+rule_of_none rule u i none = ap (λ (b : Bool). if b then rule u i else done Quiet) none
+
+blocks_same : (s : State) (u : Unit) (i : Item) (b : Bool) → s.blocks.items ≡ blocks_of u → is_item (blocks_of u) i ≡ b → is_item s.blocks.items i ≡ b
+blocks_same s u i b same is = subst (λ (blocks : List Block). is_item blocks i ≡ b) (sym same) is
+
+module _ (rule : Unit → Item → Rule) (u : Unit) (s : State) (same : s.blocks.items ≡ blocks_of u) where
+  pub first : ((i : Item) → IsItemOf u i → so_far s i ≡ None) → IsFirst (item_rule rule u) (so_far s)
+  first unmarked i = by (is_item (blocks_of u) i) refl where
+    by : (b : Bool) → is_item (blocks_of u) i ≡ b → (so_far s i ≡ None) ⊎ ((m : Meaning) × (so_far s i ≡ Some m) × (item_rule rule u i ≡ done m))
+    by true is = inl (unmarked i is)
+    by false is = inr (Quiet, quiet s i (blocks_same s u i false same is), rule_of_none rule u i is)
+
+  pub sound_first : ((i : Item) → IsItemOf u i → so_far s i ≡ None) → Sound (says_of u) (item_rule rule u) (so_far s)
+  sound_first unmarked = first_sound (says_of u) (item_rule rule u) (so_far s) (first unmarked)
+
+  pub nothing_declared : ((i : Item) → IsItemOf u i → so_far s i ≡ None) → (i : Item) → option_map_or declaration_told (so_far s i) None ≡ None
+  nothing_declared unmarked i = by (is_item (blocks_of u) i) refl where
+    by : (b : Bool) → is_item (blocks_of u) i ≡ b → option_map_or declaration_told (so_far s i) None ≡ None
+    by true is = ap (λ (o : Option Meaning). option_map_or declaration_told o None) (unmarked i is)
+    by false is = ap (λ (o : Option Meaning). option_map_or declaration_told o None) (quiet s i (blocks_same s u i false same is))
+
+all_marked : (rule : Unit → Item → Rule) (u : Unit) (x : Item → Option Meaning) → AreBlocksMarked u (length (blocks_of u)) x → AreAllMarked Quiet (item_rule rule u) x
+all_marked rule u x all i = by (is_item (blocks_of u) i) refl where
+  within : IsItemOf u i → i.block < length (blocks_of u)
+  within is = let found = block_of (blocks_of u) i is in slice_get_within (blocks_of u) i.block found.0 found.1
+
+  by : (b : Bool) → is_item (blocks_of u) i ≡ b → IsMarked x i ⊎ (item_rule rule u i ≡ done Quiet)
+  by true is = inl (all i (within is) is)
+  by false is = inr (rule_of_none rule u i is)
+
+module _ (rule : Unit → Item → Rule) (u0 u1 : Subject) (s0 s1 : State) (went : Went rule u0 u1 s0 s1) (sound : Sound (says_of (unit_of u0)) (item_rule rule (unit_of u0)) (so_far s0)) where
+  sound_now : Sound (says_of (unit_of u0)) (item_rule rule (unit_of u0)) (so_far s1)
+  sound_now = went.goes.sound sound
+
+  pub annotated : AreBlocksMarked (unit_of u0) (length (blocks_of (unit_of u0))) (so_far s1)
+      → IsTheAnnotation (says_of (unit_of u0)) (item_rule rule (unit_of u0)) (filled Quiet (so_far s1))
+  annotated all = the_annotation (says_of (unit_of u0)) (pends_of (unit_of u0)) (answers_last (unit_of u0)) Quiet (item_rule rule (unit_of u0)) (so_far s1) sound_now
+      (all_marked rule (unit_of u0) (so_far s1) all)
+
+  pub in_circle : (i : Item) → IsCircleAt rule (unit_of u0) s1 (Some i) → IsInCircle rule u0 s1 i
+  in_circle i waits = record { sound = sound_now; waits = waits }
+
+-- ---- the blocks of a package that is being marked
+
+-- there is such a block
+pub block_there : (u0 u1 : Subject) (s0 s1 : State) (k : ℕ) → s0.blocks.items ≡ blocks_of (unit_of u0) → unit_of u1 ≡ unit_of u0 → s1.blocks.items ≡ blocks_of (unit_of u1)
+    → k < length s0.blocks.items → k < length s1.blocks.items
+block_there u0 u1 s0 s1 k first same now low = subst (λ (n : ℕ). k < n) (ap (λ (bs : List Block). length bs) (first ∙ sym (now ∙ ap blocks_of same))) low
+
+-- the block is one of the package's, as it was first
+pub block_here : (u0 u1 : Unit) (blocks : List Block) (k : ℕ) (block : Block) → u1 ≡ u0 → blocks ≡ blocks_of u1 → slice_get blocks k ≡ Some block → slice_get (blocks_of u0) k ≡ Some block
+block_here u0 u1 blocks k block same now at = ap (λ (bs : List Block). slice_get bs k) (sym (now ∙ ap blocks_of same)) ∙ at
+
+-- ---- before anything is marked
+
+pub started : (u : Subject) (s : State) (table : TypeTable) → IsRead u → HasBasics table → ((name : TypeName) → declarations_in table name ≡ base_of (unit_of u) name)
+    → IsState s → s.table ≡ table → s.blocks.items ≡ blocks_of (unit_of u) → length s.cells.items ≡ count_of (unit_of u)
+    → ((i : Item) → IsItem s.blocks.items i → so_far s i ≡ None) → IsAtWork u s
+started u s table read basics base state same blocks cells unmarked = record {
+  scene = record {
+    read = read;
+    state = state;
+    basics = subst HasBasics (sym same) basics;
+    step = λ name. ap (λ (t : TypeTable). declarations_in t name) same ∙ base name
+        ∙ sym (first_declared (unit_of u) (so_far s) (nothing_declared (λ v i. done Quiet) (unit_of u) s blocks (λ i is. unmarked i (subst (λ (bs : List Block). IsItem bs i) (sym blocks) is))) name);
+  };
+  blocks = blocks;
+  cells = cells;
+}

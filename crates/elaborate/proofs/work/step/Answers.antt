@@ -1,0 +1,32 @@
+use Rattle.std.proofs.Common.{ap, ◌∙◌, subst}
+use Rattle.std.specs.Global.{Vec}
+use Rattle.typed_marks.specs.declared.item.Block.{Block}
+use Rattle.rule_words.specs.Answers.{answer_in}
+use Rattle.elaborate.specs.Settling.{IsSettled}
+use Rattle.elaborate.proofs.StepLemmas.{step_gives, step_waits}
+use Rattle.elaborate.proofs.work.step.Goals as goal
+
+pub returns-in-Wait-clause-steps : goal.returns-in-Wait-clause-steps
+returns-in-Wait-clause-steps g c =
+    let u = c.args.u.now in
+    let s = c.args.s.now in
+    let settled = subst (IsSettled u s c.in_ok-step.step) c.in-Wait.is c.in_ok-found.ensures in
+    step_waits g.R.Rules.rule u s c.args.item c.requires.item c.in_ok-step.step c.in_ok-step.ensures.is c.requires.work c.in-Wait.other settled
+
+pub returns-in_ok-keep-in-Is-clause-work : goal.returns-in_ok-keep-in-Is-clause-work
+returns-in_ok-keep-in-Is-clause-work g c =
+    let kept = c.in_ok-keep-in-Is.ensures in
+    record {
+      scene = kept.scene;
+      blocks = ap (λ (blocks : Vec Block). blocks.items) kept.blocks ∙ c.requires.work.blocks;
+      cells = kept.cells ∙ c.requires.work.cells;
+    }
+
+pub returns-in_ok-keep-in-Is-clause-steps : goal.returns-in_ok-keep-in-Is-clause-steps
+returns-in_ok-keep-in-Is-clause-steps g c =
+    let u = c.args.u.now in
+    let s = c.args.s.now in
+    let settled = subst (IsSettled u s c.in_ok-step.step) c.in-Is.is c.in_ok-found.ensures in
+    (answer_in s c.in-Is.answer,
+      step_gives g.R.Rules.rule u s c.args.item c.requires.item c.in_ok-step.step c.in_ok-step.ensures.is c.in-Is.answer settled.1,
+      c.in_ok-keep-in-Is.ensures.adds)

@@ -1,0 +1,96 @@
+-- Families of rules, by kinds of nodes.
+use Rattle.std.specs.Prelude.{ℕ, List, Option, None}
+use Rattle.go_tree.specs.declared.tree.Node.{Node}
+use Rattle.go_tree.specs.declared.tree.NodeKind.{NodeKind}
+use Rattle.go_tree.specs.declared.tree.NodeKind.TheVariants as k
+use Rattle.go_tree.specs.declared.tree.NodeRef.{NodeRef}
+use Rattle.mark_walk.specs.Asks.{done, bind}
+use Rattle.typed_marks.specs.Meanings.{Meaning, Free, Quiet, Wishes}
+use Rattle.typed_tree.specs.declared.place.Want.TheVariants as demand
+use Rattle.unit_read.specs.declared.place.Place.{Place}
+use Rattle.unit_read.specs.Units.{Unit}
+use Rattle.rule_words.specs.declared.read.How.{How}
+use Rattle.rule_words.specs.declared.read.Read.{Read}
+use Rattle.rule_words.specs.Asking.{Rule}
+use Rattle.rule_words.specs.Parts.{Part, reads}
+use Rattle.rule_words.specs.Words.{Wanted}
+use Rattle.op_rules.specs.Rules.{op_reads, op_rule}
+use Rattle.op_rules.specs.Wants.{op_wants}
+use Rattle.decl_rules.specs.Rules.{decl_reads, decl_rule}
+use Rattle.decl_rules.specs.Wants.{decl_wants}
+use Rattle.go_rules.specs.declared.family.Family.{Family}
+use Rattle.go_rules.specs.declared.family.Family.TheVariants as f
+
+abbrev pub family : NodeKind → Family
+family k.Int = f.Operand
+family k.Rune = f.Operand
+family k.Text = f.Operand
+family k.Float = f.Operand
+family k.Imag = f.Operand
+family k.Name = f.Operand
+family k.Selector = f.Operand
+family k.Paren = f.Operand
+family k.Unary = f.Operand
+family k.Binary = f.Operand
+family k.Star = f.Type
+family k.SliceType = f.Type
+family k.ArrayType = f.Type
+family k.MapType = f.Type
+family k.ChanType = f.Type
+family k.SendChan = f.Type
+family k.RecvChan = f.Type
+family k.FuncType = f.Type
+family k.StructType = f.Type
+family k.InterfaceType = f.Type
+family k.FuncDecl = f.Declaration
+family k.MethodDecl = f.Declaration
+family k.Method = f.Declaration
+family k.Params = f.Declaration
+family k.Param = f.Declaration
+family k.SpreadParam = f.Declaration
+family k.Variadic = f.Declaration
+family k.Field = f.Declaration
+family k.Embedded = f.Declaration
+family k.EmbeddedPointer = f.Declaration
+family k.ConstNames = f.Declaration
+family k.ConstValues = f.Declaration
+family k.ConstTyped = f.Declaration
+family k.VarValues = f.Declaration
+family k.VarTypedValues = f.Declaration
+family k.VarTyped = f.Declaration
+family k.Defined = f.Declaration
+family k.Alias = f.Declaration
+family k.Const = f.Declaration
+family k.ConstGroup = f.Declaration
+family k.Var = f.Declaration
+family k.VarGroup = f.Declaration
+family k.TypeDecl = f.Declaration
+family k.TypeGroup = f.Declaration
+family k.Import = f.Declaration
+family k.ImportGroup = f.Declaration
+family _ = f.Other
+
+-- how the parts in a slot are read
+abbrev pub reads_by : Family → NodeKind → ℕ → Option How
+reads_by f.Operand kind slot = op_reads kind slot
+reads_by f.Type kind slot = decl_reads kind slot
+reads_by f.Declaration kind slot = decl_reads kind slot
+reads_by f.Other kind slot = None
+
+-- what is read of a node's parts
+abbrev pub node_reads : List Node → Node → List Read
+node_reads nodes node = reads (reads_by (family node.kind) node.kind) nodes node
+
+-- the rule of a node, from its parts as they were read and from what its place wants
+abbrev pub rule_by : Family → Unit → ℕ → NodeRef → Node → List Part → Wanted → Rule
+rule_by f.Operand u block at node ps w = op_rule u block at node ps w
+rule_by f.Type u block at node ps w = decl_rule u block at node ps w
+rule_by f.Declaration u block at node ps w = decl_rule u block at node ps w
+rule_by f.Other u block at node ps w = done Quiet
+
+-- what the node around wants of what stands at a place in it
+abbrev pub wants_by : Family → Unit → ℕ → Place → Node → Rule
+wants_by f.Operand u block p around = op_wants u block p around
+wants_by f.Type u block p around = decl_wants u block p around
+wants_by f.Declaration u block p around = decl_wants u block p around
+wants_by f.Other u block p around = done (Wishes demand.Nothing Free)

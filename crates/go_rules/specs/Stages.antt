@@ -1,0 +1,101 @@
+-- The rule of each item of a package, by its stage.
+use Rattle.std.specs.Prelude.{ℕ, List, Option, slice_get}
+use Rattle.std.specs.Option.{option_map_or}
+use Rattle.go_tree.specs.declared.tree.Node.{Node}
+use Rattle.go_tree.specs.declared.tree.NodeRef.{NodeRef}
+use Rattle.object_order.specs.Spots.{place}
+use Rattle.mark_walk.specs.Asks.{done, bind}
+use Rattle.typed_tree.specs.declared.place.Want.TheVariants as demand
+use Rattle.typed_marks.specs.declared.item.Item.{Item}
+use Rattle.typed_marks.specs.declared.item.Stage.{Stage}
+use Rattle.typed_marks.specs.declared.item.Stage.TheVariants as s
+use Rattle.typed_marks.specs.Meanings.{Meaning, Free, Quiet, Wishes}
+use Rattle.unit_read.specs.declared.passage.Passage.{Passage}
+use Rattle.unit_read.specs.declared.place.Place.{Place}
+use Rattle.unit_read.specs.Units.{Unit, nodes_at, node_at, place_at, passage_at}
+use Rattle.rule_words.specs.Asking.{Rule, mark_ask, parts_ask}
+use Rattle.rule_words.specs.Parts.{Part}
+use Rattle.rule_words.specs.Words.{Wanted, wanted_in}
+use Rattle.op_rules.specs.Placed.{placed_rule}
+use Rattle.decl_rules.specs.Objects.{object_rule}
+use Rattle.go_rules.specs.declared.family.Family.{Family}
+use Rattle.go_rules.specs.declared.family.Family.TheVariants as f
+use Rattle.go_rules.specs.Families.{family, node_reads, rule_by, wants_by}
+
+-- ---- a node, by itself and with what is wanted of it
+
+abbrev pub from_parts : Unit → ℕ → NodeRef → Node → Wanted → List Part → Rule
+from_parts u block at node w ps = rule_by (family node.kind) u block at node ps w
+
+-- the parts are read at this stage
+abbrev pub with_parts : Unit → Stage → ℕ → NodeRef → Node → Wanted → Rule
+with_parts u stage block at node w = bind (parts_ask u stage block (node_reads (nodes_at u at.file) node)) (from_parts u block at node w)
+
+abbrev pub nothing_wanted : Wanted
+nothing_wanted = record { demand = demand.Nothing; wish = Free }
+
+-- an expression or a type, over its parts by themselves
+abbrev pub before_by : Family → Unit → ℕ → NodeRef → Node → Rule
+before_by f.Operand u block at node = with_parts u s.Before block at node nothing_wanted
+before_by f.Type u block at node = with_parts u s.Before block at node nothing_wanted
+before_by f.Declaration u block at node = done Quiet
+before_by f.Other u block at node = done Quiet
+
+-- over its parts in their places
+abbrev pub judged_with : Unit → ℕ → NodeRef → Node → Meaning → Rule
+judged_with u block at node m = with_parts u s.Placed block at node (wanted_in m)
+
+abbrev pub judged_rule : Unit → ℕ → NodeRef → Node → Rule
+judged_rule u block at node = bind (mark_ask u s.Wanted block at.node) (judged_with u block at node)
+
+-- ---- a node in its place
+
+abbrev pub placed_with : Unit → Meaning → Meaning → Rule
+placed_with u j m = placed_rule u (wanted_in m) j
+
+abbrev pub placed_after : Unit → ℕ → NodeRef → Meaning → Rule
+placed_after u block at j = bind (mark_ask u s.Wanted block at.node) (placed_with u j)
+
+abbrev pub placed_in : Unit → ℕ → NodeRef → Rule
+placed_in u block at = bind (mark_ask u s.Judged block at.node) (placed_after u block at)
+
+-- ---- what a place wants
+
+abbrev pub wish_of : Wanted → Meaning
+wish_of w = Wishes w.demand w.wish
+
+abbrev pub wished : Meaning → Rule
+wished m = done (wish_of (wanted_in m))
+
+abbrev pub wants_of : Unit → ℕ → Place → Node → Rule
+wants_of u block p around = bind (wants_by (family around.kind) u block p around) wished
+
+abbrev pub wants_at : Unit → ℕ → NodeRef → Place → Rule
+wants_at u block at p = option_map_or (wants_of u block p) (node_at u (place at.file p.around)) (done Quiet)
+
+abbrev pub wanted_rule : Unit → ℕ → NodeRef → Rule
+wanted_rule u block at = option_map_or (wants_at u block at) (place_at u at) (done Quiet)
+
+-- ---- items
+
+-- What a type is declared with isn't told here.
+abbrev pub stage_rule : Stage → Unit → ℕ → NodeRef → Node → Rule
+stage_rule s.Before u block at node = before_by (family node.kind) u block at node
+stage_rule s.Wanted u block at node = wanted_rule u block at
+stage_rule s.Judged u block at node = judged_rule u block at node
+stage_rule s.Placed u block at node = placed_in u block at
+stage_rule s.Object u block at node = object_rule u at
+stage_rule s.Under u block at node = done Quiet
+
+abbrev pub node_rule : Unit → Item → ℕ → Node → Rule
+node_rule u i file node = stage_rule i.stage u i.block (place file i.node) node
+
+abbrev pub in_file : Unit → Item → ℕ → Rule
+in_file u i file = option_map_or (node_rule u i file) (slice_get (nodes_at u file) i.node) (done Quiet)
+
+abbrev pub file_rule : Unit → Item → Passage → Rule
+file_rule u i p = in_file u i p.file
+
+-- The rule of an item.
+abbrev pub rule : Unit → Item → Rule
+rule u i = option_map_or (file_rule u i) (passage_at u i.block) (done Quiet)

@@ -1,0 +1,236 @@
+//! The rules of a node, stage by stage.
+ghost use Rattle.std.specs.Prelude.{◌≡◌, IfOk};
+ghost use Rattle.mark_walk.specs.Telling.{tell};
+ghost use Rattle.typed_marks.specs.States.{so_far};
+ghost use Rattle.unit_read.specs.Subjects.{unit_of};
+ghost use Rattle.rule_words.specs.Asking.{parts_ask};
+ghost use Rattle.rule_words.specs.Scenes.{IsScene, told_by, IfFound, said, IsMarkOf, parts_in, AreSeenOf};
+ghost use Rattle.rule_words.specs.Steps.{step_in, IsStepOf};
+ghost use Rattle.rule_words.specs.Wanting.{wanted_of, IsWantedOf};
+ghost use Rattle.go_rules.specs.Families.{family, node_reads, rule_by, wants_by};
+ghost use Rattle.go_rules.specs.Stages.{from_parts, with_parts, before_by, judged_rule, placed_after, placed_in, wants_of, wants_at, wanted_rule, wished};
+
+use crate::family::{Family, family};
+use crate::reads::node_reads;
+use decl_rules::{judge_decl, want_decl};
+use go_tree::{Node, NodeRef};
+use gv_base::NoMemory;
+use op_rules::{judge_op, judge_placed, want_op};
+use rule_words::{Answer, Seen, Step, Wanted, look, parts, wanted_by};
+use std::alloc::Global;
+use type_questions::Found;
+use typed_marks::{Item, Mark, Stage, State, Want};
+use typed_tree::Want as Demand;
+use unit_read::{Place, Subject};
+
+fn silent() -> Step
+    ensures { result ≡ Step.Says (Answer.Mark Mark.Silent) }
+{
+    Step::Says(Answer::Mark(Mark::Silent))
+}
+
+fn judge_by(
+    alloc: Global,
+    u: &Subject,
+    s: &State,
+    by: Family,
+    block: usize,
+    at: NodeRef,
+    node: &Node,
+    list: &[Seen],
+    w: Wanted,
+) -> Result<Step, NoMemory>
+    requires scene { IsScene u.now s.now }
+    requires parts { AreSeenOf s.now list.now }
+    requires wanted { IsWantedOf s.now w }
+    ensures is { IfOk result (λ step. step_in s.now step ≡ tell (so_far s.now) (rule_by by (unit_of u.now) block at node.now (parts_in s.now list.now) (wanted_of s.now w))) }
+    ensures over { IfOk result (IsStepOf s.now) }
+{
+    match by {
+        Family::Operand => {
+            let step = judge_op(alloc, u, s, block, at, node, list, w)?;
+            Ok(step)
+        }
+        Family::Type => {
+            let step = judge_decl(alloc, u, s, block, at, node, list, w)?;
+            Ok(step)
+        }
+        Family::Declaration => {
+            let step = judge_decl(alloc, u, s, block, at, node, list, w)?;
+            Ok(step)
+        }
+        Family::Other => Ok(silent()),
+    }
+}
+
+/// Reads the parts of a node at a stage, and judges it with what its place wants.
+fn with_parts(
+    alloc: Global,
+    u: &Subject,
+    s: &State,
+    stage: Stage,
+    block: usize,
+    at: NodeRef,
+    node: &Node,
+    w: Wanted,
+) -> Result<Step, NoMemory>
+    requires scene { IsScene u.now s.now }
+    requires wanted { IsWantedOf s.now w }
+    ensures is { IfOk result (λ step. step_in s.now step ≡ tell (so_far s.now) (with_parts (unit_of u.now) stage block at node.now (wanted_of s.now w))) }
+    ensures over { IfOk result (IsStepOf s.now) }
+{
+    let reads = node_reads(alloc, u.nodes_at(at.file), node)?;
+    let found = parts(alloc, u, s, stage, block, &reads)?;
+    match found {
+        Found::Is(list) => {
+            let step = judge_by(alloc, u, s, family(node.kind), block, at, node, &list, w)?;
+            Ok(step)
+        }
+        Found::Wait(item) => Ok(Step::Waits(item)),
+    }
+}
+
+/// A node before a type is wanted of it.
+pub fn before(
+    alloc: Global,
+    u: &Subject,
+    s: &State,
+    block: usize,
+    at: NodeRef,
+    node: &Node,
+) -> Result<Step, NoMemory>
+    requires { IsScene u.now s.now }
+    ensures is { IfOk result (λ step. step_in s.now step ≡ tell (so_far s.now) (before_by (family node.now.kind) (unit_of u.now) block at node.now)) }
+    ensures over { IfOk result (IsStepOf s.now) }
+{
+    let nothing = Wanted {
+        demand: Demand::Nothing,
+        want: Want::Free,
+    };
+    match family(node.kind) {
+        Family::Operand => {
+            let step = with_parts(alloc, u, s, Stage::Before, block, at, node, nothing)?;
+            Ok(step)
+        }
+        Family::Type => {
+            let step = with_parts(alloc, u, s, Stage::Before, block, at, node, nothing)?;
+            Ok(step)
+        }
+        Family::Declaration => Ok(silent()),
+        Family::Other => Ok(silent()),
+    }
+}
+
+/// A node of which that is wanted what its place wants.
+pub fn judged(
+    alloc: Global,
+    u: &Subject,
+    s: &State,
+    block: usize,
+    at: NodeRef,
+    node: &Node,
+) -> Result<Step, NoMemory>
+    requires { IsScene u.now s.now }
+    ensures is { IfOk result (λ step. step_in s.now step ≡ tell (so_far s.now) (judged_rule (unit_of u.now) block at node.now)) }
+    ensures over { IfOk result (IsStepOf s.now) }
+{
+    match look(u, s, Stage::Wanted, block, at.node) {
+        Found::Is(m) => {
+            let w = wanted_by(s, m);
+            let step = with_parts(alloc, u, s, Stage::Placed, block, at, node, w)?;
+            Ok(step)
+        }
+        Found::Wait(item) => Ok(Step::Waits(item)),
+    }
+}
+
+fn placed_after(u: &Subject, s: &State, block: usize, at: NodeRef, j: Mark) -> Step
+    requires scene { IsScene u.now s.now }
+    requires mark { IsMarkOf s.now j }
+    ensures is { step_in s.now result ≡ tell (so_far s.now) (placed_after (unit_of u.now) block at (said s.now j)) }
+    ensures over { IsStepOf s.now result }
+{
+    match look(u, s, Stage::Wanted, block, at.node) {
+        Found::Is(m) => judge_placed(u, s, wanted_by(s, m), j),
+        Found::Wait(item) => Step::Waits(item),
+    }
+}
+
+/// A node once its place has tested it.
+pub fn placed(u: &Subject, s: &State, block: usize, at: NodeRef) -> Step
+    requires { IsScene u.now s.now }
+    ensures is { step_in s.now result ≡ tell (so_far s.now) (placed_in (unit_of u.now) block at) }
+    ensures over { IsStepOf s.now result }
+{
+    match look(u, s, Stage::Judged, block, at.node) {
+        Found::Is(m) => placed_after(u, s, block, at, m),
+        Found::Wait(item) => Step::Waits(item),
+    }
+}
+
+fn want_by(
+    u: &Subject,
+    s: &State,
+    by: Family,
+    block: usize,
+    p: Place,
+    around: &Node,
+) -> Found<Mark, Item>
+    requires { IsScene u.now s.now }
+    ensures is { told_by (said s.now) result ≡ tell (so_far s.now) (wants_by by (unit_of u.now) block p around.now) }
+    ensures over { IfFound result (IsMarkOf s.now) }
+{
+    match by {
+        Family::Operand => want_op(u, s, block, p, around),
+        Family::Type => want_decl(u, s, block, p, around),
+        Family::Declaration => want_decl(u, s, block, p, around),
+        Family::Other => Found::Is(Mark::Wants(Demand::Nothing, Want::Free)),
+    }
+}
+
+fn wanted_mark(s: &State, m: Mark) -> Step
+    requires { IsMarkOf s.now m }
+    ensures is { step_in s.now result ≡ tell (so_far s.now) (wished (said s.now m)) }
+    ensures over { IsStepOf s.now result }
+{
+    let w = wanted_by(s, m);
+    Step::Says(Answer::Mark(Mark::Wants(w.demand, w.want)))
+}
+
+fn wants_of(u: &Subject, s: &State, block: usize, p: Place, around: &Node) -> Step
+    requires { IsScene u.now s.now }
+    ensures is { step_in s.now result ≡ tell (so_far s.now) (wants_of (unit_of u.now) block p around.now) }
+    ensures over { IsStepOf s.now result }
+{
+    match want_by(u, s, family(around.kind), block, p, around) {
+        Found::Is(m) => wanted_mark(s, m),
+        Found::Wait(item) => Step::Waits(item),
+    }
+}
+
+fn wants_at(u: &Subject, s: &State, block: usize, at: NodeRef, p: Place) -> Step
+    requires { IsScene u.now s.now }
+    ensures is { step_in s.now result ≡ tell (so_far s.now) (wants_at (unit_of u.now) block at p) }
+    ensures over { IsStepOf s.now result }
+{
+    let whole = NodeRef {
+        file: at.file,
+        node: p.around,
+    };
+    match u.node_at(whole) {
+        Some(around) => wants_of(u, s, block, p, around),
+        None => silent(),
+    }
+}
+
+/// What the place of a node wants.
+pub fn wanted(u: &Subject, s: &State, block: usize, at: NodeRef) -> Step
+    requires { IsScene u.now s.now }
+    ensures is { step_in s.now result ≡ tell (so_far s.now) (wanted_rule (unit_of u.now) block at) }
+    ensures over { IsStepOf s.now result }
+{
+    match u.place_at(at) {
+        Some(p) => wants_at(u, s, block, at, p),
+        None => silent(),
+    }
+}
