@@ -1,28 +1,38 @@
 -- One step: an item is marked by its rule, or its rule waits for another.
-use Rattle.std.proofs.Common.{◌≡◌, List, Option, None, Some, refl, sym, subst}
+use Rattle.std.proofs.Common.{◌≡◌, List, Bool, true, false, Option, None, Some, refl, sym, ap, ◌∙◌, subst, inl}
 use Rattle.mark_walk.specs.Asks.{Gives, Awaits, Adds, Stays}
 use Rattle.mark_walk.specs.Marking.{Steps}
-use Rattle.mark_walk.specs.Telling.{tell}
+use Rattle.mark_walk.specs.Telling.{Outcome, tell}
 use Rattle.mark_walk.proofs.AskLaws.{awaited_none}
 use Rattle.mark_walk.proofs.TellLaws.{yields_gives, expects_awaits}
+use Rattle.rel_growth.specs.Compare.{EnoughToCompare, NeedsToCompare, SaysComparable}
+use Rattle.type_growth.specs.Growth.{Grows, IsDeclared}
+use Rattle.type_growth.proofs.GrowthLaws.{meets_grows}
+use Rattle.type_model.specs.declared.term.TypeName.{TypeName}
+use Rattle.type_model.specs.Declarations.{Declaration, Declarations, Meets}
+use Rattle.type_model.specs.GoTypes.{GoType}
+use Rattle.type_model.specs.Tables.{declarations_in}
+use Rattle.type_questions.specs.declared.reached.Found.{Found}
+use Rattle.type_questions.specs.declared.reached.Found.TheVariants as f
+use Rattle.type_questions.specs.declared.reached.Reached.{Reached}
+use Rattle.type_questions.specs.declared.reached.Reached.TheVariants.{Got, Lost}
+use Rattle.type_questions.specs.Over.{declared, says_over}
+use Rattle.type_questions.specs.Questions.{Question, Told, IsComparable, Holds}
 use Rattle.typed_marks.specs.declared.item.Item.{Item}
 use Rattle.typed_marks.specs.declared.item.Block.{Block}
 use Rattle.typed_marks.specs.declared.state.State.{State}
 use Rattle.typed_marks.specs.Items.{IsItem}
-use Rattle.typed_marks.specs.Meanings.{Meaning}
+use Rattle.typed_marks.specs.Meanings.{Meaning, Quiet, Declares}
 use Rattle.typed_marks.specs.States.{so_far}
 use Rattle.typed_marks.proofs.CellLemmas.{unmarked_item}
 use Rattle.unit_read.specs.declared.subject.Subject.{Subject}
-use Rattle.unit_read.specs.Units.{Unit}
+use Rattle.unit_read.specs.Units.{Unit, base_of}
 use Rattle.unit_read.specs.Subjects.{unit_of}
-use Rattle.rule_words.specs.Asking.{Rule}
-use Rattle.rule_words.specs.declared.answer.Answer.{Answer}
-use Rattle.rule_words.specs.declared.step.Step.{Step}
-use Rattle.rule_words.specs.Answers.{answer_in}
-use Rattle.rule_words.specs.Steps.{step_in}
+use Rattle.rule_words.specs.Asking.{Rule, type_item, declaration_told}
+use Rattle.rule_words.specs.Scenes.{IsScene}
 use Rattle.elaborate.specs.Walks.{says_of, pends_of, item_rule, IsItemOf, answers_last}
 use Rattle.elaborate.specs.Elaborated.{IsAtWork}
-use Rattle.elaborate.specs.Settling.{YieldsAt, ExpectsAt}
+use Rattle.elaborate.specs.Settling.{StepsBy, IsWholeBy, is_got}
 use Rattle.elaborate.proofs.WalkLemmas.{rule_of_item}
 
 -- what has no mark is an item
@@ -30,18 +40,43 @@ item_at : (s : State) (i : Item) → so_far s i ≡ None → IsItem s.blocks.ite
 unfolding so_far
 item_at s i none = unmarked_item s.table s.constants.items s.blocks.items s.cells.items i none
 
-module _ (rule : Unit → Item → Rule) (u : Subject) (s : State) (i : Item) (is : IsItemOf (unit_of u) i) (step : Step) (told : step_in s step ≡ tell (so_far s) (rule (unit_of u) i)) where
-  pub step_gives : (given : Answer) → YieldsAt u s step (answer_in s given) → Gives (says_of (unit_of u)) (so_far s) (item_rule rule (unit_of u) i) (answer_in s given)
-  step_gives given yields = subst (λ (r : Rule). Gives (says_of (unit_of u)) (so_far s) r (answer_in s given)) (sym (rule_of_item rule (unit_of u) i is))
-      (yields_gives (says_of (unit_of u)) (so_far s) (rule (unit_of u) i) (step_in s step) (answer_in s given) (sym told) yields)
+-- by how far its rule goes, so by its rule
+pub steps_by : (rule : Unit → Item → Rule) (u : Subject) (s next : State) (i : Item) (waits : Option Item) → IsItemOf (unit_of u) i → IsAtWork u s
+    → StepsBy u s next i (tell (so_far s) (rule (unit_of u) i)) waits
+    → Steps (says_of (unit_of u)) (pends_of (unit_of u)) (IsItemOf (unit_of u)) (item_rule rule (unit_of u)) (so_far s) (so_far next) i waits
+steps_by rule u s next i None is work (m, yields, adds) =
+    (m, subst (λ (r : Rule). Gives (says_of (unit_of u)) (so_far s) r m) (sym (rule_of_item rule (unit_of u) i is))
+      (yields_gives (says_of (unit_of u)) (so_far s) (rule (unit_of u) i) (tell (so_far s) (rule (unit_of u) i)) m refl yields), adds)
+steps_by rule u s next i (Some j) is work (expects, stays) =
+    let awaits : Awaits (says_of (unit_of u)) (pends_of (unit_of u)) (so_far s) (item_rule rule (unit_of u) i) j =
+    subst (λ (r : Rule). Awaits (says_of (unit_of u)) (pends_of (unit_of u)) (so_far s) r j) (sym (rule_of_item rule (unit_of u) i is))
+      (expects_awaits (says_of (unit_of u)) (pends_of (unit_of u)) (so_far s) (rule (unit_of u) i) (tell (so_far s) (rule (unit_of u) i)) j refl expects) in
+    let none = awaited_none (says_of (unit_of u)) (pends_of (unit_of u)) (answers_last (unit_of u)) (so_far s) (item_rule rule (unit_of u) i) j awaits in
+    (subst (λ (blocks : List Block). IsItem blocks j) work.blocks (item_at s j none), awaits, stays)
 
-  step_awaits : (other : Item) → ExpectsAt u s step other → Awaits (says_of (unit_of u)) (pends_of (unit_of u)) (so_far s) (item_rule rule (unit_of u) i) other
-  step_awaits other expects = subst (λ (r : Rule). Awaits (says_of (unit_of u)) (pends_of (unit_of u)) (so_far s) r other) (sym (rule_of_item rule (unit_of u) i is))
-      (expects_awaits (says_of (unit_of u)) (pends_of (unit_of u)) (so_far s) (rule (unit_of u) i) (step_in s step) other (sym told) expects)
+pub stays_itself : (s : State) → Stays (so_far s) (so_far s)
+stays_itself s = record { stays = λ j n e. e; only = λ j n e. e }
 
-  pub step_waits : IsAtWork u s → (other : Item) → ExpectsAt u s step other
-      → Steps (says_of (unit_of u)) (pends_of (unit_of u)) (IsItemOf (unit_of u)) (item_rule rule (unit_of u)) (so_far s) (so_far s) i (Some other)
-  step_waits work other expects =
-      let awaits = step_awaits other expects in
-      let none = awaited_none (says_of (unit_of u)) (pends_of (unit_of u)) (answers_last (unit_of u)) (so_far s) (item_rule rule (unit_of u) i) other awaits in
-      (subst (λ (blocks : List Block). IsItem blocks other) work.blocks (item_at s other none), awaits, record { stays = λ j n e. e; only = λ j n e. e })
+pub outcome_same : (u : Subject) (s next : State) (i : Item) (one other : Outcome Item Meaning Question Told Meaning) (waits : Option Item) → one ≡ other
+    → StepsBy u s next i one waits → StepsBy u s next i other waits
+outcome_same u s next i one other waits same steps = subst (λ (o : Outcome Item Meaning Question Told Meaning). StepsBy u s next i o waits) same steps
+
+-- ---- whether all is declared that a type holds
+
+pub whole_by : (u : Subject) (s : State) (of : GoType) (reached : Reached Bool) → says_of (unit_of u) (so_far s) (IsComparable of) (Holds reached) → IsWholeBy u s of (f.Is (is_got reached))
+whole_by u s of (Got b) says = (b, says)
+whole_by u s of Lost says = says
+
+-- a table that declares just that declares enough
+pub enough : (u : Subject) (s : State) (of : GoType) → IsScene u s → (b : Bool) → says_of (unit_of u) (so_far s) (IsComparable of) (Holds (Got b)) → EnoughToCompare (declarations_in s.table) of
+enough u s of scene b (x, same, over) = by x same over where
+  ds : Declarations
+  ds = declared (base_of (unit_of u)) (type_item (unit_of u)) declaration_told (so_far s)
+
+  grows : Grows (declarations_in s.table) ds
+  grows name d e = sym (scene.step name) ∙ e
+
+  by : (x : Reached Bool) → Holds (Got b) ≡ Holds x → says_over (base_of (unit_of u)) (type_item (unit_of u)) declaration_told EnoughToCompare NeedsToCompare SaysComparable (so_far s) of x
+      → EnoughToCompare (declarations_in s.table) of
+  by (Got c) e (all, says) o meets = let is = all o (meets_grows (declarations_in s.table) ds o of grows meets) in (is.0, scene.step o ∙ is.1)
+  by Lost e over = absurd cc

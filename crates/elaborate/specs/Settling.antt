@@ -1,5 +1,6 @@
 -- Questions that are answered, in code.
-use Rattle.std.specs.Prelude.{◌≡◌, ◌+◌, ℕ, List, Option}
+use Rattle.std.specs.Prelude.{◌≡◌, ◌+◌, ℕ, Bool, true, false, List, Option, Some, None}
+use Rattle.mark_walk.specs.Asks.{Adds, Stays}
 use Rattle.mark_walk.specs.Telling.{Outcome, Yields, Expects}
 use Rattle.typed_marks.specs.declared.item.Item.{Item}
 use Rattle.typed_marks.specs.declared.state.State.{State}
@@ -10,7 +11,7 @@ use Rattle.rule_words.specs.Scenes.{type_in}
 use Rattle.typed_marks.specs.States.{so_far}
 use Rattle.std.specs.Global.{Vec}
 use Rattle.type_model.specs.declared.term.Method.{Method}
-use Rattle.type_model.specs.GoTypes.{MethodsBelow, methods_of}
+use Rattle.type_model.specs.GoTypes.{GoType, MethodsBelow, methods_of}
 use Rattle.type_model.specs.Tables.{types_in, count}
 use Rattle.method_sets.specs.Replies.{listed_in}
 use Rattle.type_questions.specs.declared.reached.Reached.{Reached}
@@ -18,7 +19,7 @@ use Rattle.type_questions.specs.declared.reached.Reached.TheVariants.{Got, Lost}
 use Rattle.type_questions.specs.Judging.{seen_as}
 use Rattle.type_questions.specs.declared.reached.Found.{Found}
 use Rattle.type_questions.specs.declared.reached.Found.TheVariants as f
-use Rattle.type_questions.specs.Questions.{Question, AssignableTo, Told, Holds, Listing}
+use Rattle.type_questions.specs.Questions.{Question, AssignableTo, IsComparable, Told, Holds, Listing}
 use Rattle.unit_read.specs.declared.subject.Subject.{Subject}
 use Rattle.unit_read.specs.Subjects.{unit_of}
 use Rattle.rule_words.specs.declared.answer.Answer.{Answer}
@@ -96,3 +97,18 @@ abbrev pub outcome_of : Step → Found Answer Item
 outcome_of (step.Says given) = f.Is given
 outcome_of (step.Waits item) = f.Wait item
 outcome_of (step.Puts asked rest) = f.Is (answer.Mark Silent)
+
+-- One step of marking, by how far the item's rule goes: the item is marked, or its rule waits for another.
+abbrev pub StepsBy : Subject → State → State → Item → Outcome Item Meaning Question Told Meaning → Option Item → Type 0
+StepsBy u s next i outcome None = (m : Meaning) × Yields (says_of (unit_of u)) (so_far s) outcome m × Adds (so_far s) (so_far next) i m
+StepsBy u s next i outcome (Some j) = Expects (says_of (unit_of u)) (pends_of (unit_of u)) (so_far s) outcome j × Stays (so_far s) (so_far next)
+
+abbrev pub is_got : Reached Bool → Bool
+is_got (Got b) = true
+is_got Lost = false
+
+-- whether all is declared that a type holds: an answer to the question whether its values may be compared, or an item for which that waits
+abbrev pub IsWholeBy : Subject → State → GoType → Found Bool Item → Type 0
+IsWholeBy u s of (f.Is true) = (b : Bool) × says_of (unit_of u) (so_far s) (IsComparable of) (Holds (Got b))
+IsWholeBy u s of (f.Is false) = says_of (unit_of u) (so_far s) (IsComparable of) (Holds Lost)
+IsWholeBy u s of (f.Wait item) = pends_of (unit_of u) (so_far s) (IsComparable of) item

@@ -1,9 +1,11 @@
 -- A package as what is walked over: its items, their numbers, and what is answered to questions about types.
-use Rattle.std.specs.Prelude.{◌≡◌, ℕ, List, Bool, if◌then◌else◌, Option}
+use Rattle.std.specs.Prelude.{◌≡◌, ℕ, List, Bool, true, false, if◌then◌else◌, Option}
 use Rattle.mark_walk.specs.Asks.{done, Lasting}
 use Rattle.mark_walk.specs.Marking.{AreNumbers}
 use Rattle.typed_marks.specs.declared.item.Item.{Item}
 use Rattle.typed_marks.specs.declared.item.Block.{Block}
+use Rattle.typed_marks.specs.declared.item.Stage.{Stage}
+use Rattle.typed_marks.specs.declared.item.Stage.TheVariants as s
 use Rattle.typed_marks.specs.Items.{is_item, IsItem, number_of}
 use Rattle.typed_marks.specs.Meanings.{Meaning, Quiet}
 use Rattle.typed_marks.specs.States.{laid, room}
@@ -42,6 +44,15 @@ pends_of u so_far q i = pends (base_of u) (type_item u) declaration_told so_far 
 
 pub answers_last : (u : Unit) → Lasting (says_of u) (pends_of u)
 answers_last u = questions_last (base_of u) (type_item u) declaration_told
+
+-- the item says what a type is declared with
+abbrev pub is_declaring : Stage → Bool
+is_declaring s.Before = false
+is_declaring s.Wanted = false
+is_declaring s.Judged = false
+is_declaring s.Placed = false
+is_declaring s.Object = false
+is_declaring s.Under = true
 
 -- the rule of an item; nothing is said of what is none
 abbrev pub item_rule : (Unit → Item → Rule) → Unit → Item → Rule

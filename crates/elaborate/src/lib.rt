@@ -6,6 +6,7 @@ mod questions;
 mod rules;
 mod scene;
 mod settling;
+mod steps;
 mod whole;
 mod work;
 

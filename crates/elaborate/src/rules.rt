@@ -1,5 +1,5 @@
 //! The rules by which items are marked.
-ghost use Rattle.std.specs.Prelude.{◌≡◌, IfOk};
+ghost use Rattle.std.specs.Prelude.{◌≡◌, true, false, IfOk};
 ghost use Rattle.mark_walk.specs.Telling.{tell};
 ghost use Rattle.typed_marks.specs.declared.item.Item.{Item as AnItem};
 ghost use Rattle.typed_marks.specs.Items.{IsItem};
@@ -9,9 +9,11 @@ ghost use Rattle.unit_read.specs.Subjects.{unit_of};
 ghost use Rattle.rule_words.specs.Asking.{Rule};
 ghost use Rattle.rule_words.specs.Scenes.{IsScene};
 ghost use Rattle.rule_words.specs.Steps.{step_in, IsStepOf};
+ghost use Rattle.rule_words.specs.Declaring.{declaring_in, IsDeclaringAt};
+ghost use Rattle.elaborate.specs.Walks.{is_declaring};
 
 use gv_base::NoMemory;
-use rule_words::Step;
+use rule_words::{Declaring, Step};
 use std::alloc::Global;
 use typed_marks::{Item, State};
 use unit_read::Subject;
@@ -21,10 +23,25 @@ pub trait Rules {
     /// The rule of each item of a package.
     ghost rule: { Unit → AnItem → Rule };
 
-    /// How far the rule of an item goes over the marks so far.
+    /// How far the rule of an item goes over the marks so far, of one that declares no type.
     fn judge(&self, alloc: Global, u: &Subject, s: &State, item: Item) -> Result<Step, NoMemory>
         requires scene { IsScene u.now s.now }
         requires item { IsItem s.now.blocks.items item }
+        requires stage { is_declaring item.stage ≡ false }
         ensures is { IfOk result (λ step. step_in s.now step ≡ tell (so_far s.now) (rule (unit_of u.now) item)) }
         ensures over { IfOk result (IsStepOf s.now) };
+
+    /// How far the rule goes that says what a type is declared with.
+    fn declare(
+        &self,
+        alloc: Global,
+        u: &Subject,
+        s: &State,
+        item: Item,
+    ) -> Result<Declaring, NoMemory>
+        requires scene { IsScene u.now s.now }
+        requires item { IsItem s.now.blocks.items item }
+        requires stage { is_declaring item.stage ≡ true }
+        ensures is { IfOk result (λ declaring. declaring_in s.now declaring ≡ tell (so_far s.now) (rule (unit_of u.now) item)) }
+        ensures over { IfOk result (IsDeclaringAt (unit_of u.now) s.now item) };
 }

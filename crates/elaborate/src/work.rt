@@ -6,17 +6,15 @@ ghost use Rattle.type_questions.specs.Questions.{Question, Told};
 ghost use Rattle.unit_read.specs.Units.{Unit};
 ghost use Rattle.unit_read.specs.Subjects.{unit_of};
 ghost use Rattle.mark_walk.specs.Marking.{Steps};
-ghost use Rattle.elaborate.specs.Walks.{IsItemOf, count_of, number_in, own_numbers, says_of, pends_of, answers_last, item_rule};
+ghost use Rattle.elaborate.specs.Walks.{IsItemOf, count_of, number_in, own_numbers, says_of, pends_of, answers_last, item_rule, is_declaring};
 ghost use Rattle.elaborate.specs.Elaborated.{IsAtWork};
 
 use crate::rules::Rules;
-use crate::settling::settle;
+use crate::steps::{declare_by, judge_by};
 use gv_base::NoMemory;
 use mark_walk::Marking;
-use rule_words::keep;
 use std::alloc::Global;
-use type_questions::Found;
-use typed_marks::{Item, State, number_of};
+use typed_marks::{Item, Stage, State, number_of};
 use unit_read::Subject;
 
 /// A package that is being marked.
@@ -26,6 +24,19 @@ pub struct Work<'a, R: Rules> {
     pub rules: &'a R,
     pub subject: &'a Subject<'a>,
     pub state: State,
+}
+
+fn is_declaring(stage: Stage) -> bool
+    ensures { result ≡ is_declaring stage }
+{
+    match stage {
+        Stage::Before => false,
+        Stage::Wanted => false,
+        Stage::Judged => false,
+        Stage::Placed => false,
+        Stage::Object => false,
+        Stage::Under => true,
+    }
 }
 
 /// Marks an item by its rule, or answers the item for which the rule waits.
@@ -42,14 +53,12 @@ fn step<R: Rules>(
     ensures work { OnOk result (IsAtWork u.now s.new) }
     ensures steps { IfOk result (Steps (says_of (unit_of u.now)) (pends_of (unit_of u.now)) (IsItemOf (unit_of u.now)) (item_rule R.rule (unit_of u.now)) (so_far s.old) (so_far s.new) item) }
 {
-    let step = rules.judge(alloc, u, s, item)?;
-    let found = settle(alloc, u, s, step)?;
-    match found {
-        Found::Wait(other) => Ok(Some(other)),
-        Found::Is(answer) => {
-            keep(u, s, item, answer)?;
-            Ok(None)
-        }
+    if is_declaring(item.stage) {
+        let waits = declare_by(alloc, rules, u, s, item)?;
+        Ok(waits)
+    } else {
+        let waits = judge_by(alloc, rules, u, s, item)?;
+        Ok(waits)
     }
 }
 

@@ -68,7 +68,7 @@ below k.UntypedRune = omega arith
 below k.UntypedText = omega arith
 below k.UntypedNil = omega arith
 
-grown_basics : (old new : TypeTable) → HasBasics old → IsTable new → Extends (terms_in old) (terms_in new) → HasBasics new
+pub grown_basics : (old new : TypeTable) → HasBasics old → IsTable new → Extends (terms_in old) (terms_in new) → HasBasics new
 grown_basics old new has table extends = record {
   table = table;
   basic = λ kind. (extends (number_of_kind kind) (let low = below kind in let many : error_number < count old = has.many in omega arith)).1 ∙ has.basic kind;

@@ -1,3 +1,4 @@
+pub mod DeclareLemmas
 mod KeepLemmas
 pub mod PartLemmas
 pub mod SceneLemmas

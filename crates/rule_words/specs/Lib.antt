@@ -1,5 +1,6 @@
 pub mod Answers
 pub mod Asking
+pub mod Declaring
 pub mod Parts
 pub mod Putting
 pub mod Scenes

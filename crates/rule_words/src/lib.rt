@@ -2,6 +2,7 @@
 #![tactic(auto)]
 
 mod answer;
+mod declaring;
 mod keeping;
 mod marks;
 mod read;
@@ -12,6 +13,7 @@ mod under;
 mod wanted;
 
 pub use answer::Answer;
+pub use declaring::{Declaring, declare};
 pub use keeping::keep;
 pub use marks::look;
 pub use read::{How, Read};
