@@ -56,6 +56,6 @@ pub record IsDeclaration (u : Unit) (s : State) (i : Item) (of under : TypeId) (
   pub below : MethodsBelow (count s.table) methods
 
 abbrev pub IsDeclaringAt : Unit → State → Item → Declaring → Type 0
-IsDeclaringAt u s i d.Nothing = Unit {0}
-IsDeclaringAt u s i (d.Waits item) = Unit {0}
+IsDeclaringAt u s i d.Nothing = Prim.Unit {0}
+IsDeclaringAt u s i (d.Waits item) = Prim.Unit {0}
 IsDeclaringAt u s i (d.With of under methods) = IsDeclaration u s i of under methods.items
