@@ -1,7 +1,8 @@
 -- How the items of a package come to be marked, one after the other.
-use Rattle.std.proofs.Common.{◌≡◌, ◌⊎◌, ℕ, ◌<◌, ◌+◌, ◌-◌, Bool, true, false, if◌then◌else◌, List, length, Option, Some, None, slice_get, refl, sym, ap, ◌∙◌, subst, inl, inr, arith}
+use Rattle.std.proofs.Common.{◌≡◌, ◌⊎◌, ℕ, ◌<◌, ◌≤◌, ◌+◌, ◌-◌, ◌&&◌, nat_le, nat_lt, Bool, true, false, if◌then◌else◌, List, length, Option, Some, None, slice_get, refl, sym, ap, ◌∙◌, subst, inl, inr, arith}
 use Rattle.std.specs.Option.{option_map_or}
 use Rattle.std.proofs.lemmas.Option.{slice_get_within}
+use Rattle.std.proofs.lemmas.Bool.{le-leb, lt-ltb}
 use Rattle.gv_base.proofs.Lists.{same_some}
 use Rattle.mark_walk.specs.Asks.{done, IsMarked, Sound, IsFirst, AreAllMarked, IsTheAnnotation, filled}
 use Rattle.mark_walk.specs.declared.walk.Walk.{Walk}
@@ -81,39 +82,49 @@ next_stage block n k x stage is all one other low = elim (less_or_last (stage_nu
 pub all_stages : (block n k : ℕ) (x : Item → Option Meaning) → k ≡ 6 → AreStagesMarked block n k x → IsNodeMarked block n x
 all_stages block n k x is all stage = all stage (subst (λ (m : ℕ). stage_number stage < m) (sym is) (stage_low stage))
 
-pub next_node : (block low k : ℕ) (x : Item → Option Meaning) → AreNodesMarked block low k x → IsNodeMarked block (low + k) x → AreNodesMarked block low (k + 1) x
-next_node block low k x all one j is = elim (less_or_last j k is) [
-  | inl less ↦ all j less
-  | inr last ↦ subst (λ (m : ℕ). IsNodeMarked block (low + m) x) (sym last) one
+pub next_node : (block low n : ℕ) (x : Item → Option Meaning) → AreNodesMarked block low n x → IsNodeMarked block n x → AreNodesMarked block low (n + 1) x
+next_node block low n x all one m from before = elim (less_or_last m n before) [
+  | inl less ↦ all m from less
+  | inr last ↦ subst (λ (k : ℕ). IsNodeMarked block k x) (sym last) one
 ]
 
-pub nodes_in : (u : Unit) (number k : ℕ) (block : Block) → slice_get (blocks_of u) number ≡ Some block → k < block.size → IsNodeOf u number (block.low + k)
-nodes_in u number k block at low stage = ap (λ (o : Option Block). option_map_or (is_in (block.low + k)) o false) at ∙ within where
-  within : is_in (block.low + k) block ≡ true
-  within = grind (arith, low)
+-- as many as there are
+pub nodes_all : (block low n until : ℕ) (x : Item → Option Meaning) → until ≤ n → AreNodesMarked block low n x → AreNodesMarked block low until x
+nodes_all block low n until x enough all m from before = all m from (omega arith)
 
-node_of : (u : Unit) (x : Item → Option Meaning) (i : Item) (block : Block) → slice_get (blocks_of u) i.block ≡ Some block → AreNodesMarked i.block block.low block.size x → IsItemOf u i → IsMarked x i
+both_hold : (a b : Bool) → a ≡ true → b ≡ true → (a && b) ≡ true
+both_hold true b one other = other
+both_hold false b one other = absurd cc
+
+pub nodes_in : (u : Unit) (number n : ℕ) (block : Block) → slice_get (blocks_of u) number ≡ Some block → block.low ≤ n → n < block.end → IsNodeOf u number n
+nodes_in u number n block at from before stage = ap (λ (o : Option Block). option_map_or (is_in n) o false) at ∙ both_hold (nat_le block.low n) (nat_lt n block.end) (le-leb block.low n from) (lt-ltb n block.end before)
+
+node_of : (u : Unit) (x : Item → Option Meaning) (i : Item) (block : Block) → slice_get (blocks_of u) i.block ≡ Some block → AreNodesMarked i.block block.low block.end x → IsItemOf u i → IsMarked x i
 node_of u x i block at all is =
     let found = block_of (blocks_of u) i is in
     let same = same_some (slice_get (blocks_of u) i.block) found.0 block found.1 at in
-    let where_at = in_is i.node block (subst (λ (b : Block). is_in i.node b ≡ true) same found.2) in
-    subst (λ (n : ℕ). IsMarked x (item i.stage i.block n)) (sym where_at.2) (all where_at.0 where_at.1 i.stage)
+    let place = in_is i.node block (subst (λ (b : Block). is_in i.node b ≡ true) same found.2) in
+    all i.node (let here = place.2 in omega arith) (let here = place.2 in let low = place.1 in omega arith) i.stage
 
-pub next_block : (u : Unit) (k : ℕ) (block : Block) (x : Item → Option Meaning) → slice_get (blocks_of u) k ≡ Some block → AreBlocksMarked u k x → AreNodesMarked k block.low block.size x
+pub next_block : (u : Unit) (k : ℕ) (block : Block) (x : Item → Option Meaning) → slice_get (blocks_of u) k ≡ Some block → AreBlocksMarked u k x → AreNodesMarked k block.low block.end x
     → AreBlocksMarked u (k + 1) x
 next_block u k block x at all one i low is = elim (less_or_last i.block k low) [
   | inl less ↦ all i less is
-  | inr last ↦ node_of u x i block (ap (slice_get (blocks_of u)) last ∙ at) (subst (λ (b : ℕ). AreNodesMarked b block.low block.size x) (sym last) one) is
+  | inr last ↦ node_of u x i block (ap (slice_get (blocks_of u)) last ∙ at) (subst (λ (b : ℕ). AreNodesMarked b block.low block.end x) (sym last) one) is
 ]
 
 pub no_stage : (block n : ℕ) (x : Item → Option Meaning) → AreStagesMarked block n 0 x
-no_stage block n x stage low = absurd (omega (arith, low))
+no_stage block n x stage low = absurd (omega arith)
 
-pub no_node : (block low : ℕ) (x : Item → Option Meaning) → AreNodesMarked block low 0 x
-no_node block low x k is = absurd (omega (arith, is))
+pub no_node : (block low : ℕ) (x : Item → Option Meaning) → AreNodesMarked block low low x
+no_node block low x n from before = absurd (omega arith)
+
+-- as many as there are
+pub blocks_all : (u : Unit) (k count : ℕ) (x : Item → Option Meaning) → count ≤ k → AreBlocksMarked u k x → AreBlocksMarked u count x
+blocks_all u k count x enough all i low is = all i (omega arith) is
 
 pub no_block : (u : Unit) (x : Item → Option Meaning) → AreBlocksMarked u 0 x
-no_block u x i low = absurd (omega (arith, low))
+no_block u x i low = absurd (omega arith)
 
 -- ---- all of it
 

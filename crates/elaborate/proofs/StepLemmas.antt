@@ -78,5 +78,5 @@ enough u s of scene b (x, same, over) = by x same over where
 
   by : (x : Reached Bool) → Holds (Got b) ≡ Holds x → says_over (base_of (unit_of u)) (type_item (unit_of u)) declaration_told EnoughToCompare NeedsToCompare SaysComparable (so_far s) of x
       → EnoughToCompare (declarations_in s.table) of
-  by (Got c) e (all, says) o meets = let is = all o (meets_grows (declarations_in s.table) ds o of grows meets) in (is.0, scene.step o ∙ is.1)
+  by (Got c) e over = λ o meets. (let is = over.0 o (meets_grows (declarations_in s.table) ds o of grows meets) in (is.0, scene.step o ∙ is.1))
   by Lost e over = absurd cc

@@ -93,8 +93,8 @@ ended_as rule u s walk One Other circle turn ended = record {
 pub stages_still : (block n count : ℕ) (x y : Item → Option Meaning) → Keeps x y → AreStagesMarked block n count x → AreStagesMarked block n count y
 stages_still block n count x y keeps all stage low = marked_still x y (item stage block n) keeps (all stage low)
 
-pub nodes_still : (block low count : ℕ) (x y : Item → Option Meaning) → Keeps x y → AreNodesMarked block low count x → AreNodesMarked block low count y
-nodes_still block low count x y keeps all k is stage = marked_still x y (item stage block (low + k)) keeps (all k is stage)
+pub nodes_still : (block low until : ℕ) (x y : Item → Option Meaning) → Keeps x y → AreNodesMarked block low until x → AreNodesMarked block low until y
+nodes_still block low until x y keeps all n from before stage = marked_still x y (item stage block n) keeps (all n from before stage)
 
 pub blocks_still : (u : Unit) (count : ℕ) (x y : Item → Option Meaning) → Keeps x y → AreBlocksMarked u count x → AreBlocksMarked u count y
 blocks_still u count x y keeps all i low is = marked_still x y i keeps (all i low is)

@@ -1,5 +1,5 @@
 -- From one state of a package that is being marked to another.
-use Rattle.std.specs.Prelude.{◌≡◌, ◌<◌, ◌+◌, ℕ, Option, None}
+use Rattle.std.specs.Prelude.{◌≡◌, ◌<◌, ◌≤◌, ℕ, Option, None}
 use Rattle.mark_walk.specs.Asks.{Awaits, IsMarked}
 use Rattle.mark_walk.specs.Marking.{Goes}
 use Rattle.mark_walk.specs.Waiting.{Rests, IsCircle}
@@ -49,9 +49,9 @@ AreStagesMarked block n count so_far = (stage : Stage) → stage_number stage < 
 abbrev pub IsNodeMarked : ℕ → ℕ → (Item → Option Meaning) → Type 0
 IsNodeMarked block n so_far = (stage : Stage) → IsMarked so_far (item stage block n)
 
--- the first nodes of a block
+-- the nodes from one on and before another
 abbrev pub AreNodesMarked : ℕ → ℕ → ℕ → (Item → Option Meaning) → Type 0
-AreNodesMarked block low count so_far = (k : ℕ) → k < count → IsNodeMarked block (low + k) so_far
+AreNodesMarked block low until so_far = (n : ℕ) → low ≤ n → n < until → IsNodeMarked block n so_far
 
 -- the items of the first blocks
 abbrev pub AreBlocksMarked : Unit → ℕ → (Item → Option Meaning) → Type 0

@@ -104,10 +104,10 @@ fn mark_block<R: Rules>(
     requires block { slice_get (blocks_of (unit_of work.old.subject.now)) number ≡ Some block }
     requires rests { IsAtRest (unit_of work.old.subject.now) work.old.state walk.old }
     ensures went { OnOk result (Went R.rule work.old.subject.now work.new.subject.now work.old.state work.new.state) }
-    ensures ended { IfOk result (Ended R.rule (unit_of work.old.subject.now) work.new.state walk.new (AreNodesMarked number block.low block.size)) }
+    ensures ended { IfOk result (Ended R.rule (unit_of work.old.subject.now) work.new.state walk.new (AreNodesMarked number block.low block.end)) }
 {
-    for k in 0..block.size {
-        let circle = mark_node(walk, work, number, block.low + k)?;
+    for node in block.low..block.end {
+        let circle = mark_node(walk, work, number, node)?;
         if let Some(other) = circle {
             return Ok(Some(other));
         }

@@ -33,7 +33,7 @@ abbrev pub item : Stage → ℕ → ℕ → Item
 item stage block node = record { stage = stage; block = block; node = node }
 
 abbrev pub is_within : Span → ℕ → Bool
-is_within span n = nat_le span.low n && nat_lt (n - span.low) span.size
+is_within span n = nat_le span.low n && nat_lt n span.end
 
 -- there is such a node in the passage of the block
 abbrev pub stands : Unit → ℕ → ℕ → Bool

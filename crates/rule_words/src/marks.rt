@@ -13,7 +13,7 @@ use unit_read::Subject;
 fn is_within(span: Span, n: usize) -> bool
     ensures { result ≡ is_within span n }
 {
-    span.low <= n && n - span.low < span.size
+    span.low <= n && n < span.end
 }
 
 /// Whether there is such a node in the passage of a block.

@@ -1,5 +1,5 @@
 -- Cells: none is filled, one is.
-use Rattle.std.proofs.Common.{◌≡◌, ◌⊎◌, ℕ, zero, suc, ◌+◌, ◌*◌, ◌≤◌, take, ◌<◌, Bool, true, false, List, [], ◌∷◌, ◌++◌, length, set, slice_get, Option, Some, None, option_map, option_and_then, if◌then◌else◌, refl, sym, ap, ◌∙◌, subst, inl, inr, arith}
+use Rattle.std.proofs.Common.{◌≡◌, ◌⊎◌, ℕ, zero, suc, ◌+◌, ◌-◌, ◌*◌, ◌≤◌, take, ◌<◌, Bool, true, false, List, [], ◌∷◌, ◌++◌, length, set, slice_get, Option, Some, None, option_map, option_and_then, if◌then◌else◌, refl, sym, ap, ◌∙◌, subst, inl, inr, arith}
 use Rattle.gv_base.specs.declared.constant.Const.{Const}
 use Rattle.gv_base.proofs.Lists.{push_cases, get_set_same, get_set_other, same_some}
 use Rattle.mark_walk.specs.Asks.{Adds, Stays}
@@ -112,15 +112,15 @@ module _ (t : TypeTable) (constants : List Const) (blocks : List Block) (cells :
 
 -- ---- blocks that are laid one after the other
 
-pub room_on : (xs : List Span) (x : Span) → room (xs ++ x ∷ []) ≡ room xs + 6 * x.size
+pub room_on : (xs : List Span) (x : Span) → room (xs ++ x ∷ []) ≡ room xs + 6 * (x.end - x.low)
 room_on [] x = omega arith
-room_on (y ∷ xs) x = let rest : room (xs ++ x ∷ []) ≡ room xs + 6 * x.size = room_on xs x in omega arith
+room_on (y ∷ xs) x = let rest : room (xs ++ x ∷ []) ≡ room xs + 6 * (x.end - x.low) = room_on xs x in omega arith
 
 pub laid_on : (n : ℕ) (xs : List Span) (x : Span) → laid n (xs ++ x ∷ []) ≡ laid n xs ++ block_of x (n + room xs) ∷ []
 laid_on n [] x = ap (λ k. block_of x k ∷ []) (omega arith)
 laid_on n (y ∷ xs) x =
-    let start : (n + 6 * y.size) + room xs ≡ n + (6 * y.size + room xs) = omega arith in
-    ap (λ l. block_of y n ∷ l) (laid_on (n + 6 * y.size) xs x ∙ ap (λ k. laid (n + 6 * y.size) xs ++ block_of x k ∷ []) start)
+    let start : (n + 6 * (y.end - y.low)) + room xs ≡ n + (6 * (y.end - y.low) + room xs) = omega arith in
+    ap (λ l. block_of y n ∷ l) (laid_on (n + 6 * (y.end - y.low)) xs x ∙ ap (λ k. laid (n + 6 * (y.end - y.low)) xs ++ block_of x k ∷ []) start)
 
 -- blocks from the first number on
 pub laid_last : (xs : List Span) (x : Span) → laid 0 (xs ++ x ∷ []) ≡ laid 0 xs ++ block_of x (room xs) ∷ []

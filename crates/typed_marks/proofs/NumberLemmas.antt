@@ -40,12 +40,12 @@ both true b e = (refl, e)
 both false b e = absurd cc
 
 -- a node of a block comes at some place from its first on
-pub in_is : (n : ℕ) (b : Block) → is_in n b ≡ true → (k : ℕ) × (k < b.size) × (n ≡ b.low + k) × (n - b.low ≡ k)
+pub in_is : (n : ℕ) (b : Block) → is_in n b ≡ true → (k : ℕ) × (k < b.end - b.low) × (n ≡ b.low + k) × (n - b.low ≡ k)
 in_is n b e =
-    let parts = both (nat_le b.low n) (nat_lt (n - b.low) b.size) e in
+    let parts = both (nat_le b.low n) (nat_lt n b.end) e in
     let first : b.low ≤ n = leb-true b.low n parts.0 in
-    let second : n - b.low < b.size = ltb-true (n - b.low) b.size parts.1 in
-    (n - b.low, second, omega arith, refl)
+    let second : n < b.end = ltb-true n b.end parts.1 in
+    (n - b.low, omega arith, omega arith, refl)
 
 -- the block of an item
 pub block_of : (blocks : List Block) (i : Item) → IsItem blocks i → (b : Block) × (slice_get blocks i.block ≡ Some b) × (is_in i.node b ≡ true)
@@ -58,7 +58,7 @@ pub number_is : (blocks : List Block) (i : Item) (b : Block) → slice_get block
 number_is blocks i b at = ap (λ o. option_map_or (number_in i.stage i.node) o 0) at
 
 -- the number of an item lies in its block
-pub number_low : (b : Block) (x : Stage) (n : ℕ) → is_in n b ≡ true → (b.start ≤ number_in x n b) × (number_in x n b < b.start + 6 * b.size)
+pub number_low : (b : Block) (x : Stage) (n : ℕ) → is_in n b ≡ true → (b.start ≤ number_in x n b) × (number_in x n b < b.start + 6 * (b.end - b.low))
 number_low b x n is =
     let (k, low, at, less) = in_is n b is in
     let few = stage_low x in
@@ -131,25 +131,25 @@ no_blocks blocks count bare = record {
   apart = λ j k a b less at also. absurd (let none = ap (λ (xs : List Block). slice_get xs j) bare in cc);
 }
 
-pub block_more : (blocks new : List Block) (b : Block) (count more : ℕ) → AreBlocks blocks count → new ≡ blocks ++ b ∷ [] → b.start ≡ count → more ≡ count + 6 * b.size → AreBlocks new more
+pub block_more : (blocks new : List Block) (b : Block) (count more : ℕ) → AreBlocks blocks count → new ≡ blocks ++ b ∷ [] → b.start ≡ count → more ≡ count + 6 * (b.end - b.low) → AreBlocks new more
 block_more blocks new b count more are is start end = record { within = within; apart = apart } where
   at_new : (k : ℕ) (x : Block) → slice_get new k ≡ Some x → (slice_get blocks k ≡ Some x) ⊎ ((k ≡ length blocks) × (b ≡ x))
   at_new k x at = push_cases blocks b x k (ap (λ (xs : List Block). slice_get xs k) (sym is) ∙ at)
 
-  within : (k : ℕ) (x : Block) → slice_get new k ≡ Some x → x.start + 6 * x.size ≤ more
+  within : (k : ℕ) (x : Block) → slice_get new k ≡ Some x → x.start + 6 * (x.end - x.low) ≤ more
   within k x at = elim (at_new k x at) [
     | inl old ↦ (let low = are.within k x old in omega arith)
-    | inr (last, same) ↦ subst (λ (y : Block). y.start + 6 * y.size ≤ more) same (omega arith)
+    | inr (last, same) ↦ subst (λ (y : Block). y.start + 6 * (y.end - y.low) ≤ more) same (omega arith)
   ]
 
-  apart : (j k : ℕ) (x y : Block) → j < k → slice_get new j ≡ Some x → slice_get new k ≡ Some y → x.start + 6 * x.size ≤ y.start
+  apart : (j k : ℕ) (x y : Block) → j < k → slice_get new j ≡ Some x → slice_get new k ≡ Some y → x.start + 6 * (x.end - x.low) ≤ y.start
   apart j k x y less at also = elim (at_new k y also) [
     | inl old ↦ elim (at_new j x at) [
       | inl first ↦ are.apart j k x y less first old
       | inr (last, same) ↦ absurd (let low = slice_get_within blocks k y old in omega arith)
     ]
     | inr (last, same) ↦ elim (at_new j x at) [
-      | inl first ↦ subst (λ (z : Block). x.start + 6 * x.size ≤ z.start) same (let low = are.within j x first in omega arith)
+      | inl first ↦ subst (λ (z : Block). x.start + 6 * (x.end - x.low) ≤ z.start) same (let low = are.within j x first in omega arith)
       | inr (first, also_same) ↦ absurd (omega arith)
     ]
   ]
@@ -159,21 +159,21 @@ block_more blocks new b count more are is start end = record { within = within; 
 laid_low : (n : ℕ) (spans : List Span) (k : ℕ) (b : Block) → slice_get (laid n spans) k ≡ Some b → n ≤ b.start
 laid_low n [] k b e = absurd cc
 laid_low n (s ∷ spans) zero b e = let same : block_from s n ≡ b = cc in subst (λ (x : Block). n ≤ x.start) same (omega arith)
-laid_low n (s ∷ spans) (suc k) b e = let low : n + 6 * s.size ≤ b.start = laid_low (n + 6 * s.size) spans k b e in omega arith
+laid_low n (s ∷ spans) (suc k) b e = let low : n + 6 * (s.end - s.low) ≤ b.start = laid_low (n + 6 * (s.end - s.low)) spans k b e in omega arith
 
-laid_within : (n : ℕ) (spans : List Span) (k : ℕ) (b : Block) → slice_get (laid n spans) k ≡ Some b → b.start + 6 * b.size ≤ n + room spans
+laid_within : (n : ℕ) (spans : List Span) (k : ℕ) (b : Block) → slice_get (laid n spans) k ≡ Some b → b.start + 6 * (b.end - b.low) ≤ n + room spans
 laid_within n [] k b e = absurd cc
 laid_within n (s ∷ spans) zero b e =
-    let same : block_from s n ≡ b = cc in subst (λ (x : Block). x.start + 6 * x.size ≤ n + (6 * s.size + room spans)) same (omega arith)
-laid_within n (s ∷ spans) (suc k) b e = let low : b.start + 6 * b.size ≤ (n + 6 * s.size) + room spans = laid_within (n + 6 * s.size) spans k b e in omega arith
+    let same : block_from s n ≡ b = cc in subst (λ (x : Block). x.start + 6 * (x.end - x.low) ≤ n + (6 * (s.end - s.low) + room spans)) same (omega arith)
+laid_within n (s ∷ spans) (suc k) b e = let low : b.start + 6 * (b.end - b.low) ≤ (n + 6 * (s.end - s.low)) + room spans = laid_within (n + 6 * (s.end - s.low)) spans k b e in omega arith
 
 laid_apart : (n : ℕ) (spans : List Span) (j k : ℕ) (a b : Block) → j < k → slice_get (laid n spans) j ≡ Some a → slice_get (laid n spans) k ≡ Some b
-    → a.start + 6 * a.size ≤ b.start
+    → a.start + 6 * (a.end - a.low) ≤ b.start
 laid_apart n [] j k a b low e f = absurd cc
 laid_apart n (s ∷ spans) j zero a b low e f = absurd (omega arith)
 laid_apart n (s ∷ spans) zero (suc k) a b low e f =
-    let same : block_from s n ≡ a = cc in subst (λ (x : Block). x.start + 6 * x.size ≤ b.start) same (laid_low (n + 6 * s.size) spans k b f)
-laid_apart n (s ∷ spans) (suc j) (suc k) a b low e f = laid_apart (n + 6 * s.size) spans j k a b (omega arith) e f
+    let same : block_from s n ≡ a = cc in subst (λ (x : Block). x.start + 6 * (x.end - x.low) ≤ b.start) same (laid_low (n + 6 * (s.end - s.low)) spans k b f)
+laid_apart n (s ∷ spans) (suc j) (suc k) a b low e f = laid_apart (n + 6 * (s.end - s.low)) spans j k a b (omega arith) e f
 
 pub laid_blocks : (spans : List Span) → AreBlocks (laid 0 spans) (room spans)
-laid_blocks spans = record { within = λ k b e. (let low : b.start + 6 * b.size ≤ 0 + room spans = laid_within 0 spans k b e in omega arith); apart = laid_apart 0 spans }
+laid_blocks spans = record { within = λ k b e. (let low : b.start + 6 * (b.end - b.low) ≤ 0 + room spans = laid_within 0 spans k b e in omega arith); apart = laid_apart 0 spans }

@@ -8,7 +8,7 @@ use Rattle.typed_marks.specs.declared.item.Block.{Block}
 
 -- the node is one of the block's
 abbrev pub is_in : ℕ → Block → Bool
-is_in n b = nat_le b.low n && nat_lt (n - b.low) b.size
+is_in n b = nat_le b.low n && nat_lt n b.end
 
 -- there is such a node
 abbrev pub is_item : List Block → Item → Bool
@@ -34,5 +34,5 @@ number_of blocks i = option_map_or (number_in i.stage i.node) (slice_get blocks 
 
 -- the items of blocks have the numbers below the count, each its own
 pub record AreBlocks (blocks : List Block) (count : ℕ) : Type 0 where
-  pub within : (k : ℕ) (b : Block) → slice_get blocks k ≡ Some b → b.start + 6 * b.size ≤ count
-  pub apart : (j k : ℕ) (a b : Block) → j < k → slice_get blocks j ≡ Some a → slice_get blocks k ≡ Some b → a.start + 6 * a.size ≤ b.start
+  pub within : (k : ℕ) (b : Block) → slice_get blocks k ≡ Some b → b.start + 6 * (b.end - b.low) ≤ count
+  pub apart : (j k : ℕ) (a b : Block) → j < k → slice_get blocks j ≡ Some a → slice_get blocks k ≡ Some b → a.start + 6 * (a.end - a.low) ≤ b.start

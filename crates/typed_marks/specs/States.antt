@@ -1,5 +1,5 @@
 -- The marks so far.
-use Rattle.std.specs.Prelude.{◌≡◌, ℕ, ◌+◌, ◌*◌, List, [], ◌∷◌, length, ◌++◌, Option, Some, None, option_map, option_and_then, slice_get, if◌then◌else◌}
+use Rattle.std.specs.Prelude.{◌≡◌, ℕ, ◌+◌, ◌-◌, ◌*◌, List, [], ◌∷◌, length, ◌++◌, Option, Some, None, option_map, option_and_then, slice_get, if◌then◌else◌}
 use Rattle.gv_base.specs.declared.constant.Const.{Const}
 use Rattle.type_model.specs.declared.table.TypeTable.{TypeTable}
 use Rattle.type_model.specs.declared.term.TypeName.{TypeName}
@@ -42,17 +42,17 @@ abbrev pub AllNone : List (Option Mark) → Type 0
 AllNone cells = (n : ℕ) → cell cells n ≡ None
 
 abbrev pub block_of : Span → ℕ → Block
-block_of span start = record { low = span.low; size = span.size; start = start }
+block_of span start = record { low = span.low; end = span.end; start = start }
 
 -- how many items the nodes of these spans have
 abbrev pub room : List Span → ℕ
 room [] = 0
-room (span ∷ spans) = 6 * span.size + room spans
+room (span ∷ spans) = 6 * (span.end - span.low) + room spans
 
 -- blocks of these spans, one after the other from a number on
 abbrev pub laid : ℕ → List Span → List Block
 laid start [] = []
-laid start (span ∷ spans) = block_of span start ∷ laid (start + 6 * span.size) spans
+laid start (span ∷ spans) = block_of span start ∷ laid (start + 6 * (span.end - span.low)) spans
 
 -- ---- growing
 

@@ -26,17 +26,17 @@ pub struct Item {
 }
 
 /// Nodes that are read as one: those of a file, or those of a constant list as a specification repeats it (Go 1.17, "Constant
-/// declarations"). They have the numbers from `low` on in their file; `start` is the number of the block's first item.
+/// declarations"). They have the numbers from `low` on and before `end` in their file; `start` is the number of the block's first item.
 #[derive(Clone, Copy, Debug, PartialEq, Eq, Drop)]
 pub struct Block {
     pub low: usize,
-    pub size: usize,
+    pub end: usize,
     pub start: usize,
 }
 
-/// The nodes of a block: so many, from this one on.
+/// The nodes of a block: from this one on, before that.
 #[derive(Clone, Copy, Debug, PartialEq, Eq, Drop)]
 pub struct Span {
     pub low: usize,
-    pub size: usize,
+    pub end: usize,
 }

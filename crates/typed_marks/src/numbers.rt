@@ -1,5 +1,5 @@
 //! Items by number.
-ghost use Rattle.std.specs.Prelude.{◌≡◌, ◌<◌, ◌≤◌, ◌+◌, ◌*◌, true, slice_get, length};
+ghost use Rattle.std.specs.Prelude.{◌≡◌, ◌<◌, ◌≤◌, ◌+◌, ◌-◌, ◌*◌, true, slice_get, length};
 ghost use Rattle.typed_marks.specs.Items.{is_in, is_item, IsItem, stage_number, number_in, number_of, AreBlocks};
 
 use crate::item::{Block, Item, Stage};
@@ -7,7 +7,7 @@ use crate::item::{Block, Item, Stage};
 fn is_in(node: usize, block: Block) -> bool
     ensures { result ≡ is_in node block }
 {
-    block.low <= node && node - block.low < block.size
+    block.low <= node && node < block.end
 }
 
 fn block_at(blocks: &[Block], block: usize) -> Option<Block>
@@ -40,7 +40,7 @@ fn stage_number(stage: Stage) -> usize
 }
 
 fn number_in(stage: Stage, node: usize, block: Block, count: usize) -> usize
-    requires within { block.start + 6 * block.size ≤ count }
+    requires within { block.start + 6 * (block.end - block.low) ≤ count }
     requires is { is_in node block ≡ true }
     ensures number { result ≡ number_in stage node block }
     ensures low { result < count }

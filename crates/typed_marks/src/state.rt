@@ -1,5 +1,5 @@
 //! The marks so far, with the types and constants that stand in them.
-ghost use Rattle.std.specs.Prelude.{◌≡◌, ◌<◌, ◌≤◌, ◌+◌, ◌*◌, ◌++◌, ◌∷◌, [], ℕ, Some, None, false, length, map, option_map, set, slice_get, IfOk, IfSome, OnOk, IsTrue, ◌↔◌};
+ghost use Rattle.std.specs.Prelude.{◌≡◌, ◌<◌, ◌≤◌, ◌+◌, ◌-◌, ◌*◌, ◌++◌, ◌∷◌, [], ℕ, Some, None, false, length, map, option_map, set, slice_get, IfOk, IfSome, OnOk, IsTrue, ◌↔◌};
 ghost use Rattle.gv_base.specs.declared.constant.Const.{Const};
 ghost use Rattle.mark_walk.specs.Asks.{Adds, Stays, IsMarked};
 ghost use Rattle.type_model.specs.GoTypes.{IsOver, MethodsBelow, DefinedType, is_defined, nodes, type_at, type_of};
@@ -72,14 +72,14 @@ fn add_block(
     requires blocks { AreBlocks blocks.old.items (length cells.old.items) }
     ensures blocks { OnOk result (AreBlocks blocks.new.items (length cells.new.items)) }
     ensures block { OnOk result (blocks.new.items ≡ blocks.old.items ++ block_of span (length cells.old.items) ∷ []) }
-    ensures cells { OnOk result (length cells.new.items ≡ length cells.old.items + 6 * span.size) }
+    ensures cells { OnOk result (length cells.new.items ≡ length cells.old.items + 6 * (span.end - span.low)) }
     ensures none { OnOk result (AllNone cells.old.items → AllNone cells.new.items) }
 {
     let start = cells.len();
-    add_cells(cells, span.size)?;
+    add_cells(cells, span.end.saturating_sub(span.low))?;
     blocks.push(Block {
         low: span.low,
-        size: span.size,
+        end: span.end,
         start,
     })?;
     Ok(())

@@ -13,7 +13,7 @@ use Rattle.unit_read.specs.declared.passage.Passage.{Passage}
 -- ---- files
 
 abbrev pub file_passage : ℕ → FileTree → Passage
-file_passage file tree = record { file = file; spec = None; span = record { low = 0; size = length tree.nodes } }
+file_passage file tree = record { file = file; spec = None; span = record { low = 0; end = length tree.nodes } }
 
 abbrev pub nth_file : List FileTree → ℕ → List Passage
 nth_file trees file = option_map_or (λ (tree : FileTree). file_passage file tree ∷ []) (slice_get trees file) []
@@ -22,7 +22,7 @@ nth_file trees file = option_map_or (λ (tree : FileTree). file_passage file tre
 
 -- the nodes after one and before another
 abbrev pub span_between : ℕ → ℕ → Span
-span_between n end = record { low = suc n; size = end - suc n }
+span_between n until = record { low = suc n; end = until }
 
 abbrev pub span_behind : ℕ → Option ℕ → List Span
 span_behind end None = []

@@ -31,7 +31,7 @@ fn add_span(
             spec: Some(spec),
             span: Span {
                 low,
-                size: (end as usize).saturating_sub(low),
+                end: end as usize,
             },
         })?;
     }
@@ -139,7 +139,7 @@ fn add_file(trees: &[FileTree], file: u32, out: &mut Vec<Passage>) -> Result<(),
             spec: None,
             span: Span {
                 low: 0,
-                size: tree.nodes.as_slice().len(),
+                end: tree.nodes.as_slice().len(),
             },
         })?;
     }

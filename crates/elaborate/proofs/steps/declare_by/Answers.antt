@@ -9,8 +9,8 @@ use Rattle.rule_words.specs.Declaring.{declaring_in, IsDeclaringAt}
 use Rattle.elaborate.proofs.StepLemmas.{stays_itself, outcome_same}
 use Rattle.elaborate.proofs.steps.declare_by.Goals as goal
 
-pub returns-in-Nothing-clause-steps : goal.returns-in-Nothing-clause-steps
-returns-in-Nothing-clause-steps g c =
+pub returns-in_ok-leave-in-Nothing-clause-steps : goal.returns-in_ok-leave-in-Nothing-clause-steps
+returns-in_ok-leave-in-Nothing-clause-steps g c =
     let u = c.args.u.now in
     let s = c.args.s.now in
     outcome_same u s c.leave.new.s c.args.item (declaring_in s d.Nothing) (tell (so_far s) (g.R.Rules.rule (unit_of u) c.args.item)) None
@@ -23,13 +23,13 @@ returns-in-Waits-clause-steps g c =
     outcome_same u s s c.args.item (declaring_in s (d.Waits c.in-Waits.other)) (tell (so_far s) (g.R.Rules.rule (unit_of u) c.args.item)) (Some c.in-Waits.other)
     (sym (ap (declaring_in s) c.in-Waits.is) ∙ c.in_ok-declaring.ensures.is) (refl, stays_itself s)
 
-pub declare_with-requires-in-With-clause-is : goal.declare_with-requires-in-With-clause-is
-declare_with-requires-in-With-clause-is g c =
+pub declare_with-requires-clause-is : goal.declare_with-requires-clause-is
+declare_with-requires-clause-is g c =
     subst (IsDeclaringAt (unit_of c.args.u.now) c.args.s.now c.args.item) c.in-With.is c.in_ok-declaring.ensures.over
 
-pub returns-in-With-clause-steps : goal.returns-in-With-clause-steps
-returns-in-With-clause-steps g c =
+pub returns-in_ok-waits-in-With-clause-steps : goal.returns-in_ok-waits-in-With-clause-steps
+returns-in_ok-waits-in-With-clause-steps g c =
     let u = c.args.u.now in
     let s = c.args.s.now in
-    outcome_same u s c.declare_with.new.s c.args.item (declaring_in s (d.With c.in-With.of c.in-With.under c.in-With.methods)) (tell (so_far s) (g.R.Rules.rule (unit_of u) c.args.item)) c.in_ok-waits.waits
-    (sym (ap (declaring_in s) c.in-With.is) ∙ c.in_ok-declaring.ensures.is) c.in_ok-waits.ensures.steps
+    outcome_same u s c.declare_with.new.s c.args.item (declaring_in s (d.With c.in-With.of c.in-With.under c.in-With.methods)) (tell (so_far s) (g.R.Rules.rule (unit_of u) c.args.item)) c.in_ok-waits-in-With.waits
+    (sym (ap (declaring_in s) c.in-With.is) ∙ c.in_ok-declaring.ensures.is) c.in_ok-waits-in-With.ensures.steps

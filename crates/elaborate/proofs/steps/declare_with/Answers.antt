@@ -29,29 +29,20 @@ declare-requires-clause-whole c =
     let is = subst (λ (b : Bool). IsWholeBy u s of (f.Is b)) c.if-whole.true found in
     enough u s of c.requires.work.scene is.0 is.1
 
-pub returns-then-whole-clause-work : goal.returns-then-whole-clause-work
-returns-then-whole-clause-work c =
-    let kept = c.in_ok-declare.ensures in
-    record {
-      scene = kept.scene;
-      blocks = ap (λ (blocks : Vec Block). blocks.items) kept.blocks ∙ c.requires.work.blocks;
-      cells = kept.cells ∙ c.requires.work.cells;
-    }
-
-pub returns-then-whole-clause-steps : goal.returns-then-whole-clause-steps
-returns-then-whole-clause-steps c =
+pub returns-in_ok-declare-in-Is-clause-steps : goal.returns-in_ok-declare-in-Is-clause-steps
+returns-in_ok-declare-in-Is-clause-steps c =
     let u = c.args.u.now in
     let s = c.args.s.now in
     let of = type_in s c.args.under in
     let found = subst (IsWholeBy u s of) c.in-Is.is c.in_ok-found.ensures in
     let is = subst (λ (b : Bool). IsWholeBy u s of (f.Is b)) c.if-whole.true found in
-    (Declares (declaration_in s c.args.under c.args.methods.items), (Holds (Got is.0), is.1, refl), c.in_ok-declare.ensures.adds)
+    (Declares (declaration_in s c.args.under c.args.methods.items), (Holds (Got is.0), is.1, refl), c.in_ok-declare-in-Is.ensures.adds)
 
-pub returns-else-whole-clause-steps : goal.returns-else-whole-clause-steps
-returns-else-whole-clause-steps c =
+pub returns-in_ok-leave-in-Is-clause-steps : goal.returns-in_ok-leave-in-Is-clause-steps
+returns-in_ok-leave-in-Is-clause-steps c =
     let u = c.args.u.now in
     let s = c.args.s.now in
     let of = type_in s c.args.under in
     let found = subst (IsWholeBy u s of) c.in-Is.is c.in_ok-found.ensures in
     let is = subst (λ (b : Bool). IsWholeBy u s of (f.Is b)) c.if-whole.false found in
-    (Quiet, (Holds Lost, is, refl), c.in_ok-leave.ensures.adds)
+    (Quiet, (Holds Lost, is, refl), c.in_ok-leave-in-Is.ensures.adds)

@@ -16,8 +16,8 @@ returns-in-Some g c =
     (scene_for u next.subject.now next.state made.went.unit c.requires.read made.went.work.scene,
       in_circle rule u next.subject.now s next.state made.went sound c.in-Some.item (subst (IsCircleAt rule (unit_of u) next.state) c.in-Some.is made.ended.waits))
 
-pub returns-in-None : goal.returns-in-None
-returns-in-None g c =
+pub returns : goal.returns
+returns g c =
     let rule = g.R.Rules.rule in
     let u = c.args.u.now in
     let s = c.in_ok-state.state in

@@ -1,13 +1,13 @@
-use Rattle.std.proofs.Common.{◌+◌}
+use Rattle.std.proofs.Common.{arith}
 use Rattle.typed_marks.specs.States.{so_far}
 use Rattle.unit_read.specs.Subjects.{unit_of}
 use Rattle.elaborate.specs.Covering.{IsNodeMarked, AreNodesMarked}
 use Rattle.elaborate.proofs.WalkLemmas.{went_itself, went_then, nodes_still}
-use Rattle.elaborate.proofs.CoverLemmas.{rest_at, rest_from, node_at, nodes_in, early, ended_well, next_node, no_node}
+use Rattle.elaborate.proofs.CoverLemmas.{rest_at, rest_from, node_at, nodes_in, early, ended_well, next_node, nodes_all, no_node}
 use Rattle.elaborate.proofs.whole.mark_block.Goals as goal
 
-pub loop-k-init : goal.loop-k-init
-loop-k-init g c =
+pub loop-node-init : goal.loop-node-init
+loop-node-init g c =
     let work = c.args.work.now in
     record {
       went = went_itself g.R.Rules.rule work.subject.now work.state c.requires.work;
@@ -16,47 +16,47 @@ loop-k-init g c =
     }
 
 pub mark_node-requires-clause-work : goal.mark_node-requires-clause-work
-mark_node-requires-clause-work g c = c.loop-k.invariant.went.work
+mark_node-requires-clause-work g c = c.loop-node.invariant.went.work
 
 pub mark_node-requires-clause-node : goal.mark_node-requires-clause-node
 mark_node-requires-clause-node g c =
     let u = unit_of c.args.work.now.subject.now in
-    node_at u (unit_of c.loop-k.work.subject.now) c.args.number (c.args.block.low + c.loop-k.k) c.loop-k.invariant.went.unit
-    (nodes_in u c.args.number c.loop-k.k c.args.block c.requires.block c.loop-k-test.true)
+    node_at u (unit_of c.loop-node.work.subject.now) c.args.number c.loop-node.node c.loop-node.invariant.went.unit
+    (nodes_in u c.args.number c.loop-node.node c.args.block c.requires.block (omega arith) (omega arith))
 
 pub mark_node-requires-clause-rests : goal.mark_node-requires-clause-rests
 mark_node-requires-clause-rests g c =
-    rest_at (unit_of c.args.work.now.subject.now) (unit_of c.loop-k.work.subject.now) c.loop-k.work.state c.loop-k.walk c.loop-k.invariant.went.unit c.loop-k.invariant.rests
+    rest_at (unit_of c.args.work.now.subject.now) (unit_of c.loop-node.work.subject.now) c.loop-node.work.state c.loop-node.walk c.loop-node.invariant.went.unit c.loop-node.invariant.rests
 
-pub loop-k-preserved : goal.loop-k-preserved
-loop-k-preserved g c =
+pub loop-node-preserved : goal.loop-node-preserved
+loop-node-preserved g c =
     let rule = g.R.Rules.rule in
     let before = c.args.work.now in
-    let now = c.loop-k.work in
+    let now = c.loop-node.work in
     let next = c.mark_node.new.work in
-    let was = c.loop-k.invariant in
+    let was = c.loop-node.invariant in
     let made = c.in_ok-circle.ensures in
     record {
       went = went_then rule before.subject.now now.subject.now next.subject.now before.state now.state next.state was.went made.went;
-      rests = rest_from (unit_of before.subject.now) (unit_of now.subject.now) next.state c.mark_node.new.walk was.went.unit (made.ended.rests c.in-None-circle.is);
-      marked = next_node c.args.number c.args.block.low c.loop-k.k (so_far next.state)
-          (nodes_still c.args.number c.args.block.low c.loop-k.k (so_far now.state) (so_far next.state) made.went.goes.keeps was.marked) (made.ended.marked c.in-None-circle.is);
+      rests = rest_from (unit_of before.subject.now) (unit_of now.subject.now) next.state c.mark_node.new.walk was.went.unit (made.ended.rests c.in_default.is);
+      marked = next_node c.args.number c.args.block.low c.loop-node.node (so_far next.state)
+          (nodes_still c.args.number c.args.block.low c.loop-node.node (so_far now.state) (so_far next.state) made.went.goes.keeps was.marked) (made.ended.marked c.in_default.is);
     }
 
-pub returns-in-Some-circle-clause-went : goal.returns-in-Some-circle-clause-went
-returns-in-Some-circle-clause-went g c =
+pub returns-in-Some-clause-went : goal.returns-in-Some-clause-went
+returns-in-Some-clause-went g c =
     let before = c.args.work.now in
-    let now = c.loop-k.work in
+    let now = c.loop-node.work in
     let next = c.mark_node.new.work in
-    went_then g.R.Rules.rule before.subject.now now.subject.now next.subject.now before.state now.state next.state c.loop-k.invariant.went c.in_ok-circle.ensures.went
+    went_then g.R.Rules.rule before.subject.now now.subject.now next.subject.now before.state now.state next.state c.loop-node.invariant.went c.in_ok-circle.ensures.went
 
-pub returns-in-Some-circle-clause-ended : goal.returns-in-Some-circle-clause-ended
-returns-in-Some-circle-clause-ended g c =
-    early g.R.Rules.rule (unit_of c.args.work.now.subject.now) (unit_of c.loop-k.work.subject.now) c.mark_node.new.work.state c.mark_node.new.walk
-    (IsNodeMarked c.args.number (c.args.block.low + c.loop-k.k)) (AreNodesMarked c.args.number c.args.block.low c.args.block.size) c.in_ok-circle.circle c.in-Some-circle.other c.loop-k.invariant.went.unit c.in-Some-circle.is c.in_ok-circle.ensures.ended
+pub returns-in-Some-clause-ended : goal.returns-in-Some-clause-ended
+returns-in-Some-clause-ended g c =
+    early g.R.Rules.rule (unit_of c.args.work.now.subject.now) (unit_of c.loop-node.work.subject.now) c.mark_node.new.work.state c.mark_node.new.walk
+    (IsNodeMarked c.args.number c.loop-node.node) (AreNodesMarked c.args.number c.args.block.low c.args.block.end) c.in_ok-circle.circle c.in-Some.other c.loop-node.invariant.went.unit c.in-Some.is c.in_ok-circle.ensures.ended
 
 pub returns-clause-ended : goal.returns-clause-ended
 returns-clause-ended g c =
-    let now = c.loop-k.work in
-    ended_well g.R.Rules.rule (unit_of c.args.work.now.subject.now) now.state c.loop-k.walk (AreNodesMarked c.args.number c.args.block.low c.args.block.size) c.loop-k.invariant.rests
-    c.loop-k.invariant.marked
+    let now = c.loop-node.work in
+    ended_well g.R.Rules.rule (unit_of c.args.work.now.subject.now) now.state c.loop-node.walk (AreNodesMarked c.args.number c.args.block.low c.args.block.end) c.loop-node.invariant.rests
+    (nodes_all c.args.number c.args.block.low c.loop-node.node c.args.block.end (so_far now.state) (omega arith) c.loop-node.invariant.marked)

@@ -3,9 +3,9 @@ use Rattle.unit_read.specs.Subjects.{unit_of}
 use Rattle.elaborate.specs.Covering.{Went, IsAtRest, AreNodesMarked}
 use Rattle.elaborate.proofs.whole.mark_block.Given as goal
 
-abbrev pub invariant-loop-k : goal.invariant-loop-k
-invariant-loop-k g l = record {
+abbrev pub invariant-loop-node : goal.invariant-loop-node
+invariant-loop-node g l = record {
   went : Went g.R.Rules.rule l.fn.work.subject.now l.work.subject.now l.fn.work.state l.work.state;
   rests : IsAtRest (unit_of l.fn.work.subject.now) l.work.state l.walk;
-  marked : AreNodesMarked l.number l.block.low l.k (so_far l.work.state);
+  marked : AreNodesMarked l.number l.block.low l.node (so_far l.work.state);
 }

@@ -1,3 +1,4 @@
+use Rattle.std.proofs.Common.{refl}
 use Rattle.typed_marks.specs.States.{so_far}
 use Rattle.unit_read.specs.Subjects.{unit_of}
 use Rattle.rule_words.specs.Asking.{item}
@@ -37,22 +38,22 @@ loop-number-preserved g c =
     let made = c.in_ok-circle.ensures in
     record {
       went = went_then rule before.subject.now now.subject.now next.subject.now before.state now.state next.state was.went made.went;
-      rests = rest_from (unit_of before.subject.now) (unit_of now.subject.now) next.state c.mark_one.new.walk was.went.unit (made.ended.rests c.in-None-circle.is);
+      rests = rest_from (unit_of before.subject.now) (unit_of now.subject.now) next.state c.mark_one.new.walk was.went.unit (made.ended.rests c.in_default.is);
       marked = next_stage c.args.block c.args.node c.loop-number.number (so_far next.state) c.stage_of.result c.stage_of.ensures
-          (stages_still c.args.block c.args.node c.loop-number.number (so_far now.state) (so_far next.state) made.went.goes.keeps was.marked) (made.ended.marked c.in-None-circle.is);
+          (stages_still c.args.block c.args.node c.loop-number.number (so_far now.state) (so_far next.state) made.went.goes.keeps was.marked) (made.ended.marked c.in_default.is);
     }
 
-pub returns-in-Some-circle-clause-went : goal.returns-in-Some-circle-clause-went
-returns-in-Some-circle-clause-went g c =
+pub returns-in-Some-clause-went : goal.returns-in-Some-clause-went
+returns-in-Some-clause-went g c =
     let before = c.args.work.now in
     let now = c.loop-number.work in
     let next = c.mark_one.new.work in
     went_then g.R.Rules.rule before.subject.now now.subject.now next.subject.now before.state now.state next.state c.loop-number.invariant.went c.in_ok-circle.ensures.went
 
-pub returns-in-Some-circle-clause-ended : goal.returns-in-Some-circle-clause-ended
-returns-in-Some-circle-clause-ended g c =
+pub returns-in-Some-clause-ended : goal.returns-in-Some-clause-ended
+returns-in-Some-clause-ended g c =
     early g.R.Rules.rule (unit_of c.args.work.now.subject.now) (unit_of c.loop-number.work.subject.now) c.mark_one.new.work.state c.mark_one.new.walk
-    (λ marks. IsMarked marks (item c.stage_of.result c.args.block c.args.node)) (IsNodeMarked c.args.block c.args.node) c.in_ok-circle.circle c.in-Some-circle.other c.loop-number.invariant.went.unit c.in-Some-circle.is c.in_ok-circle.ensures.ended
+    (λ marks. IsMarked marks (item c.stage_of.result c.args.block c.args.node)) (IsNodeMarked c.args.block c.args.node) c.in_ok-circle.circle c.in-Some.other c.loop-number.invariant.went.unit c.in-Some.is c.in_ok-circle.ensures.ended
 
 pub returns-clause-ended : goal.returns-clause-ended
 returns-clause-ended g c =

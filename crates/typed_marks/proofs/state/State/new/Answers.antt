@@ -1,4 +1,4 @@
-use Rattle.std.proofs.Common.{◌∷◌, ◌++◌, ◌+◌, ◌*◌, [], take, ◌∙◌, sym, ap}
+use Rattle.std.proofs.Common.{◌∷◌, ◌++◌, ◌+◌, ◌-◌, ◌*◌, [], take, ◌∙◌, sym, ap}
 use Rattle.typed_marks.specs.States.{so_far, block_of, laid, room}
 use Rattle.typed_marks.proofs.CellLemmas.{nothing_marked, none_over, take_on, laid_last, room_on}
 use Rattle.typed_marks.proofs.state.State.new.Goals as goal
@@ -13,7 +13,7 @@ loop-k-preserved c =
       blocks = ensures.blocks;
       laid = ensures.block ∙ ap (λ n. c.loop-k.blocks.items ++ block_of span n ∷ []) c.loop-k.invariant.room ∙ ap (λ xs. xs ++ block_of span (room before) ∷ []) c.loop-k.invariant.laid
           ∙ sym (laid_last before span) ∙ sym (ap (laid 0) on);
-      room = ensures.cells ∙ ap (λ n. n + 6 * span.size) c.loop-k.invariant.room ∙ sym (room_on before span) ∙ sym (ap room on);
+      room = ensures.cells ∙ ap (λ n. n + 6 * (span.end - span.low)) c.loop-k.invariant.room ∙ sym (room_on before span) ∙ sym (ap room on);
       none = ensures.none c.loop-k.invariant.none;
     }
 
