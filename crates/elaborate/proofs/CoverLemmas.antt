@@ -79,8 +79,8 @@ next_stage block n k x stage is all one other low = elim (less_or_last (stage_nu
   | inr last ↦ subst (λ (s : Stage). IsMarked x (item s block n)) (one_stage stage other (is ∙ sym last)) one
 ]
 
-pub all_stages : (block n k : ℕ) (x : Item → Option Meaning) → k ≡ 6 → AreStagesMarked block n k x → IsNodeMarked block n x
-all_stages block n k x is all stage = all stage (subst (λ (m : ℕ). stage_number stage < m) (sym is) (stage_low stage))
+pub all_stages : (block n k : ℕ) (x : Item → Option Meaning) → 6 ≤ k → AreStagesMarked block n k x → IsNodeMarked block n x
+all_stages block n k x enough all stage = all stage (let low = stage_low stage in omega arith)
 
 pub next_node : (block low n : ℕ) (x : Item → Option Meaning) → AreNodesMarked block low n x → IsNodeMarked block n x → AreNodesMarked block low (n + 1) x
 next_node block low n x all one m from before = elim (less_or_last m n before) [

@@ -1,4 +1,4 @@
-use Rattle.std.proofs.Common.{◌≡◌, ◌∙◌, sym, ap, length, subst, slice_get, List, ℕ, arith}
+use Rattle.std.proofs.Common.{◌≡◌, ◌∙◌, sym, ap, length, subst, slice_get, List, ℕ, ◌<◌, arith}
 use Rattle.typed_marks.specs.declared.item.Block.{Block}
 use Rattle.typed_marks.specs.States.{so_far}
 use Rattle.unit_read.specs.Units.{Unit}
@@ -20,8 +20,8 @@ loop-k-init g c =
 
 pub block_at-block-requires : goal.block_at-block-requires
 block_at-block-requires g c =
-    block_there c.args.work.now.subject.now c.loop-k.work.subject.now c.args.work.now.state c.loop-k.work.state c.loop-k.k
-    c.requires.work.blocks c.loop-k.invariant.went.unit c.loop-k.invariant.went.work.blocks c.loop-k-test.true
+    subst (λ (bs : List Block). c.loop-k.k < length bs) (sym c.deref.ensures.value) (block_there c.args.work.now.subject.now c.loop-k.work.subject.now c.args.work.now.state c.loop-k.work.state c.loop-k.k
+    c.requires.work.blocks c.loop-k.invariant.went.unit c.loop-k.invariant.went.work.blocks (omega (arith, c.loop-k-test.true, c.len-count.ensures)))
 
 pub mark_block-requires-clause-work : goal.mark_block-requires-clause-work
 mark_block-requires-clause-work g c = c.loop-k.invariant.went.work

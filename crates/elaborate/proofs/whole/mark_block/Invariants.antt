@@ -7,5 +7,5 @@ abbrev pub invariant-loop-node : goal.invariant-loop-node
 invariant-loop-node g l = record {
   went : Went g.R.Rules.rule l.fn.work.subject.now l.work.subject.now l.fn.work.state l.work.state;
   rests : IsAtRest (unit_of l.fn.work.subject.now) l.work.state l.walk;
-  marked : AreNodesMarked l.number l.block.low l.node (so_far l.work.state);
+  marked : AreNodesMarked l.number l.fn.block.low l.node (so_far l.work.state);
 }

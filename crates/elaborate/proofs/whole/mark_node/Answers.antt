@@ -1,4 +1,4 @@
-use Rattle.std.proofs.Common.{refl}
+use Rattle.std.proofs.Common.{arith}
 use Rattle.typed_marks.specs.States.{so_far}
 use Rattle.unit_read.specs.Subjects.{unit_of}
 use Rattle.rule_words.specs.Asking.{item}
@@ -59,4 +59,4 @@ pub returns-clause-ended : goal.returns-clause-ended
 returns-clause-ended g c =
     let now = c.loop-number.work in
     ended_well g.R.Rules.rule (unit_of c.args.work.now.subject.now) now.state c.loop-number.walk (IsNodeMarked c.args.block c.args.node) c.loop-number.invariant.rests
-    (all_stages c.args.block c.args.node 6 (so_far now.state) refl c.loop-number.invariant.marked)
+    (all_stages c.args.block c.args.node c.loop-number.number (so_far now.state) (omega arith) c.loop-number.invariant.marked)
