@@ -1,11 +1,17 @@
+pub mod Beside
 pub mod Binary
+pub mod Comparing
+pub mod Forms
 pub mod InCode
 pub mod Names
 pub mod Operands
+pub mod Operators
 pub mod Placed
+pub mod Results
 pub mod Rules
 pub mod Same
 pub mod Shifts
 pub mod Types
 pub mod Unary
 pub mod Wants
+pub mod Wishes

@@ -2,8 +2,12 @@
 //! makes of what stands there.
 #![tactic(auto)]
 
+mod beside;
 mod binary;
-mod equality;
+mod comparing;
+mod different;
+mod fitting;
+mod forms;
 mod kinds;
 mod modes;
 mod name;
@@ -11,6 +15,7 @@ mod numbers;
 mod operand;
 mod operators;
 mod placed;
+mod results;
 mod rules;
 mod shift;
 mod types;
@@ -19,6 +24,7 @@ mod values;
 mod wants;
 mod wishes;
 
+pub use forms::op_reads;
 pub use placed::judge_placed;
-pub use rules::{judge_op, op_reads};
+pub use rules::judge_op;
 pub use wants::want_op;
