@@ -123,11 +123,14 @@ value_demanded u wish x demand = unless (single_fault x.mode) (single_demanded u
 abbrev pub owner_fault : Mode → Option RuleNumber
 owner_fault mode = if is_type mode || is_package mode then None else single_fault mode
 
+abbrev pub owner_demanded : Known → Rule
+owner_demanded x = unless (owner_fault x.mode) (done (Right x))
+
 -- Between parentheses stands no package.
 abbrev pub demanded : Unit → Wish → Known → Demand → Rule
 demanded u wish x demand.Nothing = done (Right x)
 demanded u wish x demand.Inside = test (not (is_package x.mode)) NOT_A_VALUE (done (Right x))
-demanded u wish x demand.Owner = unless (owner_fault x.mode) (done (Right x))
+demanded u wish x demand.Owner = owner_demanded x
 demanded u wish x demand.Type = test (is_type x.mode) NOT_A_TYPE (done (Right x))
 demanded u wish x demand.Operand = value_demanded u wish x demand.Operand
 demanded u wish x demand.Count = value_demanded u wish x demand.Count

@@ -10,7 +10,7 @@ use go_tree::{Node, NodeKind};
 use rule_words::How;
 use unit_read::Subject;
 
-#[derive(Clone, Copy, Debug, PartialEq, Eq, Drop)]
+#[derive(Clone, Copy, Drop)]
 pub enum Literal {
     Int,
     Rune,
@@ -20,7 +20,7 @@ pub enum Literal {
 }
 
 /// What has rules here, and all else.
-#[derive(Clone, Copy, Debug, PartialEq, Eq, Drop)]
+#[derive(Clone, Copy, Drop)]
 pub enum Form {
     Literal(Literal),
     Name,

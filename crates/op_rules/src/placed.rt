@@ -1,9 +1,8 @@
 //! What a place makes of what stands there (Go 1.17, "Operands", "Assignability", "Representability", "Constant declarations").
 ghost use Rattle.std.specs.Prelude.{◌≡◌, ◌||◌, true, option_map, if◌then◌else◌};
-ghost use Rattle.mark_walk.specs.Asks.{done};
 ghost use Rattle.mark_walk.specs.Telling.{tell};
 ghost use Rattle.typed_tree.specs.Basics.{HasBasics};
-ghost use Rattle.typed_marks.specs.Meanings.{constant_at, Right};
+ghost use Rattle.typed_marks.specs.Meanings.{constant_at};
 ghost use Rattle.typed_tree.specs.Places.{is_type, is_package};
 ghost use Rattle.typed_marks.specs.States.{so_far};
 ghost use Rattle.unit_read.specs.Subjects.{unit_of};
@@ -12,7 +11,7 @@ ghost use Rattle.rule_words.specs.Scenes.{IsScene, told_by, IfFound, said, IsMar
 ghost use Rattle.rule_words.specs.Steps.{step_in, IsStepOf};
 ghost use Rattle.rule_words.specs.Putting.{held, assign_ask};
 ghost use Rattle.rule_words.specs.Wanting.{wanted_of, IsWantedOf};
-ghost use Rattle.op_rules.specs.Placed.{represented, assigned_type, assigned_to, assigned_good, assigned, wished_free, wished_value, wished_constant, is_value, single_fault, owner_fault, unless, single_constant, single_demanded, value_demanded, demanded, placed_rule};
+ghost use Rattle.op_rules.specs.Placed.{represented, assigned_type, assigned_to, assigned_good, assigned, wished_free, wished_value, wished_constant, is_value, single_fault, owner_fault, owner_demanded, single_constant, single_demanded, value_demanded, demanded, placed_rule};
 ghost use Rattle.op_rules.specs.InCode.{wish_of, IsWishOf, facts_in, AreFactsOf};
 ghost use Rattle.typed_tree.specs.declared.rule.TheConstants.{NOT_ASSIGNABLE as NotAssignable};
 
@@ -276,7 +275,7 @@ fn judge_value(u: &Subject, s: &State, demand: Demand, want: Want, x: Facts) -> 
 
 fn judge_owner(s: &State, x: Facts) -> Step
     requires facts { AreFactsOf s.now x }
-    ensures is { step_in s.now result ≡ tell (so_far s.now) (unless (owner_fault (facts_in s.now x).mode) (done (Right (facts_in s.now x)))) }
+    ensures is { step_in s.now result ≡ tell (so_far s.now) (owner_demanded (facts_in s.now x)) }
     ensures over { IsStepOf s.now result }
 {
     // E24, E25
