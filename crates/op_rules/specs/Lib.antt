@@ -3,6 +3,7 @@ pub mod Binary
 pub mod Comparing
 pub mod Forms
 pub mod InCode
+pub mod Loose
 pub mod Names
 pub mod Operands
 pub mod Operators

@@ -9,6 +9,7 @@ mod different;
 mod fitting;
 mod forms;
 mod kinds;
+mod laws;
 mod modes;
 mod name;
 mod numbers;
@@ -25,6 +26,7 @@ mod wants;
 mod wishes;
 
 pub use forms::op_reads;
+pub use laws::{basic_types_are_apart, what_goes_beside_is_assignable};
 pub use placed::judge_placed;
 pub use rules::judge_op;
 pub use wants::want_op;
