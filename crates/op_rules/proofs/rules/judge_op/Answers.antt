@@ -8,8 +8,8 @@ use Rattle.op_rules.specs.InCode.{wish_of}
 use Rattle.op_rules.specs.Rules.{free_ask, freed_rule}
 use Rattle.op_rules.proofs.rules.judge_op.Goals as goal
 
-pub returns-in-Is-clause-is : goal.returns-in-Is-clause-is
-returns-in-Is-clause-is c =
+pub returns-in_ok-step-in-Is-clause-is : goal.returns-in_ok-step-in-Is-clause-is
+returns-in_ok-step-in-Is-clause-is c =
     let s = c.args.s.now in
     let u = unit_of c.args.u.now in
     c.in_ok-step.ensures.is
