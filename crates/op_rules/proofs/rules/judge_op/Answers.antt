@@ -12,7 +12,7 @@ pub returns-in_ok-step-in-Is-clause-is : goal.returns-in_ok-step-in-Is-clause-is
 returns-in_ok-step-in-Is-clause-is c =
     let s = c.args.s.now in
     let u = unit_of c.args.u.now in
-    c.in_ok-step.ensures.is
+    c.in_ok-step-in-Is.ensures.is
     ∙ sym (told_bind (so_far s) (free_ask u (wish_of s c.args.wanted.want)) (freed_rule u c.args.block c.args.at c.args.node.now (parts_in s c.args.parts.now) c.args.wanted.demand)
     (Says (wish_of s c.in-Is.want)) (sym c.free.ensures.is ∙ ap (told_by (wish_of s)) c.in-Is.is))
 
