@@ -1,2 +1,4 @@
+mod ApartLaws
+mod LooseLaws
 mod SameLemmas
 mod TypeLemmas

@@ -78,7 +78,7 @@ predeclared (Some iota) i = predeclared_mark iota i
 -- ---- names
 
 -- a use of an object; nothing is said where its mark isn't good
-abbrev pub used : Wish → Meaning → Rule
+unfoldable pub used : Wish → Meaning → Rule
 used wish m = need m (λ x. done (operand x.mode x.of x.value wish))
 
 -- the mark of the object that is declared at a name
@@ -97,7 +97,7 @@ denoted u iota wish (Some (o.Package name)) = object_ask u name wish
 abbrev pub blank : Demand → Wish → Meaning
 blank demand wish = wished wish (blank_mark demand)
 
-abbrev pub name_rule : Unit → ℕ → NodeRef → Node → Wanted → Rule
+unfoldable pub name_rule : Unit → ℕ → NodeRef → Node → Wanted → Rule
 name_rule u block at node w =
     if is_blank (first_spelled u at.file node) then done (blank w.demand w.wish) else denoted u (iota_of u block at) w.wish (object_at u at)
 
@@ -116,7 +116,7 @@ selected u name owner wish x =
 abbrev pub owned : Unit → List ℕ → Option Object → Wish → Meaning → Rule
 owned u name owner wish m = need m (λ x. done (selected u name owner wish x))
 
-abbrev pub selector_rule : Unit → NodeRef → Node → Part → Wanted → Rule
+unfoldable pub selector_rule : Unit → NodeRef → Node → Part → Wanted → Rule
 selector_rule u at node a w =
     if is_blank (last_spelled u at.file node) then done (blank w.demand w.wish)
     else owned u (last_spelled u at.file node) (owner_at u at node) w.wish a.mark

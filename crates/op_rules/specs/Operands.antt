@@ -40,7 +40,7 @@ good_operand under (Wishes demand wish) = None
 good_operand under (Declares d) = None
 
 -- the operand that a part is, where it is good
-abbrev pub operand_at : Part → Option Operand
+unfoldable pub operand_at : Part → Option Operand
 operand_at p = good_operand p.under p.mark
 
 -- what a rule makes of an operand

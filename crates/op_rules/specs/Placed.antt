@@ -1,9 +1,11 @@
 -- What a place makes of what stands there (Go 1.17, "Operands", "Assignability", "Representability", "Constant declarations").
-use Rattle.std.specs.Prelude.{Bool, true, false, not, ◌||◌, if◌then◌else◌, Option, Some, None}
+use Rattle.std.specs.Prelude.{Bool, true, false, not, ◌&&◌, ◌||◌, if◌then◌else◌, Option, Some, None}
 use Rattle.gv_base.specs.declared.constant.Const.{Const}
+use Rattle.gv_base.specs.declared.constant.Const.TheVariants as const
+use Rattle.gv_base.specs.declared.constant.Kind.{Kind}
 use Rattle.mark_walk.specs.Asks.{done, bind}
 use Rattle.type_model.specs.GoTypes.{GoType}
-use Rattle.type_rel.specs.Kinds.{is_untyped}
+use Rattle.type_rel.specs.Kinds.{is_untyped, is_integer}
 use Rattle.typed_tree.specs.declared.mark.Mode.{Mode}
 use Rattle.typed_tree.specs.declared.mark.Mode.TheVariants as mode
 use Rattle.typed_tree.specs.declared.place.Want.{Want as Demand}
@@ -12,22 +14,29 @@ use Rattle.typed_tree.specs.declared.rule.Rule.{Rule as RuleNumber}
 use Rattle.op_rules.specs.declared.numbers.TheConstants.{SEVERAL_VALUES}
 use Rattle.typed_tree.specs.declared.rule.TheConstants.{NOT_A_TYPE, NOT_A_VALUE, NIL_WITHOUT_A_TYPE, CONSTANT_OVERFLOW, NOT_ASSIGNABLE, NOT_CONSTANT}
 use Rattle.typed_tree.specs.Operands.{fits_in}
-use Rattle.typed_tree.specs.Places.{is_single, is_type, is_constant, is_nil_mode, is_package, is_builtin}
+use Rattle.typed_tree.specs.Places.{is_single, is_type, is_constant, is_nil_mode, is_package}
 use Rattle.typed_marks.specs.Meanings.{Known, Wish, Free, Takes, Fits, Assigned, Meaning, Right, Wrong, Beyond, Quiet, Wishes, Declares}
 use Rattle.unit_read.specs.Units.{Unit}
 use Rattle.rule_words.specs.Asking.{Rule, under_ask}
 use Rattle.rule_words.specs.Putting.{held, assign_ask}
 use Rattle.rule_words.specs.Words.{Wanted, test}
 use Rattle.op_rules.specs.Operands.{tested}
-use Rattle.op_rules.specs.Rules.{takes_default}
-use Rattle.op_rules.specs.Types.{is_of}
-use Rattle.op_rules.specs.Wants.{is_shifted}
+use Rattle.op_rules.specs.Types.{is_of, takes_default}
+use Rattle.op_rules.specs.Wishes.{is_shifted}
 
 -- ---- E30
 
--- the constant is representable, where a basic type is taken
-abbrev pub goes_into : Const → GoType → Bool
-goes_into c under = is_of (fits_in c) under
+abbrev pub is_whole : Const → Bool
+is_whole (const.Int z) = true
+is_whole (const.Truth b) = false
+is_whole (const.Text t) = false
+
+-- An integer overflows an integer type in which it isn't representable. Of other constants and types E32, E33 and E37 speak.
+unfoldable pub overflows : Const → Kind → Bool
+overflows c kind = is_whole c && (is_integer kind && not (fits_in c kind))
+
+unfoldable pub goes_into : Const → GoType → Bool
+goes_into c under = not (is_of (overflows c) under)
 
 abbrev pub overflowing : Known → Const → Option GoType → Meaning
 overflowing x c None = Quiet
@@ -110,11 +119,18 @@ unless (Some rule) rest = done (Wrong rule)
 abbrev pub value_demanded : Unit → Wish → Known → Demand → Rule
 value_demanded u wish x demand = unless (single_fault x.mode) (single_demanded u wish x demand)
 
--- Between parentheses stands no package, and before a dot no built-in function.
+-- E24, E25 before a dot, where a type or a package may stand too
+abbrev pub owner_fault : Mode → Option RuleNumber
+owner_fault mode = if is_type mode || is_package mode then None else single_fault mode
+
+abbrev pub owner_demanded : Known → Rule
+owner_demanded x = unless (owner_fault x.mode) (done (Right x))
+
+-- Between parentheses stands no package.
 abbrev pub demanded : Unit → Wish → Known → Demand → Rule
 demanded u wish x demand.Nothing = done (Right x)
 demanded u wish x demand.Inside = test (not (is_package x.mode)) NOT_A_VALUE (done (Right x))
-demanded u wish x demand.Owner = test (not (is_builtin x.mode)) NOT_A_VALUE (done (Right x))
+demanded u wish x demand.Owner = owner_demanded x
 demanded u wish x demand.Type = test (is_type x.mode) NOT_A_TYPE (done (Right x))
 demanded u wish x demand.Operand = value_demanded u wish x demand.Operand
 demanded u wish x demand.Count = value_demanded u wish x demand.Count

@@ -1,75 +1,81 @@
--- The rule of each kind of operand and operator (Go 1.17, "Operands", "Operators").
-use Rattle.std.specs.Prelude.{ℕ, Bool, false, if◌then◌else◌, List, Option, Some, None, option_and_then}
-use Rattle.std.specs.Option.{option_map_or}
-use Rattle.go_tree.specs.declared.tree.FileTree.{FileTree}
+-- The rule of each form of operand and operator (Go 1.17, "Operands", "Operators").
+use Rattle.std.specs.Prelude.{ℕ, if◌then◌else◌, List, Option}
 use Rattle.go_tree.specs.declared.tree.Node.{Node}
-use Rattle.go_tree.specs.declared.tree.NodeKind.{NodeKind}
-use Rattle.go_tree.specs.declared.tree.NodeKind.TheVariants as k
 use Rattle.go_tree.specs.declared.tree.NodeRef.{NodeRef}
-use Rattle.const_eval.specs.declared.operator.Operator.{Operator}
 use Rattle.const_tree.specs.Operators.{unary_operator, binary_operator}
 use Rattle.mark_walk.specs.Asks.{done, bind}
 use Rattle.type_model.specs.GoTypes.{GoType}
 use Rattle.typed_tree.specs.declared.place.Want.{Want as Demand}
 use Rattle.typed_tree.specs.declared.rule.Limit.TheVariants.{Float, Complex}
 use Rattle.typed_tree.specs.Constants.{int_literal_mark, rune_literal_mark, text_literal_mark}
-use Rattle.typed_marks.specs.Meanings.{Wish, Free, Takes, Fits, Assigned, Beyond, Quiet}
-use Rattle.unit_read.specs.Units.{Unit, tree_at, first_spelled}
-use Rattle.rule_words.specs.declared.read.How.{How}
-use Rattle.rule_words.specs.declared.read.How.TheVariants as h
+use Rattle.typed_marks.specs.Meanings.{Wish, Free, Takes, Fits, Assigned, Meaning, Beyond, Quiet}
+use Rattle.unit_read.specs.Units.{Unit, first_spelled}
 use Rattle.rule_words.specs.Asking.{Asks, Rule, under_ask}
 use Rattle.rule_words.specs.Parts.{Part, part_at}
 use Rattle.rule_words.specs.Words.{Wanted}
+use Rattle.op_rules.specs.declared.forms.Form.{Form}
+use Rattle.op_rules.specs.declared.forms.Form.TheVariants as f
+use Rattle.op_rules.specs.declared.forms.Literal.{Literal}
+use Rattle.op_rules.specs.declared.forms.Literal.TheVariants as l
 use Rattle.op_rules.specs.Binary.{binary_by}
+use Rattle.op_rules.specs.Forms.{form_of, operator_in}
 use Rattle.op_rules.specs.Names.{wished, used, name_rule, selector_rule}
-use Rattle.op_rules.specs.Types.{is_interface}
+use Rattle.op_rules.specs.Types.{takes_default}
 use Rattle.op_rules.specs.Unary.{unary_by}
 
--- How the parts are read. What is written between parentheses and before a dot may be a type or a package.
-abbrev pub op_reads : NodeKind → ℕ → Option How
-op_reads k.Paren slot = Some h.Mark
-op_reads k.Selector slot = Some h.Mark
-op_reads k.Unary slot = Some h.Value
-op_reads k.Binary slot = Some h.Value
-op_reads _ slot = None
+-- ---- forms
 
-abbrev pub operator_in : (FileTree → Node → Option Operator) → Unit → ℕ → Node → Option Operator
-operator_in find u file node = option_and_then (λ (tree : FileTree). find tree node) (tree_at u file)
+unfoldable pub literal_mark : List ℕ → Wish → Literal → Meaning
+literal_mark bytes wish l.Int = wished wish (int_literal_mark bytes)
+literal_mark bytes wish l.Rune = wished wish (rune_literal_mark bytes)
+literal_mark bytes wish l.Text = wished wish (text_literal_mark bytes)
+literal_mark bytes wish l.Float = Beyond Float
+literal_mark bytes wish l.Imag = Beyond Complex
 
--- Nothing is said yet of kinds that stand in no clause.
-abbrev pub kind_rule : Unit → ℕ → NodeRef → Node → List Part → Wanted → NodeKind → Rule
-kind_rule u block at node ps w k.Int = done (wished w.wish (int_literal_mark (first_spelled u at.file node)))
-kind_rule u block at node ps w k.Rune = done (wished w.wish (rune_literal_mark (first_spelled u at.file node)))
-kind_rule u block at node ps w k.Text = done (wished w.wish (text_literal_mark (first_spelled u at.file node)))
-kind_rule u block at node ps w k.Float = done (Beyond Float)
-kind_rule u block at node ps w k.Imag = done (Beyond Complex)
-kind_rule u block at node ps w k.Name = name_rule u block at node w
-kind_rule u block at node ps w k.Selector = selector_rule u at node (part_at ps 0) w
-kind_rule u block at node ps w k.Paren = used w.wish (part_at ps 0).mark
-kind_rule u block at node ps w k.Unary = unary_by (operator_in unary_operator u at.file node) (part_at ps 0) w.wish
-kind_rule u block at node ps w k.Binary = binary_by (operator_in binary_operator u at.file node) (part_at ps 0) (part_at ps 1) w.wish
-kind_rule u block at node ps w _ = done Quiet
+unfoldable pub literal_rule : Unit → NodeRef → Node → Wish → Literal → Rule
+literal_rule u at node wish literal = done (literal_mark (first_spelled u at.file node) wish literal)
+
+unfoldable pub dotted_rule : Unit → NodeRef → Node → List Part → Wanted → Rule
+dotted_rule u at node ps w = selector_rule u at node (part_at ps 0) w
+
+unfoldable pub paren_rule : List Part → Wish → Rule
+paren_rule ps wish = used wish (part_at ps 0).mark
+
+unfoldable pub unary_rule : Unit → NodeRef → Node → List Part → Wish → Rule
+unary_rule u at node ps wish = unary_by (operator_in unary_operator u at.file node) (part_at ps 0) wish
+
+unfoldable pub binary_rule : Unit → NodeRef → Node → List Part → Wish → Rule
+binary_rule u at node ps wish = binary_by (operator_in binary_operator u at.file node) (part_at ps 0) (part_at ps 1) wish
+
+unfoldable pub form_rule : Unit → ℕ → NodeRef → Node → List Part → Wanted → Form → Rule
+form_rule u block at node ps w (f.Literal literal) = literal_rule u at node w.wish literal
+form_rule u block at node ps w f.Name = name_rule u block at node w
+form_rule u block at node ps w f.Selector = dotted_rule u at node ps w
+form_rule u block at node ps w f.Paren = paren_rule ps w.wish
+form_rule u block at node ps w f.Unary = unary_rule u at node ps w.wish
+form_rule u block at node ps w f.Binary = binary_rule u at node ps w.wish
+form_rule u block at node ps w f.Other = done Quiet
 
 -- ---- the type that is taken
 
-abbrev pub takes_default : Option GoType → Bool
-takes_default under = option_map_or is_interface under false
-
 -- an untyped operand takes its default type where an interface is wanted
-abbrev pub freed : Wish → Option GoType → Wish
+unfoldable pub freed : Wish → Option GoType → Wish
 freed wish under = if takes_default under then Free else wish
 
-abbrev pub freed_ask : Unit → Wish → GoType → Asks Wish
-freed_ask u wish to = bind (under_ask u to) (λ under. done (freed wish under))
+abbrev pub freed_by : Wish → Option GoType → Asks Wish
+freed_by wish under = done (freed wish under)
 
-abbrev pub free_ask : Unit → Wish → Asks Wish
+unfoldable pub freed_ask : Unit → Wish → GoType → Asks Wish
+freed_ask u wish to = bind (under_ask u to) (freed_by wish)
+
+unfoldable pub free_ask : Unit → Wish → Asks Wish
 free_ask u Free = done Free
 free_ask u (Takes to) = freed_ask u (Takes to) to
 free_ask u (Fits to) = freed_ask u (Fits to) to
 free_ask u (Assigned to) = freed_ask u (Assigned to) to
 
-abbrev pub freed_rule : Unit → ℕ → NodeRef → Node → List Part → Demand → Wish → Rule
-freed_rule u block at node ps demand wish = kind_rule u block at node ps (record { demand = demand; wish = wish }) node.kind
+unfoldable pub freed_rule : Unit → ℕ → NodeRef → Node → List Part → Demand → Wish → Rule
+freed_rule u block at node ps demand wish = form_rule u block at node ps (record { demand = demand; wish = wish }) (form_of node.kind)
 
 -- The rule of an operand or an operator.
 abbrev pub op_rule : Unit → ℕ → NodeRef → Node → List Part → Wanted → Rule

@@ -52,3 +52,7 @@ abbrev mutual
   same_methods NoMethod NoMethod = true
   same_methods (AndMethod a0 a1 a2 a3 a4) (AndMethod b0 b1 b2 b3 b4) = bytes_eq a0 b0 && (bytes_eq a1 b1 && (same_truth a2 b2 && (same_signature a3 b3 && same_methods a4 b4)))
   same_methods _ _ = false
+
+-- the types are one
+unfoldable pub are_one : GoType → GoType → Bool
+are_one a b = same_type a b

@@ -1,5 +1,5 @@
 -- Shifts (Go 1.17, "Operators", "Constant expressions").
-use Rattle.std.specs.Prelude.{Bool, if◌then◌else◌, Option, Some, None}
+use Rattle.std.specs.Prelude.{Bool, ◌&&◌, if◌then◌else◌, Option, Some, None}
 use Rattle.gv_base.specs.declared.constant.Const.{Const}
 use Rattle.gv_base.specs.declared.constant.Kind.TheVariants as k
 use Rattle.const_eval.specs.declared.operator.Operator.{Operator}
@@ -37,14 +37,18 @@ abbrev pub shift_valued : Operator → Operand → Wish → Option Const → Opt
 shift_valued op x wish None d = computed x.of wish
 shift_valued op x wish (Some c) d = shift_beside op x wish c d
 
--- E36, then E37 by the final type
+-- E37: the operand is an integer, and so is its final type
+unfoldable pub is_shiftable : Operand → Bool
+is_shiftable x = is_of is_integer x.at && is_of is_integer x.under
+
+-- E36, then E37
 abbrev pub shift_mark : Operator → Operand → Operand → Wish → Meaning
 shift_mark op x count wish =
     tested (is_count count.of count.value count.under) BAD_SHIFT_COUNT
-    (tested (is_of is_integer x.under) SHIFTED_OPERAND_IS_NOT_AN_INTEGER (shift_valued op x wish x.value count.value))
+    (tested (is_shiftable x) SHIFTED_OPERAND_IS_NOT_AN_INTEGER (shift_valued op x wish x.value count.value))
 
 abbrev pub shift_by : Operator → Part → Wish → Operand → Rule
 shift_by op b wish x = need_operand (operand_at b) (λ count. done (shift_mark op x count wish))
 
-abbrev pub shift_of_parts : Operator → Part → Part → Wish → Rule
+unfoldable pub shift_of_parts : Operator → Part → Part → Wish → Rule
 shift_of_parts op a b wish = need_operand (operand_at a) (shift_by op b wish)

@@ -1,5 +1,5 @@
 -- Types as operators count them (Go 1.17, "Types", "Constants", "Constant expressions").
-use Rattle.std.specs.Prelude.{Bool, true, false, ◌&&◌, ◌||◌, if◌then◌else◌}
+use Rattle.std.specs.Prelude.{Bool, true, false, ◌&&◌, ◌||◌, if◌then◌else◌, Option}
 use Rattle.std.specs.Option.{option_map_or}
 use Rattle.gv_base.specs.declared.constant.Kind.{Kind}
 use Rattle.type_model.specs.GoTypes.{GoType, GoMethods, BasicType, DefinedType, PointerTo, SliceOf, ArrayOf, MapOf, ChanOf, FuncOf, StructOf, InterfaceOf, NoMethod, AndMethod}
@@ -8,13 +8,13 @@ use Rattle.type_rel.specs.Terms.{kind_of}
 use Rattle.typed_tree.specs.Operands.{is_text, is_boolean, is_nil, is_rune}
 
 -- a basic type whose kind passes a test
-abbrev pub is_of : (Kind → Bool) → GoType → Bool
+unfoldable pub is_of : (Kind → Bool) → GoType → Bool
 is_of passes of = option_map_or passes (kind_of of) false
 
-abbrev pub is_basic : GoType → Bool
+unfoldable pub is_basic : GoType → Bool
 is_basic of = option_map_or (λ kind. true) (kind_of of) false
 
-abbrev pub is_interface : GoType → Bool
+unfoldable pub is_interface : GoType → Bool
 is_interface (InterfaceOf methods) = true
 is_interface (BasicType kind) = false
 is_interface (DefinedType name) = false
@@ -30,8 +30,12 @@ abbrev pub has_none : GoMethods → Bool
 has_none NoMethod = true
 has_none (AndMethod name owner pointer of methods) = false
 
+-- an untyped operand takes its default type where this underlying type is wanted
+unfoldable pub takes_default : Option GoType → Bool
+takes_default under = option_map_or is_interface under false
+
 -- "Interface types": the empty interface, which all types implement
-abbrev pub is_empty_interface : GoType → Bool
+unfoldable pub is_empty_interface : GoType → Bool
 is_empty_interface (InterfaceOf methods) = has_none methods
 is_empty_interface (BasicType kind) = false
 is_empty_interface (DefinedType name) = false
@@ -44,16 +48,16 @@ is_empty_interface (FuncOf of) = false
 is_empty_interface (StructOf fields) = false
 
 -- the type at which operators count an operand: an untyped one by its own, a typed one by its underlying type
-abbrev pub counted : GoType → GoType → GoType
+unfoldable pub counted : GoType → GoType → GoType
 counted of under = if is_of is_untyped of then of else under
 
 -- "Constant expressions": the type of both, that of a typed one, else a rune where one is a rune
-abbrev pub common : GoType → GoType → GoType
+unfoldable pub common : GoType → GoType → GoType
 common a b = if is_of is_untyped a then (if is_of is_untyped b && is_of is_rune a then a else b) else a
 
 -- two kinds of one class
 abbrev pub alike : Kind → Kind → Bool
 alike a b = (is_integer a && is_integer b) || ((is_text a && is_text b) || ((is_boolean a && is_boolean b) || (is_nil a && is_nil b)))
 
-abbrev pub are_alike : GoType → GoType → Bool
+unfoldable pub are_alike : GoType → GoType → Bool
 are_alike a b = is_of (λ x. is_of (alike x) b) a

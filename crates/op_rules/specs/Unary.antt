@@ -43,6 +43,6 @@ takes_address _ = false
 abbrev pub unary_with : Operator → Part → Wish → Rule
 unary_with op a wish = if takes_address op then done Quiet else unary_of_part op a wish
 
-abbrev pub unary_by : Option Operator → Part → Wish → Rule
+unfoldable pub unary_by : Option Operator → Part → Wish → Rule
 unary_by None a wish = done Quiet
 unary_by (Some op) a wish = unary_with op a wish

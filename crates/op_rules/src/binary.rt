@@ -1,238 +1,30 @@
-//! Binary expressions that are no shifts (Go 1.17, "Operators", "Arithmetic operators", "Comparison operators", "Logical operators").
+//! Binary expressions (Go 1.17, "Operators", "Comparison operators").
 ghost use Rattle.std.specs.Prelude.{◌≡◌, IfOk};
 ghost use Rattle.mark_walk.specs.Telling.{tell};
 ghost use Rattle.typed_tree.specs.Basics.{HasBasics};
-ghost use Rattle.typed_marks.specs.Meanings.{constant_at};
 ghost use Rattle.typed_marks.specs.States.{so_far};
-ghost use Rattle.rule_words.specs.Scenes.{type_in, IsTypeOf, part_in, IsSeenOf};
-ghost use Rattle.rule_words.specs.Answers.{answer_in, IsAnswerOf};
+ghost use Rattle.rule_words.specs.Scenes.{part_in, IsSeenOf};
 ghost use Rattle.rule_words.specs.Steps.{step_in, IsStepOf};
-ghost use Rattle.op_rules.specs.Binary.{result_type, beside_value, two_valued, divides_by_zero, result_mark, basic_compared, equated, is_defined_at, operated, agreed, both_typed, first_agrees, second_untyped, first_untyped, first_typed, combined, combined_by, combined_of_parts, binary_of_parts, binary_by};
+ghost use Rattle.op_rules.specs.Binary.{both_typed, second_untyped, first_untyped, first_typed, combined, combined_by, combined_of_parts, binary_of_parts, binary_by};
 ghost use Rattle.op_rules.specs.InCode.{operand_in, IsOperandOf, wish_of, IsWishOf};
 
-use crate::equality::{compare_types, goes_beside, judge_different};
-use crate::numbers::{DIVISION_BY_ZERO, MISMATCHED_OPERANDS, NOT_COMPARABLE, OPERATOR_NOT_DEFINED};
-use crate::operand::{Operand, bad, operand_at, silent, value_at};
-use crate::operators::{divides, is_comparable, is_comparison, is_equality, is_shift, takes};
-use crate::shift::{judge_shift, value_of_two};
-use crate::types::{are_alike, basic_type, common, is_untyped, kind_of, same_type};
-use crate::values::{computed, folded, is_zero};
+use crate::beside::{agrees, goes_beside};
+use crate::comparing::judge_agreed;
+use crate::different::judge_different;
+use crate::numbers::MISMATCHED_OPERANDS;
+use crate::operand::{Operand, bad, operand_at, silent};
+use crate::operators::shifts;
+use crate::shift::judge_shift;
+use crate::types::{are_one, is_untyped};
 use const_eval::Operator;
-use gv_base::{Const, Kind, NoMemory};
-use rule_words::{Answer, Seen, Step};
+use gv_base::NoMemory;
+use rule_words::{Seen, Step};
 use std::alloc::Global;
-use type_model::TypeId;
-use typed_marks::{ConstId, State, Want};
+use typed_marks::{State, Want};
 
-// ---- results
+// ---- E33
 
-/// A comparison gives an untyped boolean.
-fn result_type(s: &State, op: Operator, of: TypeId) -> TypeId
-    requires basics { HasBasics s.now.table }
-    requires of { IsTypeOf s.now of }
-    ensures is { type_in s.now result ≡ result_type op (type_in s.now of) }
-    ensures within { IsTypeOf s.now result }
-{
-    if is_comparison(op) {
-        basic_type(s, Kind::UntypedBool)
-    } else {
-        of
-    }
-}
-
-fn beside_value(
-    alloc: Global,
-    s: &State,
-    op: Operator,
-    at: TypeId,
-    of: TypeId,
-    want: Want,
-    c: &Const,
-    value: Option<ConstId>,
-) -> Result<Answer, NoMemory>
-    requires basics { HasBasics s.now.table }
-    requires at { IsTypeOf s.now at }
-    requires of { IsTypeOf s.now of }
-    requires want { IsWishOf s.now want }
-    ensures is { IfOk result (λ answer. answer_in s.now answer ≡ beside_value op (type_in s.now at) (type_in s.now of) (wish_of s.now want) c.now (constant_at s.now.constants.items value)) }
-    ensures over { IfOk result (IsAnswerOf s.now) }
-{
-    match value_at(s, value) {
-        Some(d) => {
-            let answer = value_of_two(alloc, op, c, d)?;
-            Ok(folded(s, at, of, want, answer))
-        }
-        None => Ok(computed(s, of, want)),
-    }
-}
-
-fn two_valued(
-    alloc: Global,
-    s: &State,
-    op: Operator,
-    at: TypeId,
-    of: TypeId,
-    want: Want,
-    x: Option<ConstId>,
-    y: Option<ConstId>,
-) -> Result<Answer, NoMemory>
-    requires basics { HasBasics s.now.table }
-    requires at { IsTypeOf s.now at }
-    requires of { IsTypeOf s.now of }
-    requires want { IsWishOf s.now want }
-    ensures is { IfOk result (λ answer. answer_in s.now answer ≡ two_valued op (type_in s.now at) (type_in s.now of) (wish_of s.now want) (constant_at s.now.constants.items x) (constant_at s.now.constants.items y)) }
-    ensures over { IfOk result (IsAnswerOf s.now) }
-{
-    match value_at(s, x) {
-        Some(c) => {
-            let answer = beside_value(alloc, s, op, at, of, want, c, y)?;
-            Ok(answer)
-        }
-        None => Ok(computed(s, of, want)),
-    }
-}
-
-/// The operator divides by the constant zero.
-fn divides_by_zero(s: &State, op: Operator, y: Operand) -> bool
-    ensures { result ≡ divides_by_zero op (operand_in s.now y) }
-{
-    divides(op) && is_zero(s, y.value)
-}
-
-fn judge_result(
-    alloc: Global,
-    s: &State,
-    op: Operator,
-    x: Operand,
-    y: Operand,
-    want: Want,
-) -> Result<Answer, NoMemory>
-    requires basics { HasBasics s.now.table }
-    requires first { IsOperandOf s.now x }
-    requires second { IsOperandOf s.now y }
-    requires want { IsWishOf s.now want }
-    ensures is { IfOk result (λ answer. answer_in s.now answer ≡ result_mark op (operand_in s.now x) (operand_in s.now y) (wish_of s.now want)) }
-    ensures over { IfOk result (IsAnswerOf s.now) }
-{
-    // E31
-    if divides_by_zero(s, op, y) {
-        return Ok(bad(DIVISION_BY_ZERO));
-    }
-    let at = result_type(s, op, common(s, x.at, y.at));
-    let of = result_type(s, op, common(s, x.of, y.of));
-    let answer = two_valued(alloc, s, op, at, of, want, x.value, y.value)?;
-    Ok(answer)
-}
-
-// ---- tests
-
-fn judge_basic(
-    alloc: Global,
-    s: &State,
-    op: Operator,
-    x: Operand,
-    y: Operand,
-    want: Want,
-    kind: Kind,
-) -> Result<Step, NoMemory>
-    requires basics { HasBasics s.now.table }
-    requires first { IsOperandOf s.now x }
-    requires second { IsOperandOf s.now y }
-    requires want { IsWishOf s.now want }
-    ensures is { IfOk result (λ step. step_in s.now step ≡ tell (so_far s.now) (basic_compared op (operand_in s.now x) (operand_in s.now y) (wish_of s.now want) kind)) }
-    ensures over { IfOk result (IsStepOf s.now) }
-{
-    // E35
-    if !is_comparable(op, kind) {
-        return Ok(Step::Says(bad(NOT_COMPARABLE)));
-    }
-    let answer = judge_result(alloc, s, op, x, y, want)?;
-    Ok(Step::Says(answer))
-}
-
-fn judge_equated(
-    alloc: Global,
-    s: &State,
-    op: Operator,
-    x: Operand,
-    y: Operand,
-    want: Want,
-    at: TypeId,
-) -> Result<Step, NoMemory>
-    requires basics { HasBasics s.now.table }
-    requires first { IsOperandOf s.now x }
-    requires second { IsOperandOf s.now y }
-    requires want { IsWishOf s.now want }
-    requires at { IsTypeOf s.now at }
-    ensures is { IfOk result (λ step. step_in s.now step ≡ tell (so_far s.now) (equated op (operand_in s.now x) (operand_in s.now y) (wish_of s.now want) (type_in s.now at))) }
-    ensures over { IfOk result (IsStepOf s.now) }
-{
-    match kind_of(s, at) {
-        Some(kind) => {
-            let step = judge_basic(alloc, s, op, x, y, want, kind)?;
-            Ok(step)
-        }
-        None => Ok(compare_types(s, x, y, want)),
-    }
-}
-
-fn is_defined_at(s: &State, op: Operator, at: TypeId) -> bool
-    requires basics { HasBasics s.now.table }
-    requires at { IsTypeOf s.now at }
-    ensures { result ≡ is_defined_at op (type_in s.now at) }
-{
-    match kind_of(s, at) {
-        Some(kind) => takes(op, kind),
-        None => is_equality(op),
-    }
-}
-
-fn judge_operated(
-    alloc: Global,
-    s: &State,
-    op: Operator,
-    x: Operand,
-    y: Operand,
-    want: Want,
-    at: TypeId,
-) -> Result<Step, NoMemory>
-    requires basics { HasBasics s.now.table }
-    requires first { IsOperandOf s.now x }
-    requires second { IsOperandOf s.now y }
-    requires want { IsWishOf s.now want }
-    requires at { IsTypeOf s.now at }
-    ensures is { IfOk result (λ step. step_in s.now step ≡ tell (so_far s.now) (operated op (operand_in s.now x) (operand_in s.now y) (wish_of s.now want) (type_in s.now at))) }
-    ensures over { IfOk result (IsStepOf s.now) }
-{
-    // E34
-    if !is_defined_at(s, op, at) {
-        return Ok(Step::Says(bad(OPERATOR_NOT_DEFINED)));
-    }
-    let step = judge_equated(alloc, s, op, x, y, want, at)?;
-    Ok(step)
-}
-
-/// The operands agree: E34, E35, E31, E30.
-fn judge_agreed(
-    alloc: Global,
-    s: &State,
-    op: Operator,
-    x: Operand,
-    y: Operand,
-    want: Want,
-) -> Result<Step, NoMemory>
-    requires basics { HasBasics s.now.table }
-    requires first { IsOperandOf s.now x }
-    requires second { IsOperandOf s.now y }
-    requires want { IsWishOf s.now want }
-    ensures is { IfOk result (λ step. step_in s.now step ≡ tell (so_far s.now) (agreed op (operand_in s.now x) (operand_in s.now y) (wish_of s.now want))) }
-    ensures over { IfOk result (IsStepOf s.now) }
-{
-    let at = common(s, x.at, y.at);
-    let step = judge_operated(alloc, s, op, x, y, want, at)?;
-    Ok(step)
-}
-
+#[tactic(auto, unfolding(crate::specs::Binary::both_typed))]
 fn judge_typed(
     alloc: Global,
     s: &State,
@@ -248,27 +40,14 @@ fn judge_typed(
     ensures is { IfOk result (λ step. step_in s.now step ≡ tell (so_far s.now) (both_typed op (operand_in s.now x) (operand_in s.now y) (wish_of s.now want))) }
     ensures over { IfOk result (IsStepOf s.now) }
 {
-    if !same_type(s, x.of, y.of) {
+    if !are_one(s, x.of, y.of) {
         return Ok(judge_different(s, op, x, y, want));
     }
     let step = judge_agreed(alloc, s, op, x, y, want)?;
     Ok(step)
 }
 
-/// An untyped operand agrees with another.
-fn first_agrees(s: &State, x: Operand, y: Operand) -> bool
-    requires basics { HasBasics s.now.table }
-    requires first { IsOperandOf s.now x }
-    requires second { IsOperandOf s.now y }
-    ensures { result ≡ first_agrees (operand_in s.now x) (operand_in s.now y) }
-{
-    if is_untyped(s, y.of) {
-        are_alike(s, x.of, y.of)
-    } else {
-        goes_beside(s, x, y.at)
-    }
-}
-
+#[tactic(auto, unfolding(crate::specs::Binary::second_untyped))]
 fn judge_untyped_second(
     alloc: Global,
     s: &State,
@@ -292,6 +71,7 @@ fn judge_untyped_second(
     Ok(step)
 }
 
+#[tactic(auto, unfolding(crate::specs::Binary::first_untyped))]
 fn judge_untyped_first(
     alloc: Global,
     s: &State,
@@ -308,13 +88,14 @@ fn judge_untyped_first(
     ensures over { IfOk result (IsStepOf s.now) }
 {
     // E33
-    if !first_agrees(s, x, y) {
+    if !agrees(s, x, y) {
         return Ok(Step::Says(bad(MISMATCHED_OPERANDS)));
     }
     let step = judge_agreed(alloc, s, op, x, y, want)?;
     Ok(step)
 }
 
+#[tactic(auto, unfolding(crate::specs::Binary::first_typed))]
 fn judge_typed_first(
     alloc: Global,
     s: &State,
@@ -339,6 +120,7 @@ fn judge_typed_first(
 }
 
 /// E33, E34, E35, E31, E30.
+#[tactic(auto, unfolding(crate::specs::Binary::combined))]
 fn judge_combined(
     alloc: Global,
     s: &State,
@@ -364,6 +146,7 @@ fn judge_combined(
 
 // ---- nodes
 
+#[tactic(auto, unfolding(crate::specs::Binary::combined_by))]
 fn judge_second(
     alloc: Global,
     s: &State,
@@ -388,6 +171,7 @@ fn judge_second(
     }
 }
 
+#[tactic(auto, unfolding(crate::specs::Binary::combined_of_parts))]
 fn judge_parts(
     alloc: Global,
     s: &State,
@@ -412,6 +196,7 @@ fn judge_parts(
     }
 }
 
+#[tactic(auto, unfolding(crate::specs::Binary::binary_of_parts))]
 fn judge_operator(
     alloc: Global,
     s: &State,
@@ -427,7 +212,7 @@ fn judge_operator(
     ensures is { IfOk result (λ step. step_in s.now step ≡ tell (so_far s.now) (binary_of_parts op (part_in s.now a) (part_in s.now b) (wish_of s.now want))) }
     ensures over { IfOk result (IsStepOf s.now) }
 {
-    if is_shift(op) {
+    if shifts(op) {
         let step = judge_shift(alloc, s, op, a, b, want)?;
         return Ok(step);
     }
@@ -436,6 +221,7 @@ fn judge_operator(
 }
 
 /// How far the rule of a binary expression goes: E33, E34, E35, E31, E30; of a shift E36, E37, E30.
+#[tactic(auto, unfolding(crate::specs::Binary::binary_by))]
 pub fn judge_binary(
     alloc: Global,
     s: &State,

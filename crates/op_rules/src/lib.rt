@@ -2,15 +2,21 @@
 //! makes of what stands there.
 #![tactic(auto)]
 
+mod beside;
 mod binary;
-mod equality;
+mod comparing;
+mod different;
+mod fitting;
+mod forms;
 mod kinds;
+mod laws;
 mod modes;
 mod name;
 mod numbers;
 mod operand;
 mod operators;
 mod placed;
+mod results;
 mod rules;
 mod shift;
 mod types;
@@ -19,6 +25,8 @@ mod values;
 mod wants;
 mod wishes;
 
+pub use forms::op_reads;
+pub use laws::{basic_types_are_apart, what_goes_beside_is_assignable};
 pub use placed::judge_placed;
-pub use rules::{judge_op, op_reads};
+pub use rules::judge_op;
 pub use wants::want_op;

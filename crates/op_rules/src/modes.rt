@@ -1,6 +1,6 @@
 //! What nodes stand for.
 ghost use Rattle.std.specs.Prelude.{◌≡◌};
-ghost use Rattle.typed_tree.specs.Places.{is_single, is_type, is_constant, is_nil_mode, is_package, is_builtin};
+ghost use Rattle.typed_tree.specs.Places.{is_single, is_type, is_constant, is_nil_mode, is_package};
 ghost use Rattle.op_rules.specs.Placed.{is_many};
 
 use typed_tree::Mode;
@@ -94,24 +94,6 @@ pub fn is_package(mode: Mode) -> bool
         Mode::CommaOk => false,
         Mode::Nil => false,
         Mode::Builtin => false,
-        Mode::Many => false,
-    }
-}
-
-pub fn is_builtin(mode: Mode) -> bool
-    ensures { result ≡ is_builtin mode }
-{
-    match mode {
-        Mode::Builtin => true,
-        Mode::NoValue => false,
-        Mode::TypeName => false,
-        Mode::Constant => false,
-        Mode::Variable => false,
-        Mode::MapIndex => false,
-        Mode::Value => false,
-        Mode::CommaOk => false,
-        Mode::Nil => false,
-        Mode::Package => false,
         Mode::Many => false,
     }
 }

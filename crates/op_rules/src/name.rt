@@ -166,6 +166,7 @@ fn judge_universe(i: u8, iota: Option<u64>) -> TreeMark
 // ---- names
 
 /// A use of what has this mark.
+#[tactic(auto, unfolding(crate::specs::Names::used))]
 pub fn used(s: &State, want: Want, m: Mark) -> Step
     requires basics { HasBasics s.now.table }
     requires mark { IsMarkOf s.now m }
@@ -245,6 +246,7 @@ fn blank(s: &State, demand: Demand, want: Want) -> Answer
 }
 
 /// How far the rule of a name goes: E17, E10, E3.
+#[tactic(auto, unfolding(crate::specs::Names::name_rule))]
 pub fn judge_name(u: &Subject, s: &State, block: usize, at: NodeRef, node: &Node, w: Wanted) -> Step
     requires scene { IsScene u.now s.now }
     requires wanted { IsWantedOf s.now w }
@@ -356,6 +358,7 @@ fn judge_owned(
 }
 
 /// How far the rule of a selector goes: E17, E10, E9, E20.
+#[tactic(auto, unfolding(crate::specs::Names::selector_rule))]
 pub fn judge_selector(
     alloc: Global,
     u: &Subject,

@@ -45,6 +45,7 @@ fn known_operand(s: &State, x: Facts, under: Option<TypeId>) -> Option<Operand>
 }
 
 /// The operand that a part is, where it is good.
+#[tactic(auto, unfolding(crate::specs::Operands::operand_at))]
 pub fn operand_at(s: &State, p: Seen) -> Option<Operand>
     requires basics { HasBasics s.now.table }
     requires part { IsSeenOf s.now p }

@@ -2,8 +2,8 @@
 ghost use Rattle.std.specs.Prelude.{◌≡◌, ◌||◌, Some};
 ghost use Rattle.const_eval.specs.Operators.{operator_of};
 ghost use Rattle.type_rel.specs.Kinds.{is_integer};
-ghost use Rattle.typed_tree.specs.Operands.{is_text, is_comparison, is_shift, takes, takes_alone, is_comparable};
-ghost use Rattle.op_rules.specs.Binary.{is_equality, divides};
+ghost use Rattle.typed_tree.specs.Operands.{is_text, takes_alone};
+ghost use Rattle.op_rules.specs.Operators.{shifts, compares, equates, divides, takes_two, tells_apart};
 ghost use Rattle.op_rules.specs.Unary.{takes_address};
 
 use crate::kinds::{is_boolean, is_nil, is_text};
@@ -40,8 +40,9 @@ pub fn mark_of(op: Operator) -> u8
 }
 
 /// A comparison operator.
-pub fn is_comparison(op: Operator) -> bool
-    ensures { result ≡ is_comparison op }
+#[tactic(auto, unfolding(crate::specs::Operators::compares))]
+pub fn compares(op: Operator) -> bool
+    ensures { result ≡ compares op }
 {
     match op {
         Operator::Equal => true,
@@ -68,8 +69,9 @@ pub fn is_comparison(op: Operator) -> bool
 }
 
 /// `<<` or `>>`.
-pub fn is_shift(op: Operator) -> bool
-    ensures { result ≡ is_shift op }
+#[tactic(auto, unfolding(crate::specs::Operators::shifts))]
+pub fn shifts(op: Operator) -> bool
+    ensures { result ≡ shifts op }
 {
     match op {
         Operator::ShiftLeft => true,
@@ -103,8 +105,9 @@ pub fn is_ordered(kind: Kind) -> bool
 }
 
 /// Two operands of the kind have the operator.
-pub fn takes(op: Operator, kind: Kind) -> bool
-    ensures { result ≡ takes op kind }
+#[tactic(auto, unfolding(crate::specs::Operators::takes_two))]
+pub fn takes_two(op: Operator, kind: Kind) -> bool
+    ensures { result ≡ takes_two op kind }
 {
     match op {
         Operator::Equal => true,
@@ -131,8 +134,9 @@ pub fn takes(op: Operator, kind: Kind) -> bool
 }
 
 /// Two operands of the kind are compared by the operator, if it is `==` or `!=`.
-pub fn is_comparable(op: Operator, kind: Kind) -> bool
-    ensures { result ≡ is_comparable op kind }
+#[tactic(auto, unfolding(crate::specs::Operators::tells_apart))]
+pub fn tells_apart(op: Operator, kind: Kind) -> bool
+    ensures { result ≡ tells_apart op kind }
 {
     match op {
         Operator::Equal => !is_nil(kind),
@@ -187,8 +191,9 @@ pub fn takes_alone(op: Operator, kind: Kind) -> bool
 }
 
 /// `==` or `!=`.
-pub fn is_equality(op: Operator) -> bool
-    ensures { result ≡ is_equality op }
+#[tactic(auto, unfolding(crate::specs::Operators::equates))]
+pub fn equates(op: Operator) -> bool
+    ensures { result ≡ equates op }
 {
     match op {
         Operator::Not => false,
@@ -215,6 +220,7 @@ pub fn is_equality(op: Operator) -> bool
 }
 
 /// `/` or `%`.
+#[tactic(auto, unfolding(crate::specs::Operators::divides))]
 pub fn divides(op: Operator) -> bool
     ensures { result ≡ divides op }
 {

@@ -1,8 +1,9 @@
 //! What a place makes of what stands there (Go 1.17, "Operands", "Assignability", "Representability", "Constant declarations").
-ghost use Rattle.std.specs.Prelude.{◌≡◌, true, option_map, Some, if◌then◌else◌};
+ghost use Rattle.std.specs.Prelude.{◌≡◌, ◌||◌, true, option_map, if◌then◌else◌};
 ghost use Rattle.mark_walk.specs.Telling.{tell};
 ghost use Rattle.typed_tree.specs.Basics.{HasBasics};
 ghost use Rattle.typed_marks.specs.Meanings.{constant_at};
+ghost use Rattle.typed_tree.specs.Places.{is_type, is_package};
 ghost use Rattle.typed_marks.specs.States.{so_far};
 ghost use Rattle.unit_read.specs.Subjects.{unit_of};
 ghost use Rattle.rule_words.specs.Answers.{is_plain};
@@ -10,21 +11,17 @@ ghost use Rattle.rule_words.specs.Scenes.{IsScene, told_by, IfFound, said, IsMar
 ghost use Rattle.rule_words.specs.Steps.{step_in, IsStepOf};
 ghost use Rattle.rule_words.specs.Putting.{held, assign_ask};
 ghost use Rattle.rule_words.specs.Wanting.{wanted_of, IsWantedOf};
-ghost use Rattle.op_rules.specs.Rules.{takes_default};
-ghost use Rattle.op_rules.specs.Placed.{goes_into, overflowing, represented_value, represented, assigned_type, assigned_to, assigned_good, assigned, wished_free, wished_value, wished_constant, is_value, single_fault, single_constant, single_demanded, value_demanded, demanded, placed_rule};
+ghost use Rattle.op_rules.specs.Placed.{represented, assigned_type, assigned_to, assigned_good, assigned, wished_free, wished_value, wished_constant, is_value, single_fault, owner_fault, owner_demanded, single_constant, single_demanded, value_demanded, demanded, placed_rule};
 ghost use Rattle.op_rules.specs.InCode.{wish_of, IsWishOf, facts_in, AreFactsOf};
 ghost use Rattle.typed_tree.specs.declared.rule.TheConstants.{NOT_ASSIGNABLE as NotAssignable};
 
-use crate::kinds::fits_in;
-use crate::modes::{is_builtin, is_constant, is_many, is_nil_mode, is_package, is_single, is_type};
+use crate::fitting::represented;
+use crate::modes::{is_constant, is_many, is_nil_mode, is_package, is_single, is_type};
 use crate::numbers::{
-    CONSTANT_OVERFLOW, NIL_WITHOUT_A_TYPE, NOT_A_TYPE, NOT_A_VALUE, NOT_ASSIGNABLE, NOT_CONSTANT,
-    SEVERAL_VALUES,
+    NIL_WITHOUT_A_TYPE, NOT_A_TYPE, NOT_A_VALUE, NOT_ASSIGNABLE, NOT_CONSTANT, SEVERAL_VALUES,
 };
-use crate::operand::value_at;
-use crate::types::{is_interface, is_untyped, kind_of};
+use crate::types::takes_default;
 use crate::wishes::is_shifted;
-use gv_base::Const;
 use rule_words::{Answer, Asked, Rest, Step, Wanted, under_of};
 use type_model::TypeId;
 use type_questions::Found;
@@ -33,73 +30,6 @@ use typed_tree::{Mode, Rule, Want as Demand};
 use unit_read::Subject;
 
 // ---- E30
-
-fn goes_into(s: &State, c: &Const, under: TypeId) -> bool
-    requires basics { HasBasics s.now.table }
-    requires under { IsTypeOf s.now under }
-    ensures { result ≡ goes_into c.now (type_in s.now under) }
-{
-    match kind_of(s, under) {
-        Some(kind) => fits_in(c, kind),
-        None => false,
-    }
-}
-
-fn overflowing(s: &State, x: Facts, c: &Const, under: Option<TypeId>) -> Mark
-    requires basics { HasBasics s.now.table }
-    requires facts { AreFactsOf s.now x }
-    requires under { MayBeTypeOf s.now under }
-    ensures is { said s.now result ≡ overflowing (facts_in s.now x) c.now (option_map (type_in s.now) under) }
-    ensures over { IsMarkOf s.now result }
-    ensures plain { is_plain result ≡ true }
-{
-    let Some(under) = under else {
-        return Mark::Silent;
-    };
-    // E30
-    if !goes_into(s, c, under) {
-        return Mark::Bad(CONSTANT_OVERFLOW);
-    }
-    Mark::Good(x)
-}
-
-fn represented_in(u: &Subject, s: &State, x: Facts, c: &Const) -> Found<Mark, Item>
-    requires scene { IsScene u.now s.now }
-    requires facts { AreFactsOf s.now x }
-    ensures is { told_by (said s.now) result ≡ tell (so_far s.now) (represented_value (unit_of u.now) (facts_in s.now x) (Some c.now)) }
-    ensures over { IfFound result (λ m. IsMarkOf s.now m × (is_plain m ≡ true)) }
-{
-    match under_of(u, s, x.last) {
-        Found::Is(under) => Found::Is(overflowing(s, x, c, under)),
-        Found::Wait(item) => Found::Wait(item),
-    }
-}
-
-fn represented_value(u: &Subject, s: &State, x: Facts, value: Option<ConstId>) -> Found<Mark, Item>
-    requires scene { IsScene u.now s.now }
-    requires facts { AreFactsOf s.now x }
-    ensures is { told_by (said s.now) result ≡ tell (so_far s.now) (represented_value (unit_of u.now) (facts_in s.now x) (constant_at s.now.constants.items value)) }
-    ensures over { IfFound result (λ m. IsMarkOf s.now m × (is_plain m ≡ true)) }
-{
-    match value_at(s, value) {
-        Some(c) => represented_in(u, s, x, c),
-        None => Found::Is(Mark::Good(x)),
-    }
-}
-
-/// An untyped constant is representable in the type that it takes.
-fn represented(u: &Subject, s: &State, x: Facts) -> Found<Mark, Item>
-    requires scene { IsScene u.now s.now }
-    requires facts { AreFactsOf s.now x }
-    ensures is { told_by (said s.now) result ≡ tell (so_far s.now) (represented (unit_of u.now) (facts_in s.now x)) }
-    ensures over { IfFound result (λ m. IsMarkOf s.now m × (is_plain m ≡ true)) }
-{
-    if is_untyped(s, x.of) {
-        represented_value(u, s, x, x.value)
-    } else {
-        Found::Is(Mark::Good(x))
-    }
-}
 
 fn judge_represented(u: &Subject, s: &State, x: Facts) -> Step
     requires scene { IsScene u.now s.now }
@@ -122,17 +52,6 @@ fn assigned_type(s: &State, x: Facts) -> TypeId
     ensures within { IsTypeOf s.now result }
 {
     if is_shifted(s, x) { x.last } else { x.of }
-}
-
-fn is_taking(s: &State, under: Option<TypeId>) -> bool
-    requires basics { HasBasics s.now.table }
-    requires under { MayBeTypeOf s.now under }
-    ensures { result ≡ takes_default (option_map (type_in s.now) under) }
-{
-    match under {
-        Some(under) => is_interface(s, under),
-        None => false,
-    }
 }
 
 /// Whether a value of a type is assignable to another is asked, first for its methods where that is an interface.
@@ -175,7 +94,7 @@ fn assigned_to(s: &State, x: Facts, to: TypeId, good: Mark, under: Option<TypeId
     ensures over { IsStepOf s.now result }
 {
     let of = assigned_type(s, x);
-    ask_assigned(s, is_taking(s, under), of, x.value, to, good)
+    ask_assigned(s, takes_default(s, under), of, x.value, to, good)
 }
 
 fn assigned_good(u: &Subject, s: &State, x: Facts, to: TypeId, good: Mark) -> Step
@@ -287,6 +206,20 @@ fn single_fault(mode: Mode) -> Option<Rule>
     None
 }
 
+/// A type or a package.
+fn owns(mode: Mode) -> bool
+    ensures { result ≡ (is_type mode || is_package mode) }
+{
+    is_type(mode) || is_package(mode)
+}
+
+/// The rule that a mode breaks before a dot: E24, E25.
+fn owner_fault(mode: Mode) -> Option<Rule>
+    ensures { result ≡ owner_fault mode }
+{
+    if owns(mode) { None } else { single_fault(mode) }
+}
+
 fn tested(holds: bool, rule: Rule, x: Facts) -> Step
     ensures { result ≡ (if holds then Step.Says (Answer.Mark (Mark.Good x)) else Step.Says (Answer.Mark (Mark.Bad rule))) }
 {
@@ -340,6 +273,18 @@ fn judge_value(u: &Subject, s: &State, demand: Demand, want: Want, x: Facts) -> 
     }
 }
 
+fn judge_owner(s: &State, x: Facts) -> Step
+    requires facts { AreFactsOf s.now x }
+    ensures is { step_in s.now result ≡ tell (so_far s.now) (owner_demanded (facts_in s.now x)) }
+    ensures over { IsStepOf s.now result }
+{
+    // E24, E25
+    match owner_fault(x.mode) {
+        Some(rule) => wrong(rule),
+        None => good(x),
+    }
+}
+
 fn judge_demand(u: &Subject, s: &State, demand: Demand, want: Want, x: Facts) -> Step
     requires scene { IsScene u.now s.now }
     requires want { IsWishOf s.now want }
@@ -351,7 +296,7 @@ fn judge_demand(u: &Subject, s: &State, demand: Demand, want: Want, x: Facts) ->
         Demand::Nothing => good(x),
         // E24
         Demand::Inside => tested(!is_package(x.mode), NOT_A_VALUE, x),
-        Demand::Owner => tested(!is_builtin(x.mode), NOT_A_VALUE, x),
+        Demand::Owner => judge_owner(s, x),
         // E10
         Demand::Type => tested(is_type(x.mode), NOT_A_TYPE, x),
         Demand::Operand => judge_value(u, s, demand, want, x),

@@ -1,32 +1,26 @@
-//! The rule of each kind of operand and operator.
-ghost use Rattle.std.specs.Prelude.{◌≡◌, IfOk, option_map, option_and_then, IfSome, slice_get};
+//! The rule of each form of operand and operator.
+ghost use Rattle.std.specs.Prelude.{◌≡◌, IfOk, option_map, slice_get};
 ghost use Rattle.mark_walk.specs.Telling.{tell};
-ghost use Rattle.const_tree.specs.Operators.{unary_operator, binary_operator};
 ghost use Rattle.typed_marks.specs.States.{so_far};
 ghost use Rattle.typed_tree.specs.Basics.{HasBasics};
-ghost use Rattle.typed_tree.specs.Constants.{text_literal_mark};
 ghost use Rattle.unit_read.specs.Subjects.{unit_of};
-ghost use Rattle.unit_read.specs.Units.{tree_at, first_spelled};
-ghost use Rattle.rule_words.specs.Asking.{under_ask};
 ghost use Rattle.rule_words.specs.Parts.{part_at};
-ghost use Rattle.rule_words.specs.Scenes.{IsScene, told_by, IfFound, said, IsMarkOf, type_in, IsTypeOf, MayBeTypeOf, part_in, parts_in, IsSeenOf, AreSeenOf};
+ghost use Rattle.rule_words.specs.Scenes.{IsScene, told_by, IfFound, type_in, IsTypeOf, MayBeTypeOf, part_in, parts_in, IsSeenOf, AreSeenOf};
 ghost use Rattle.rule_words.specs.Answers.{answer_in, IsAnswerOf};
 ghost use Rattle.rule_words.specs.Steps.{step_in, IsStepOf};
 ghost use Rattle.rule_words.specs.Wanting.{wanted_of, IsWantedOf};
-ghost use Rattle.op_rules.specs.Names.{wished};
-ghost use Rattle.op_rules.specs.Rules.{op_reads, operator_in, kind_rule, takes_default, freed, freed_ask, free_ask, freed_rule, op_rule};
+ghost use Rattle.op_rules.specs.Rules.{literal_mark, literal_rule, dotted_rule, paren_rule, unary_rule, binary_rule, form_rule, freed, freed_ask, free_ask, freed_rule, op_rule};
 ghost use Rattle.op_rules.specs.InCode.{wish_of, IsWishOf};
 
 use crate::binary::judge_binary;
+use crate::forms::{Form, Literal, binary_in, form_of, unary_in};
 use crate::name::{judge_name, judge_selector, used, wished};
 use crate::operand::{outside, silent};
-use crate::types::is_interface;
+use crate::types::takes_default;
 use crate::unary::judge_unary;
-use const_eval::Operator;
-use const_tree::{binary_operator, unary_operator};
-use go_tree::{Node, NodeKind, NodeRef};
+use go_tree::{Node, NodeRef};
 use gv_base::NoMemory;
-use rule_words::{Answer, How, Seen, Step, Wanted, under_of};
+use rule_words::{Answer, Seen, Step, Wanted, under_of};
 use std::alloc::Global;
 use type_model::TypeId;
 use type_questions::Found;
@@ -34,18 +28,7 @@ use typed_marks::{Item, Mark, State, Want};
 use typed_tree::{Limit, judge_int, judge_rune, judge_text};
 use unit_read::Subject;
 
-/// How the parts of a node are read.
-pub fn op_reads(kind: NodeKind, slot: usize) -> Option<How>
-    ensures { result ≡ op_reads kind slot }
-{
-    match kind {
-        NodeKind::Paren => Some(How::Mark),
-        NodeKind::Selector => Some(How::Mark),
-        NodeKind::Unary => Some(How::Value),
-        NodeKind::Binary => Some(How::Value),
-        _ => None,
-    }
-}
+// ---- parts
 
 fn seen_at(parts: &[Seen], i: usize) -> Option<Seen>
     ensures { result ≡ slice_get parts.now i }
@@ -68,45 +51,58 @@ fn part(s: &State, parts: &[Seen], i: usize) -> Seen
     }
 }
 
-fn unary_in(u: &Subject, file: u32, node: &Node) -> Option<Operator>
-    ensures { result ≡ operator_in unary_operator (unit_of u.now) file node.now }
-{
-    match u.tree_at(file) {
-        Some(tree) => unary_operator(tree, node),
-        None => None,
-    }
-}
+// ---- forms
 
-/// The operator of a binary expression.
-pub fn binary_in(u: &Subject, file: u32, node: &Node) -> Option<Operator>
-    ensures { result ≡ operator_in binary_operator (unit_of u.now) file node.now }
-{
-    match u.tree_at(file) {
-        Some(tree) => binary_operator(tree, node),
-        None => None,
-    }
-}
-
-fn judge_text_literal(
+#[tactic(auto, unfolding(crate::specs::Rules::literal_mark))]
+fn literal_mark(
     alloc: Global,
     s: &State,
-    want: Want,
     bytes: &[u8],
+    want: Want,
+    literal: Literal,
 ) -> Result<Answer, NoMemory>
     requires basics { HasBasics s.now.table }
     requires want { IsWishOf s.now want }
-    ensures is { IfOk result (λ answer. answer_in s.now answer ≡ wished (wish_of s.now want) (text_literal_mark bytes.now)) }
+    ensures is { IfOk result (λ answer. answer_in s.now answer ≡ literal_mark bytes.now (wish_of s.now want) literal) }
     ensures over { IfOk result (IsAnswerOf s.now) }
 {
-    let mark = judge_text(alloc, bytes)?;
-    Ok(wished(s, want, mark))
+    match literal {
+        Literal::Int => Ok(wished(s, want, judge_int(bytes))),
+        Literal::Rune => Ok(wished(s, want, judge_rune(bytes))),
+        Literal::Text => {
+            let mark = judge_text(alloc, bytes)?;
+            Ok(wished(s, want, mark))
+        }
+        Literal::Float => Ok(outside(Limit::Float)),
+        Literal::Imag => Ok(outside(Limit::Complex)),
+    }
 }
 
-fn judge_kind(
+#[tactic(auto, unfolding(crate::specs::Rules::literal_rule))]
+fn judge_literal(
     alloc: Global,
     u: &Subject,
     s: &State,
-    block: usize,
+    at: NodeRef,
+    node: &Node,
+    want: Want,
+    literal: Literal,
+) -> Result<Step, NoMemory>
+    requires basics { HasBasics s.now.table }
+    requires want { IsWishOf s.now want }
+    ensures is { IfOk result (λ step. step_in s.now step ≡ tell (so_far s.now) (literal_rule (unit_of u.now) at node.now (wish_of s.now want) literal)) }
+    ensures over { IfOk result (IsStepOf s.now) }
+{
+    let bytes = u.spelled(at.file, node.first);
+    let answer = literal_mark(alloc, s, bytes, want, literal)?;
+    Ok(Step::Says(answer))
+}
+
+#[tactic(auto, unfolding(crate::specs::Rules::dotted_rule))]
+fn judge_dotted(
+    alloc: Global,
+    u: &Subject,
+    s: &State,
     at: NodeRef,
     node: &Node,
     parts: &[Seen],
@@ -115,59 +111,103 @@ fn judge_kind(
     requires scene { IsScene u.now s.now }
     requires parts { AreSeenOf s.now parts.now }
     requires wanted { IsWantedOf s.now w }
-    ensures is { IfOk result (λ step. step_in s.now step ≡ tell (so_far s.now) (kind_rule (unit_of u.now) block at node.now (parts_in s.now parts.now) (wanted_of s.now w) node.now.kind)) }
+    ensures is { IfOk result (λ step. step_in s.now step ≡ tell (so_far s.now) (dotted_rule (unit_of u.now) at node.now (parts_in s.now parts.now) (wanted_of s.now w))) }
     ensures over { IfOk result (IsStepOf s.now) }
 {
-    match node.kind {
-        NodeKind::Int => Ok(Step::Says(wished(
-            s,
-            w.want,
-            judge_int(u.spelled(at.file, node.first)),
-        ))),
-        NodeKind::Rune => Ok(Step::Says(wished(
-            s,
-            w.want,
-            judge_rune(u.spelled(at.file, node.first)),
-        ))),
-        NodeKind::Text => {
-            let answer = judge_text_literal(alloc, s, w.want, u.spelled(at.file, node.first))?;
-            Ok(Step::Says(answer))
-        }
-        NodeKind::Float => Ok(Step::Says(outside(Limit::Float))),
-        NodeKind::Imag => Ok(Step::Says(outside(Limit::Complex))),
-        NodeKind::Name => Ok(judge_name(u, s, block, at, node, w)),
-        NodeKind::Selector => {
-            let step = judge_selector(alloc, u, s, at, node, part(s, parts, 0), w)?;
-            Ok(step)
-        }
-        NodeKind::Paren => Ok(used(s, w.want, part(s, parts, 0).mark)),
-        NodeKind::Unary => {
-            let op = unary_in(u, at.file, node);
-            let step = judge_unary(alloc, s, op, part(s, parts, 0), w.want)?;
-            Ok(step)
-        }
-        NodeKind::Binary => {
-            let op = binary_in(u, at.file, node);
-            let step = judge_binary(alloc, s, op, part(s, parts, 0), part(s, parts, 1), w.want)?;
-            Ok(step)
-        }
-        _ => Ok(Step::Says(silent())),
+    let a = part(s, parts, 0);
+    let step = judge_selector(alloc, u, s, at, node, a, w)?;
+    Ok(step)
+}
+
+#[tactic(auto, unfolding(crate::specs::Rules::paren_rule))]
+fn judge_paren(s: &State, parts: &[Seen], want: Want) -> Step
+    requires basics { HasBasics s.now.table }
+    requires parts { AreSeenOf s.now parts.now }
+    requires want { IsWishOf s.now want }
+    ensures is { step_in s.now result ≡ tell (so_far s.now) (paren_rule (parts_in s.now parts.now) (wish_of s.now want)) }
+    ensures over { IsStepOf s.now result }
+{
+    let a = part(s, parts, 0);
+    used(s, want, a.mark)
+}
+
+#[tactic(auto, unfolding(crate::specs::Rules::unary_rule))]
+fn judge_unary_node(
+    alloc: Global,
+    u: &Subject,
+    s: &State,
+    at: NodeRef,
+    node: &Node,
+    parts: &[Seen],
+    want: Want,
+) -> Result<Step, NoMemory>
+    requires basics { HasBasics s.now.table }
+    requires parts { AreSeenOf s.now parts.now }
+    requires want { IsWishOf s.now want }
+    ensures is { IfOk result (λ step. step_in s.now step ≡ tell (so_far s.now) (unary_rule (unit_of u.now) at node.now (parts_in s.now parts.now) (wish_of s.now want))) }
+    ensures over { IfOk result (IsStepOf s.now) }
+{
+    let op = unary_in(u, at.file, node);
+    let a = part(s, parts, 0);
+    let step = judge_unary(alloc, s, op, a, want)?;
+    Ok(step)
+}
+
+#[tactic(auto, unfolding(crate::specs::Rules::binary_rule))]
+fn judge_binary_node(
+    alloc: Global,
+    u: &Subject,
+    s: &State,
+    at: NodeRef,
+    node: &Node,
+    parts: &[Seen],
+    want: Want,
+) -> Result<Step, NoMemory>
+    requires basics { HasBasics s.now.table }
+    requires parts { AreSeenOf s.now parts.now }
+    requires want { IsWishOf s.now want }
+    ensures is { IfOk result (λ step. step_in s.now step ≡ tell (so_far s.now) (binary_rule (unit_of u.now) at node.now (parts_in s.now parts.now) (wish_of s.now want))) }
+    ensures over { IfOk result (IsStepOf s.now) }
+{
+    let op = binary_in(u, at.file, node);
+    let a = part(s, parts, 0);
+    let b = part(s, parts, 1);
+    let step = judge_binary(alloc, s, op, a, b, want)?;
+    Ok(step)
+}
+
+#[tactic(auto, unfolding(crate::specs::Rules::form_rule))]
+fn judge_form(
+    alloc: Global,
+    u: &Subject,
+    s: &State,
+    block: usize,
+    at: NodeRef,
+    node: &Node,
+    parts: &[Seen],
+    w: Wanted,
+    form: Form,
+) -> Result<Step, NoMemory>
+    requires scene { IsScene u.now s.now }
+    requires parts { AreSeenOf s.now parts.now }
+    requires wanted { IsWantedOf s.now w }
+    ensures is { IfOk result (λ step. step_in s.now step ≡ tell (so_far s.now) (form_rule (unit_of u.now) block at node.now (parts_in s.now parts.now) (wanted_of s.now w) form)) }
+    ensures over { IfOk result (IsStepOf s.now) }
+{
+    match form {
+        Form::Literal(literal) => judge_literal(alloc, u, s, at, node, w.want, literal),
+        Form::Name => Ok(judge_name(u, s, block, at, node, w)),
+        Form::Selector => judge_dotted(alloc, u, s, at, node, parts, w),
+        Form::Paren => Ok(judge_paren(s, parts, w.want)),
+        Form::Unary => judge_unary_node(alloc, u, s, at, node, parts, w.want),
+        Form::Binary => judge_binary_node(alloc, u, s, at, node, parts, w.want),
+        Form::Other => Ok(Step::Says(silent())),
     }
 }
 
 // ---- the type that is taken
 
-fn is_free(s: &State, under: Option<TypeId>) -> bool
-    requires basics { HasBasics s.now.table }
-    requires under { MayBeTypeOf s.now under }
-    ensures { result ≡ takes_default (option_map (type_in s.now) under) }
-{
-    match under {
-        Some(under) => is_interface(s, under),
-        None => false,
-    }
-}
-
+#[tactic(auto, unfolding(crate::specs::Rules::freed))]
 fn freed(s: &State, want: Want, under: Option<TypeId>) -> Want
     requires basics { HasBasics s.now.table }
     requires want { IsWishOf s.now want }
@@ -175,7 +215,11 @@ fn freed(s: &State, want: Want, under: Option<TypeId>) -> Want
     ensures is { wish_of s.now result ≡ freed (wish_of s.now want) (option_map (type_in s.now) under) }
     ensures within { IsWishOf s.now result }
 {
-    if is_free(s, under) { Want::Free } else { want }
+    if takes_default(s, under) {
+        Want::Free
+    } else {
+        want
+    }
 }
 
 fn freed_by(u: &Subject, s: &State, want: Want, to: TypeId) -> Found<Want, Item>
@@ -192,6 +236,7 @@ fn freed_by(u: &Subject, s: &State, want: Want, to: TypeId) -> Found<Want, Item>
 }
 
 /// An untyped operand takes its default type where an interface is wanted.
+#[tactic(auto, unfolding(crate::specs::Rules::free_ask))]
 fn free(u: &Subject, s: &State, want: Want) -> Found<Want, Item>
     requires scene { IsScene u.now s.now }
     requires want { IsWishOf s.now want }
@@ -204,6 +249,28 @@ fn free(u: &Subject, s: &State, want: Want) -> Found<Want, Item>
         Want::Fits(to) => freed_by(u, s, Want::Fits(to), to),
         Want::Assigned(to) => freed_by(u, s, Want::Assigned(to), to),
     }
+}
+
+#[tactic(auto, unfolding(crate::specs::Rules::freed_rule))]
+fn judge_freed(
+    alloc: Global,
+    u: &Subject,
+    s: &State,
+    block: usize,
+    at: NodeRef,
+    node: &Node,
+    parts: &[Seen],
+    w: Wanted,
+) -> Result<Step, NoMemory>
+    requires scene { IsScene u.now s.now }
+    requires parts { AreSeenOf s.now parts.now }
+    requires wanted { IsWantedOf s.now w }
+    ensures is { IfOk result (λ step. step_in s.now step ≡ tell (so_far s.now) (freed_rule (unit_of u.now) block at node.now (parts_in s.now parts.now) w.demand (wish_of s.now w.want))) }
+    ensures over { IfOk result (IsStepOf s.now) }
+{
+    let form = form_of(node.kind);
+    let step = judge_form(alloc, u, s, block, at, node, parts, w, form)?;
+    Ok(step)
 }
 
 /// How far the rule of an operand or an operator goes.
@@ -225,11 +292,8 @@ pub fn judge_op(
 {
     match free(u, s, wanted.want) {
         Found::Is(want) => {
-            let w = Wanted {
-                demand: wanted.demand,
-                want,
-            };
-            let step = judge_kind(alloc, u, s, block, at, node, parts, w)?;
+            let demand = wanted.demand;
+            let step = judge_freed(alloc, u, s, block, at, node, parts, Wanted { demand, want })?;
             Ok(step)
         }
         Found::Wait(item) => Ok(Step::Waits(item)),

@@ -10,7 +10,7 @@ ghost use Rattle.typed_marks.specs.States.{so_far};
 ghost use Rattle.rule_words.specs.Scenes.{type_in, IsTypeOf, part_in, IsSeenOf};
 ghost use Rattle.rule_words.specs.Answers.{answer_in, IsAnswerOf};
 ghost use Rattle.rule_words.specs.Steps.{step_in, IsStepOf};
-ghost use Rattle.op_rules.specs.Shifts.{counts_by, is_count, shifted_type, shift_valued, shift_mark, shift_beside, shift_by, shift_of_parts};
+ghost use Rattle.op_rules.specs.Shifts.{counts_by, is_count, shifted_type, shift_valued, is_shiftable, shift_mark, shift_beside, shift_by, shift_of_parts};
 ghost use Rattle.op_rules.specs.InCode.{operand_in, IsOperandOf, wish_of, IsWishOf};
 
 use crate::kinds::fits_in;
@@ -140,6 +140,16 @@ fn shift_valued(
     }
 }
 
+/// An integer whose final type is an integer type too.
+#[tactic(auto, unfolding(crate::specs::Shifts::is_shiftable))]
+fn is_shiftable(s: &State, x: Operand) -> bool
+    requires basics { HasBasics s.now.table }
+    requires operand { IsOperandOf s.now x }
+    ensures { result ≡ is_shiftable (operand_in s.now x) }
+{
+    is_integer(s, x.at) && is_integer(s, x.under)
+}
+
 /// The mark of a shift: E36, E37, E30.
 fn judge_operands(
     alloc: Global,
@@ -161,7 +171,7 @@ fn judge_operands(
         return Ok(bad(BAD_SHIFT_COUNT));
     }
     // E37
-    if !is_integer(s, x.under) {
+    if !is_shiftable(s, x) {
         return Ok(bad(SHIFTED_OPERAND_IS_NOT_AN_INTEGER));
     }
     let answer = shift_valued(alloc, s, op, x, want, count.value)?;
@@ -193,6 +203,7 @@ fn judge_count(
 }
 
 /// How far the rule of a shift goes.
+#[tactic(auto, unfolding(crate::specs::Shifts::shift_of_parts))]
 pub fn judge_shift(
     alloc: Global,
     s: &State,

@@ -1,5 +1,5 @@
 //! Types as operators count them.
-ghost use Rattle.std.specs.Prelude.{◌≡◌, ◌&&◌};
+ghost use Rattle.std.specs.Prelude.{◌≡◌, ◌&&◌, option_map};
 ghost use Rattle.gv_base.specs.declared.constant.Kind.{Kind};
 ghost use Rattle.type_model.specs.GoTypes.{BasicType, type_of, methods_of};
 ghost use Rattle.type_model.specs.Tables.{types_in};
@@ -8,9 +8,9 @@ ghost use Rattle.type_rel.specs.Kinds.{is_untyped, is_integer};
 ghost use Rattle.type_rel.specs.Terms.{kind_of, kind_in};
 ghost use Rattle.typed_tree.specs.Basics.{HasBasics};
 ghost use Rattle.typed_tree.specs.Operands.{is_nil, is_rune};
-ghost use Rattle.rule_words.specs.Scenes.{type_in, IsTypeOf};
-ghost use Rattle.op_rules.specs.Same.{same_type};
-ghost use Rattle.op_rules.specs.Types.{is_of, is_basic, is_interface, has_none, is_empty_interface, counted, common, alike, are_alike};
+ghost use Rattle.rule_words.specs.Scenes.{type_in, IsTypeOf, MayBeTypeOf};
+ghost use Rattle.op_rules.specs.Same.{same_type, are_one};
+ghost use Rattle.op_rules.specs.Types.{is_of, is_basic, is_interface, takes_default, has_none, is_empty_interface, counted, common, alike, are_alike};
 
 use crate::kinds::{alike, is_nil, is_rune};
 use gv_base::Kind;
@@ -54,6 +54,7 @@ pub fn basic_type(s: &State, kind: Kind) -> TypeId
     basic(kind)
 }
 
+#[tactic(auto, unfolding(crate::specs::Types::is_basic))]
 pub fn is_basic(s: &State, t: TypeId) -> bool
     requires basics { HasBasics s.now.table }
     requires within { IsTypeOf s.now t }
@@ -66,6 +67,7 @@ pub fn is_basic(s: &State, t: TypeId) -> bool
 }
 
 /// An untyped type.
+#[tactic(auto, unfolding(crate::specs::Types::is_of))]
 pub fn is_untyped(s: &State, t: TypeId) -> bool
     requires basics { HasBasics s.now.table }
     requires within { IsTypeOf s.now t }
@@ -78,6 +80,7 @@ pub fn is_untyped(s: &State, t: TypeId) -> bool
 }
 
 /// An integer type.
+#[tactic(auto, unfolding(crate::specs::Types::is_of))]
 pub fn is_integer(s: &State, t: TypeId) -> bool
     requires basics { HasBasics s.now.table }
     requires within { IsTypeOf s.now t }
@@ -90,6 +93,7 @@ pub fn is_integer(s: &State, t: TypeId) -> bool
 }
 
 /// The type of `nil`.
+#[tactic(auto, unfolding(crate::specs::Types::is_of))]
 pub fn is_nil_type(s: &State, t: TypeId) -> bool
     requires basics { HasBasics s.now.table }
     requires within { IsTypeOf s.now t }
@@ -102,6 +106,7 @@ pub fn is_nil_type(s: &State, t: TypeId) -> bool
 }
 
 /// The type of untyped runes.
+#[tactic(auto, unfolding(crate::specs::Types::is_of))]
 pub fn is_rune_type(s: &State, t: TypeId) -> bool
     requires basics { HasBasics s.now.table }
     requires within { IsTypeOf s.now t }
@@ -113,6 +118,7 @@ pub fn is_rune_type(s: &State, t: TypeId) -> bool
     }
 }
 
+#[tactic(auto, unfolding(crate::specs::Types::is_interface))]
 fn is_interface_term(s: &State, term: &Term) -> bool
     ensures { result ≡ is_interface (type_of (types_in s.now.table) term.now) }
 {
@@ -139,6 +145,19 @@ pub fn is_interface(s: &State, t: TypeId) -> bool
     is_interface_term(s, s.table.term(t))
 }
 
+/// An untyped operand takes its default type where this is wanted.
+#[tactic(auto, unfolding(crate::specs::Types::takes_default))]
+pub fn takes_default(s: &State, under: Option<TypeId>) -> bool
+    requires basics { HasBasics s.now.table }
+    requires under { MayBeTypeOf s.now under }
+    ensures { result ≡ takes_default (option_map (type_in s.now) under) }
+{
+    match under {
+        Some(under) => is_interface(s, under),
+        None => false,
+    }
+}
+
 fn has_none(s: &State, methods: &[Method]) -> bool
     ensures { result ≡ has_none (methods_of (types_in s.now.table) methods.now) }
 {
@@ -148,6 +167,7 @@ fn has_none(s: &State, methods: &[Method]) -> bool
     }
 }
 
+#[tactic(auto, unfolding(crate::specs::Types::is_empty_interface))]
 fn is_empty_term(s: &State, term: &Term) -> bool
     ensures { result ≡ is_empty_interface (type_of (types_in s.now.table) term.now) }
 {
@@ -200,8 +220,7 @@ pub fn holds_nil(s: &State, t: TypeId) -> bool
     holds_nil_term(s, s.table.term(t))
 }
 
-/// The types are one.
-pub fn same_type(s: &State, a: TypeId, b: TypeId) -> bool
+fn same_type(s: &State, a: TypeId, b: TypeId) -> bool
     requires basics { HasBasics s.now.table }
     requires first { IsTypeOf s.now a }
     requires second { IsTypeOf s.now b }
@@ -210,7 +229,19 @@ pub fn same_type(s: &State, a: TypeId, b: TypeId) -> bool
     s.table.same(a, b)
 }
 
+/// The types are one.
+#[tactic(auto, unfolding(crate::specs::Same::are_one))]
+pub fn are_one(s: &State, a: TypeId, b: TypeId) -> bool
+    requires basics { HasBasics s.now.table }
+    requires first { IsTypeOf s.now a }
+    requires second { IsTypeOf s.now b }
+    ensures { result ≡ are_one (type_in s.now a) (type_in s.now b) }
+{
+    same_type(s, a, b)
+}
+
 /// The type at which operators count an operand.
+#[tactic(auto, unfolding(crate::specs::Types::counted))]
 pub fn counted(s: &State, of: TypeId, under: TypeId) -> TypeId
     requires basics { HasBasics s.now.table }
     requires of { IsTypeOf s.now of }
@@ -232,6 +263,7 @@ fn is_known_rune(s: &State, a: TypeId, b: TypeId) -> bool
 }
 
 /// The type of both operands.
+#[tactic(auto, unfolding(crate::specs::Types::common))]
 pub fn common(s: &State, a: TypeId, b: TypeId) -> TypeId
     requires basics { HasBasics s.now.table }
     requires first { IsTypeOf s.now a }
@@ -245,6 +277,7 @@ pub fn common(s: &State, a: TypeId, b: TypeId) -> TypeId
     if is_known_rune(s, a, b) { a } else { b }
 }
 
+#[tactic(auto, unfolding(crate::specs::Types::is_of))]
 fn alike_to(s: &State, kind: Kind, b: TypeId) -> bool
     requires basics { HasBasics s.now.table }
     requires within { IsTypeOf s.now b }
@@ -257,6 +290,7 @@ fn alike_to(s: &State, kind: Kind, b: TypeId) -> bool
 }
 
 /// Basic types of one class.
+#[tactic(auto, unfolding(crate::specs::Types::is_of, crate::specs::Types::are_alike))]
 pub fn are_alike(s: &State, a: TypeId, b: TypeId) -> bool
     requires basics { HasBasics s.now.table }
     requires first { IsTypeOf s.now a }

@@ -25,6 +25,7 @@ use std::alloc::Global;
 use type_model::TypeId;
 use typed_marks::{State, Want};
 
+#[tactic(auto, unfolding(crate::specs::Types::is_of))]
 fn is_defined(s: &State, op: Operator, at: TypeId) -> bool
     requires basics { HasBasics s.now.table }
     requires within { IsTypeOf s.now at }
@@ -136,6 +137,7 @@ fn judge_operator(
 }
 
 /// How far the rule of a unary expression goes: E34, E30.
+#[tactic(auto, unfolding(crate::specs::Unary::unary_by))]
 pub fn judge_unary(
     alloc: Global,
     s: &State,

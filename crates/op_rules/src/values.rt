@@ -18,6 +18,7 @@ use type_model::TypeId;
 use typed_marks::{ConstId, State, Want};
 use typed_tree::{Limit, Mode};
 
+#[tactic(auto, unfolding(crate::specs::Types::is_of))]
 fn fits_at(s: &State, c: &Const, at: TypeId) -> bool
     requires basics { HasBasics s.now.table }
     requires at { IsTypeOf s.now at }

@@ -1,27 +1,31 @@
 //! What the places of operands want.
-ghost use Rattle.std.specs.Prelude.{◌≡◌, ◌-◌, Some};
+ghost use Rattle.std.specs.Prelude.{◌≡◌, ◌-◌, option_map};
 ghost use Rattle.mark_walk.specs.Telling.{tell};
 ghost use Rattle.typed_tree.specs.Basics.{HasBasics};
 ghost use Rattle.typed_marks.specs.States.{so_far};
 ghost use Rattle.unit_read.specs.Subjects.{unit_of, IsRead};
-ghost use Rattle.rule_words.specs.Scenes.{IsScene, told_by, IfFound, said, IsMarkOf};
+ghost use Rattle.rule_words.specs.Scenes.{IsScene, told_by, IfFound, said, IsMarkOf, type_in, MayBeTypeOf};
 ghost use Rattle.rule_words.specs.Words.{wanted_in};
-ghost use Rattle.op_rules.specs.Wants.{before, whole, unchecked_by, whole_unchecked, handing_on, count_by, count_wants, shifted_in, shifted_in_whole, shifted_with, shifted_wants, shift_wants, operand_in, operand_in_whole, operand_with, operand_wants, binary_wants, file_of, kind_wants, op_wants};
+ghost use Rattle.op_rules.specs.Wants.{before, whole, unchecked_by, whole_handed, handing_on, count_by, count_wants, shifted_in, operand_in, operand_over, operand_with, operand_in_whole, operand_beside, operand_wants, is_count, operator_wants, operator_asked, file_of, binary_wants, form_wants, op_wants};
 ghost use Rattle.op_rules.specs.InCode.{wish_of, IsWishOf};
 
-use crate::operators::is_shift;
-use crate::rules::binary_in;
+use crate::forms::{Form, binary_in, form_of};
+use crate::operators::shifts;
 use crate::wishes::{default_type, operand_wish, shifted_wish, unchecked_type};
 use const_eval::Operator;
-use go_tree::{Node, NodeKind};
+use go_tree::Node;
 use package_objects::part_of;
-use rule_words::{look, wanted_by};
+use rule_words::{look, mark_under};
+use type_model::TypeId;
 use type_questions::Found;
 use typed_marks::{Item, Mark, Stage, State, Want};
 use typed_tree::Want as Demand;
 use unit_read::{Place, Subject};
 
+// ---- marks
+
 /// A part before anything is wanted of it.
+#[tactic(auto, unfolding(crate::specs::Wants::before))]
 fn before(u: &Subject, s: &State, block: usize, around: &Node, slot: usize) -> Found<Mark, Item>
     requires scene { IsScene u.now s.now }
     ensures is { told_by (said s.now) result ≡ tell (so_far s.now) (before (unit_of u.now) block around.now slot) }
@@ -34,6 +38,7 @@ fn before(u: &Subject, s: &State, block: usize, around: &Node, slot: usize) -> F
 }
 
 /// What is wanted of the whole.
+#[tactic(auto, unfolding(crate::specs::Wants::whole))]
 fn whole(u: &Subject, s: &State, block: usize, p: Place) -> Found<Mark, Item>
     requires scene { IsScene u.now s.now }
     ensures is { told_by (said s.now) result ≡ tell (so_far s.now) (whole (unit_of u.now) block p) }
@@ -59,6 +64,7 @@ fn wish_by(s: &State, m: Mark) -> Want
 
 // ---- parentheses and unary operators
 
+#[tactic(auto, unfolding(crate::specs::Wants::unchecked_by))]
 fn unchecked_by(s: &State, demand: Demand, own: Mark, w: Mark) -> Mark
     requires basics { HasBasics s.now.table }
     requires own { IsMarkOf s.now own }
@@ -66,10 +72,11 @@ fn unchecked_by(s: &State, demand: Demand, own: Mark, w: Mark) -> Mark
     ensures is { said s.now result ≡ unchecked_by demand (said s.now own) (said s.now w) }
     ensures over { IsMarkOf s.now result }
 {
-    Mark::Wants(demand, unchecked_type(s, wish_by(s, w), own))
+    let want = wish_by(s, w);
+    Mark::Wants(demand, unchecked_type(s, want, own))
 }
 
-fn whole_unchecked(
+fn whole_handed(
     u: &Subject,
     s: &State,
     block: usize,
@@ -79,7 +86,7 @@ fn whole_unchecked(
 ) -> Found<Mark, Item>
     requires scene { IsScene u.now s.now }
     requires own { IsMarkOf s.now own }
-    ensures is { told_by (said s.now) result ≡ tell (so_far s.now) (whole_unchecked (unit_of u.now) block p demand (said s.now own)) }
+    ensures is { told_by (said s.now) result ≡ tell (so_far s.now) (whole_handed (unit_of u.now) block p demand (said s.now own)) }
     ensures over { IfFound result (IsMarkOf s.now) }
 {
     match whole(u, s, block, p) {
@@ -101,13 +108,14 @@ fn handing_on(
     ensures over { IfFound result (IsMarkOf s.now) }
 {
     match before(u, s, block, around, 0) {
-        Found::Is(own) => whole_unchecked(u, s, block, p, demand, own),
+        Found::Is(own) => whole_handed(u, s, block, p, demand, own),
         Found::Wait(item) => Found::Wait(item),
     }
 }
 
-// ---- shifts
+// ---- counts of shifts
 
+#[tactic(auto, unfolding(crate::specs::Wants::count_by))]
 fn count_by(s: &State, own: Mark) -> Mark
     requires basics { HasBasics s.now.table }
     requires own { IsMarkOf s.now own }
@@ -128,6 +136,9 @@ fn count_wants(u: &Subject, s: &State, block: usize, around: &Node) -> Found<Mar
     }
 }
 
+// ---- other operands
+
+#[tactic(auto, unfolding(crate::specs::Wants::shifted_in))]
 fn shifted_in(s: &State, own: Mark, count: Mark, w: Mark) -> Mark
     requires basics { HasBasics s.now.table }
     requires own { IsMarkOf s.now own }
@@ -136,85 +147,74 @@ fn shifted_in(s: &State, own: Mark, count: Mark, w: Mark) -> Mark
     ensures is { said s.now result ≡ shifted_in (said s.now own) (said s.now count) (said s.now w) }
     ensures over { IsMarkOf s.now result }
 {
-    Mark::Wants(Demand::Operand, shifted_wish(s, own, count, wish_by(s, w)))
+    let want = wish_by(s, w);
+    Mark::Wants(Demand::Operand, shifted_wish(s, own, count, want))
 }
 
-fn shifted_in_whole(
-    u: &Subject,
+#[tactic(auto, unfolding(crate::specs::Wants::operand_in))]
+fn operand_in(
     s: &State,
-    block: usize,
-    p: Place,
+    op: Operator,
     own: Mark,
-    count: Mark,
-) -> Found<Mark, Item>
-    requires scene { IsScene u.now s.now }
-    requires own { IsMarkOf s.now own }
-    requires count { IsMarkOf s.now count }
-    ensures is { told_by (said s.now) result ≡ tell (so_far s.now) (shifted_in_whole (unit_of u.now) block p (said s.now own) (said s.now count)) }
-    ensures over { IfFound result (IsMarkOf s.now) }
-{
-    match whole(u, s, block, p) {
-        Found::Is(w) => Found::Is(shifted_in(s, own, count, w)),
-        Found::Wait(item) => Found::Wait(item),
-    }
-}
-
-fn shifted_with(
-    u: &Subject,
-    s: &State,
-    block: usize,
-    p: Place,
-    around: &Node,
-    own: Mark,
-) -> Found<Mark, Item>
-    requires scene { IsScene u.now s.now }
-    requires own { IsMarkOf s.now own }
-    ensures is { told_by (said s.now) result ≡ tell (so_far s.now) (shifted_with (unit_of u.now) block p around.now (said s.now own)) }
-    ensures over { IfFound result (IsMarkOf s.now) }
-{
-    match before(u, s, block, around, 1) {
-        Found::Is(count) => shifted_in_whole(u, s, block, p, own, count),
-        Found::Wait(item) => Found::Wait(item),
-    }
-}
-
-fn shifted_wants(u: &Subject, s: &State, block: usize, p: Place, around: &Node) -> Found<Mark, Item>
-    requires scene { IsScene u.now s.now }
-    ensures is { told_by (said s.now) result ≡ tell (so_far s.now) (shifted_wants (unit_of u.now) block p around.now) }
-    ensures over { IfFound result (IsMarkOf s.now) }
-{
-    match before(u, s, block, around, 0) {
-        Found::Is(own) => shifted_with(u, s, block, p, around, own),
-        Found::Wait(item) => Found::Wait(item),
-    }
-}
-
-fn shift_wants(u: &Subject, s: &State, block: usize, p: Place, around: &Node) -> Found<Mark, Item>
-    requires scene { IsScene u.now s.now }
-    ensures is { told_by (said s.now) result ≡ tell (so_far s.now) (shift_wants (unit_of u.now) block p around.now) }
-    ensures over { IfFound result (IsMarkOf s.now) }
-{
-    if p.slot == 0 {
-        shifted_wants(u, s, block, p, around)
-    } else {
-        count_wants(u, s, block, around)
-    }
-}
-
-// ---- other binary operators
-
-fn operand_in(s: &State, op: Operator, own: Mark, beside: Mark, w: Mark) -> Mark
+    beside: Mark,
+    w: Mark,
+    under: Option<TypeId>,
+) -> Mark
     requires basics { HasBasics s.now.table }
     requires own { IsMarkOf s.now own }
     requires beside { IsMarkOf s.now beside }
     requires whole { IsMarkOf s.now w }
-    ensures is { said s.now result ≡ operand_in op (said s.now own) (said s.now beside) (said s.now w) }
+    requires under { MayBeTypeOf s.now under }
+    ensures is { said s.now result ≡ operand_in op (said s.now own) (said s.now beside) (said s.now w) (option_map (type_in s.now) under) }
     ensures over { IsMarkOf s.now result }
 {
-    Mark::Wants(
-        Demand::Operand,
-        operand_wish(s, op, own, beside, wish_by(s, w)),
-    )
+    let want = wish_by(s, w);
+    let want = operand_wish(s, op, own, beside, under, want);
+    Mark::Wants(Demand::Operand, want)
+}
+
+fn operand_over(
+    u: &Subject,
+    s: &State,
+    op: Operator,
+    own: Mark,
+    beside: Mark,
+    w: Mark,
+) -> Found<Mark, Item>
+    requires scene { IsScene u.now s.now }
+    requires own { IsMarkOf s.now own }
+    requires beside { IsMarkOf s.now beside }
+    requires whole { IsMarkOf s.now w }
+    ensures is { told_by (said s.now) result ≡ tell (so_far s.now) (operand_over (unit_of u.now) op (said s.now own) (said s.now beside) (said s.now w)) }
+    ensures over { IfFound result (IsMarkOf s.now) }
+{
+    match mark_under(u, s, beside) {
+        Found::Is(under) => Found::Is(operand_in(s, op, own, beside, w, under)),
+        Found::Wait(item) => Found::Wait(item),
+    }
+}
+
+#[tactic(auto, unfolding(crate::specs::Wants::operand_with))]
+fn operand_with(
+    u: &Subject,
+    s: &State,
+    op: Operator,
+    own: Mark,
+    beside: Mark,
+    w: Mark,
+) -> Found<Mark, Item>
+    requires scene { IsScene u.now s.now }
+    requires own { IsMarkOf s.now own }
+    requires beside { IsMarkOf s.now beside }
+    requires whole { IsMarkOf s.now w }
+    ensures is { told_by (said s.now) result ≡ tell (so_far s.now) (operand_with (unit_of u.now) op (said s.now own) (said s.now beside) (said s.now w)) }
+    ensures over { IfFound result (IsMarkOf s.now) }
+{
+    if shifts(op) {
+        Found::Is(shifted_in(s, own, beside, w))
+    } else {
+        operand_over(u, s, op, own, beside, w)
+    }
 }
 
 fn operand_in_whole(
@@ -233,7 +233,7 @@ fn operand_in_whole(
     ensures over { IfFound result (IsMarkOf s.now) }
 {
     match whole(u, s, block, p) {
-        Found::Is(w) => Found::Is(operand_in(s, op, own, beside, w)),
+        Found::Is(w) => operand_with(u, s, op, own, beside, w),
         Found::Wait(item) => Found::Wait(item),
     }
 }
@@ -244,7 +244,7 @@ fn other_slot(slot: usize) -> usize
     if slot == 0 { 1 } else { 0 }
 }
 
-fn operand_with(
+fn operand_beside(
     u: &Subject,
     s: &State,
     block: usize,
@@ -255,10 +255,11 @@ fn operand_with(
 ) -> Found<Mark, Item>
     requires scene { IsScene u.now s.now }
     requires own { IsMarkOf s.now own }
-    ensures is { told_by (said s.now) result ≡ tell (so_far s.now) (operand_with (unit_of u.now) block p around.now op (said s.now own)) }
+    ensures is { told_by (said s.now) result ≡ tell (so_far s.now) (operand_beside (unit_of u.now) block p around.now op (said s.now own)) }
     ensures over { IfFound result (IsMarkOf s.now) }
 {
-    match before(u, s, block, around, other_slot(p.slot)) {
+    let slot = other_slot(p.slot);
+    match before(u, s, block, around, slot) {
         Found::Is(beside) => operand_in_whole(u, s, block, p, op, own, beside),
         Found::Wait(item) => Found::Wait(item),
     }
@@ -277,11 +278,21 @@ fn operand_wants(
     ensures over { IfFound result (IsMarkOf s.now) }
 {
     match before(u, s, block, around, p.slot) {
-        Found::Is(own) => operand_with(u, s, block, p, around, op, own),
+        Found::Is(own) => operand_beside(u, s, block, p, around, op, own),
         Found::Wait(item) => Found::Wait(item),
     }
 }
 
+// ---- binary operators
+
+#[tactic(auto, unfolding(crate::specs::Wants::is_count))]
+fn is_count(op: Operator, slot: usize) -> bool
+    ensures { result ≡ is_count op slot }
+{
+    shifts(op) && slot == 1
+}
+
+#[tactic(auto, unfolding(crate::specs::Wants::operator_wants))]
 fn operator_wants(
     u: &Subject,
     s: &State,
@@ -291,17 +302,18 @@ fn operator_wants(
     op: Operator,
 ) -> Found<Mark, Item>
     requires scene { IsScene u.now s.now }
-    ensures is { told_by (said s.now) result ≡ tell (so_far s.now) (binary_wants (unit_of u.now) block p around.now (Some op)) }
+    ensures is { told_by (said s.now) result ≡ tell (so_far s.now) (operator_wants (unit_of u.now) block p around.now op) }
     ensures over { IfFound result (IsMarkOf s.now) }
 {
-    if is_shift(op) {
-        shift_wants(u, s, block, p, around)
+    if is_count(op, p.slot) {
+        count_wants(u, s, block, around)
     } else {
         operand_wants(u, s, block, p, around, op)
     }
 }
 
-fn binary_wants(
+#[tactic(auto, unfolding(crate::specs::Wants::operator_asked))]
+fn operator_asked(
     u: &Subject,
     s: &State,
     block: usize,
@@ -310,7 +322,7 @@ fn binary_wants(
     op: Option<Operator>,
 ) -> Found<Mark, Item>
     requires scene { IsScene u.now s.now }
-    ensures is { told_by (said s.now) result ≡ tell (so_far s.now) (binary_wants (unit_of u.now) block p around.now op) }
+    ensures is { told_by (said s.now) result ≡ tell (so_far s.now) (operator_asked (unit_of u.now) block p around.now op) }
     ensures over { IfFound result (IsMarkOf s.now) }
 {
     match op {
@@ -319,6 +331,7 @@ fn binary_wants(
     }
 }
 
+#[tactic(auto, unfolding(crate::specs::Wants::file_of))]
 fn file_of(u: &Subject, block: usize) -> u32
     requires { IsRead u.now }
     ensures { result ≡ file_of (unit_of u.now) block }
@@ -329,20 +342,49 @@ fn file_of(u: &Subject, block: usize) -> u32
     }
 }
 
+#[tactic(auto, unfolding(crate::specs::Wants::binary_wants))]
+fn binary_wants(u: &Subject, s: &State, block: usize, p: Place, around: &Node) -> Found<Mark, Item>
+    requires scene { IsScene u.now s.now }
+    ensures is { told_by (said s.now) result ≡ tell (so_far s.now) (binary_wants (unit_of u.now) block p around.now) }
+    ensures over { IfFound result (IsMarkOf s.now) }
+{
+    let file = file_of(u, block);
+    let op = binary_in(u, file, around);
+    operator_asked(u, s, block, p, around, op)
+}
+
+// ---- forms
+
+#[tactic(auto, unfolding(crate::specs::Wants::form_wants))]
+fn form_wants(
+    u: &Subject,
+    s: &State,
+    block: usize,
+    p: Place,
+    around: &Node,
+    form: Form,
+) -> Found<Mark, Item>
+    requires scene { IsScene u.now s.now }
+    ensures is { told_by (said s.now) result ≡ tell (so_far s.now) (form_wants (unit_of u.now) block p around.now form) }
+    ensures over { IfFound result (IsMarkOf s.now) }
+{
+    match form {
+        Form::Literal(_) => Found::Is(Mark::Wants(Demand::Nothing, Want::Free)),
+        Form::Name => Found::Is(Mark::Wants(Demand::Nothing, Want::Free)),
+        Form::Selector => Found::Is(Mark::Wants(Demand::Owner, Want::Free)),
+        Form::Paren => handing_on(u, s, block, p, around, Demand::Inside),
+        Form::Unary => handing_on(u, s, block, p, around, Demand::Operand),
+        Form::Binary => binary_wants(u, s, block, p, around),
+        Form::Other => Found::Is(Mark::Wants(Demand::Nothing, Want::Free)),
+    }
+}
+
 /// What the place of a part wants, by the node around it.
 pub fn want_op(u: &Subject, s: &State, block: usize, p: Place, around: &Node) -> Found<Mark, Item>
     requires scene { IsScene u.now s.now }
     ensures is { told_by (said s.now) result ≡ tell (so_far s.now) (op_wants (unit_of u.now) block p around.now) }
     ensures over { IfFound result (IsMarkOf s.now) }
 {
-    match around.kind {
-        NodeKind::Paren => handing_on(u, s, block, p, around, Demand::Inside),
-        NodeKind::Unary => handing_on(u, s, block, p, around, Demand::Operand),
-        NodeKind::Binary => {
-            let op = binary_in(u, file_of(u, block), around);
-            binary_wants(u, s, block, p, around, op)
-        }
-        NodeKind::Selector => Found::Is(Mark::Wants(Demand::Owner, Want::Free)),
-        _ => Found::Is(Mark::Wants(Demand::Nothing, Want::Free)),
-    }
+    let form = form_of(around.kind);
+    form_wants(u, s, block, p, around, form)
 }

@@ -1,16 +1,16 @@
 //! Which types the places of operands want (Go 1.17, "Operators", "Constant expressions").
-ghost use Rattle.std.specs.Prelude.{◌≡◌, ◌&&◌, ◌||◌};
+ghost use Rattle.std.specs.Prelude.{◌≡◌, ◌&&◌, option_map};
 ghost use Rattle.type_rel.specs.Kinds.{is_untyped, is_integer};
 ghost use Rattle.typed_tree.specs.Basics.{HasBasics};
 ghost use Rattle.typed_marks.specs.Meanings.{constant_at};
-ghost use Rattle.rule_words.specs.Scenes.{said, IsMarkOf, type_in, IsTypeOf};
+ghost use Rattle.rule_words.specs.Scenes.{said, IsMarkOf, type_in, IsTypeOf, MayBeTypeOf};
 ghost use Rattle.op_rules.specs.Types.{is_of};
-ghost use Rattle.op_rules.specs.Wants.{default_of, unchecked, checked, unchecked_type, default_type, has_value, shifted_by, shifted_over, shifted_wish, is_shifted, untyped_wish, beside_wish, by_beside, handed, operand_wish};
+ghost use Rattle.op_rules.specs.Wishes.{default_of, fitting_default, unchecked, checked, unchecked_type, default_type, has_value, shifted_by, shifted_over, shifted_wish, is_shifted, mixed, one_is_shifted, untyped_wish, typed_wish, beside_wish, by_beside, handed, operand_wish};
 ghost use Rattle.op_rules.specs.InCode.{wish_of, IsWishOf, facts_in, AreFactsOf};
 
 use crate::operand::value_at;
-use crate::operators::is_comparison;
-use crate::types::{basic_type, common, is_untyped, kind_of};
+use crate::operators::compares;
+use crate::types::{are_alike, basic_type, common, is_untyped, kind_of, takes_default};
 use const_eval::Operator;
 use gv_base::Kind;
 use rule_words::default_kind;
@@ -30,7 +30,20 @@ fn default_of(s: &State, of: TypeId) -> Want
     }
 }
 
+fn fitting_default(s: &State, of: TypeId) -> Want
+    requires basics { HasBasics s.now.table }
+    requires of { IsTypeOf s.now of }
+    ensures is { wish_of s.now result ≡ fitting_default (type_in s.now of) }
+    ensures within { IsWishOf s.now result }
+{
+    match kind_of(s, of) {
+        Some(kind) => Want::Fits(basic_type(s, default_kind(kind))),
+        None => Want::Free,
+    }
+}
+
 /// What the whole takes, or the default of this type; nothing is tested here.
+#[tactic(auto, unfolding(crate::specs::Wishes::unchecked))]
 fn unchecked(s: &State, whole: Want, of: TypeId) -> Want
     requires basics { HasBasics s.now.table }
     requires whole { IsWishOf s.now whole }
@@ -46,14 +59,17 @@ fn unchecked(s: &State, whole: Want, of: TypeId) -> Want
     }
 }
 
-/// What the whole takes; a constant is representable in it.
-fn checked(s: &State, whole: Want) -> Want
+/// What the whole takes, or the default of this type; a constant is representable in it.
+#[tactic(auto, unfolding(crate::specs::Wishes::checked))]
+fn checked(s: &State, whole: Want, of: TypeId) -> Want
+    requires basics { HasBasics s.now.table }
     requires whole { IsWishOf s.now whole }
-    ensures is { wish_of s.now result ≡ checked (wish_of s.now whole) }
+    requires of { IsTypeOf s.now of }
+    ensures is { wish_of s.now result ≡ checked (wish_of s.now whole) (type_in s.now of) }
     ensures within { IsWishOf s.now result }
 {
     match whole {
-        Want::Free => Want::Free,
+        Want::Free => fitting_default(s, of),
         Want::Takes(to) => Want::Fits(to),
         Want::Fits(to) => Want::Fits(to),
         Want::Assigned(to) => Want::Fits(to),
@@ -61,6 +77,7 @@ fn checked(s: &State, whole: Want) -> Want
 }
 
 /// What the whole takes, or the default of the type of this mark.
+#[tactic(auto, unfolding(crate::specs::Wishes::unchecked_type))]
 pub fn unchecked_type(s: &State, whole: Want, own: Mark) -> Want
     requires basics { HasBasics s.now.table }
     requires whole { IsWishOf s.now whole }
@@ -79,6 +96,7 @@ pub fn unchecked_type(s: &State, whole: Want, own: Mark) -> Want
 }
 
 /// The default of the type of this mark.
+#[tactic(auto, unfolding(crate::specs::Wishes::default_type))]
 pub fn default_type(s: &State, own: Mark) -> Want
     requires basics { HasBasics s.now.table }
     requires own { IsMarkOf s.now own }
@@ -112,6 +130,7 @@ fn have_values(s: &State, x: Facts, y: Facts) -> bool
     has_value(s, x.value) && has_value(s, y.value)
 }
 
+#[tactic(auto, unfolding(crate::specs::Wishes::shifted_by))]
 fn shifted_by(s: &State, whole: Want, x: Facts, count: Facts) -> Want
     requires basics { HasBasics s.now.table }
     requires whole { IsWishOf s.now whole }
@@ -123,10 +142,11 @@ fn shifted_by(s: &State, whole: Want, x: Facts, count: Facts) -> Want
     if have_values(s, x, count) {
         default_of(s, x.of)
     } else {
-        checked(s, whole)
+        checked(s, whole, x.of)
     }
 }
 
+#[tactic(auto, unfolding(crate::specs::Wishes::shifted_over))]
 fn shifted_over(s: &State, whole: Want, count: Mark, x: Facts) -> Want
     requires basics { HasBasics s.now.table }
     requires whole { IsWishOf s.now whole }
@@ -146,6 +166,7 @@ fn shifted_over(s: &State, whole: Want, count: Mark, x: Facts) -> Want
 }
 
 /// What the left operand of a shift takes.
+#[tactic(auto, unfolding(crate::specs::Wishes::shifted_wish))]
 pub fn shifted_wish(s: &State, own: Mark, count: Mark, whole: Want) -> Want
     requires basics { HasBasics s.now.table }
     requires own { IsMarkOf s.now own }
@@ -172,6 +193,7 @@ fn is_untyped_integer_kind(kind: Kind) -> bool
     is_free(kind) && has_integers(kind)
 }
 
+#[tactic(auto, unfolding(crate::specs::Types::is_of))]
 fn is_untyped_integer(s: &State, of: TypeId) -> bool
     requires basics { HasBasics s.now.table }
     requires of { IsTypeOf s.now of }
@@ -184,6 +206,7 @@ fn is_untyped_integer(s: &State, of: TypeId) -> bool
 }
 
 /// An untyped integer that is no constant: a shift whose count is none.
+#[tactic(auto, unfolding(crate::specs::Wishes::is_shifted))]
 pub fn is_shifted(s: &State, x: Facts) -> bool
     requires basics { HasBasics s.now.table }
     requires facts { AreFactsOf s.now x }
@@ -192,15 +215,33 @@ pub fn is_shifted(s: &State, x: Facts) -> bool
     is_untyped_integer(s, x.of) && !has_value(s, x.value)
 }
 
+#[tactic(auto, unfolding(crate::specs::Wishes::one_is_shifted))]
 fn one_is_shifted(s: &State, x: Facts, y: Facts) -> bool
     requires basics { HasBasics s.now.table }
     requires first { AreFactsOf s.now x }
     requires second { AreFactsOf s.now y }
-    ensures { result ≡ (is_shifted (facts_in s.now x) || is_shifted (facts_in s.now y)) }
+    ensures { result ≡ one_is_shifted (facts_in s.now x) (facts_in s.now y) }
 {
     is_shifted(s, x) || is_shifted(s, y)
 }
 
+/// The type of two untyped operands; where they aren't of one class, the first's own.
+#[tactic(auto, unfolding(crate::specs::Wishes::mixed))]
+fn mixed(s: &State, a: TypeId, b: TypeId) -> TypeId
+    requires basics { HasBasics s.now.table }
+    requires first { IsTypeOf s.now a }
+    requires second { IsTypeOf s.now b }
+    ensures is { type_in s.now result ≡ mixed (type_in s.now a) (type_in s.now b) }
+    ensures within { IsTypeOf s.now result }
+{
+    if are_alike(s, a, b) {
+        common(s, a, b)
+    } else {
+        a
+    }
+}
+
+#[tactic(auto, unfolding(crate::specs::Wishes::untyped_wish))]
 fn untyped_wish(s: &State, whole: Want, x: Facts, y: Facts) -> Want
     requires basics { HasBasics s.now.table }
     requires whole { IsWishOf s.now whole }
@@ -209,38 +250,59 @@ fn untyped_wish(s: &State, whole: Want, x: Facts, y: Facts) -> Want
     ensures is { wish_of s.now result ≡ untyped_wish (wish_of s.now whole) (facts_in s.now x) (facts_in s.now y) }
     ensures within { IsWishOf s.now result }
 {
+    let of = mixed(s, x.of, y.of);
     if one_is_shifted(s, x, y) {
-        checked(s, whole)
+        checked(s, whole, of)
     } else {
-        unchecked(s, whole, common(s, x.of, y.of))
+        unchecked(s, whole, of)
     }
 }
 
-fn beside_wish(s: &State, whole: Want, x: Facts, y: Facts) -> Want
+/// What an untyped operand takes beside one of this type, with this underlying type.
+#[tactic(auto, unfolding(crate::specs::Wishes::typed_wish))]
+fn typed_wish(s: &State, of: TypeId, under: Option<TypeId>) -> Want
+    requires basics { HasBasics s.now.table }
+    requires of { IsTypeOf s.now of }
+    requires under { MayBeTypeOf s.now under }
+    ensures is { wish_of s.now result ≡ typed_wish (type_in s.now of) (option_map (type_in s.now) under) }
+    ensures within { IsWishOf s.now result }
+{
+    if takes_default(s, under) {
+        Want::Fits(of)
+    } else {
+        Want::Takes(of)
+    }
+}
+
+#[tactic(auto, unfolding(crate::specs::Wishes::beside_wish))]
+fn beside_wish(s: &State, whole: Want, y: Facts, under: Option<TypeId>, x: Facts) -> Want
     requires basics { HasBasics s.now.table }
     requires whole { IsWishOf s.now whole }
-    requires first { AreFactsOf s.now x }
-    requires second { AreFactsOf s.now y }
-    ensures is { wish_of s.now result ≡ beside_wish (wish_of s.now whole) (facts_in s.now x) (facts_in s.now y) }
+    requires beside { AreFactsOf s.now y }
+    requires under { MayBeTypeOf s.now under }
+    requires own { AreFactsOf s.now x }
+    ensures is { wish_of s.now result ≡ beside_wish (wish_of s.now whole) (facts_in s.now y) (option_map (type_in s.now) under) (facts_in s.now x) }
     ensures within { IsWishOf s.now result }
 {
     if is_untyped(s, y.of) {
         untyped_wish(s, whole, x, y)
     } else {
-        Want::Takes(y.of)
+        typed_wish(s, y.of, under)
     }
 }
 
-fn by_beside(s: &State, whole: Want, beside: Mark, x: Facts) -> Want
+#[tactic(auto, unfolding(crate::specs::Wishes::by_beside))]
+fn by_beside(s: &State, whole: Want, beside: Mark, under: Option<TypeId>, x: Facts) -> Want
     requires basics { HasBasics s.now.table }
     requires whole { IsWishOf s.now whole }
     requires beside { IsMarkOf s.now beside }
+    requires under { MayBeTypeOf s.now under }
     requires own { AreFactsOf s.now x }
-    ensures is { wish_of s.now result ≡ by_beside (wish_of s.now whole) (said s.now beside) (facts_in s.now x) }
+    ensures is { wish_of s.now result ≡ by_beside (wish_of s.now whole) (said s.now beside) (option_map (type_in s.now) under) (facts_in s.now x) }
     ensures within { IsWishOf s.now result }
 {
     match beside {
-        Mark::Good(y) => beside_wish(s, whole, x, y),
+        Mark::Good(y) => beside_wish(s, whole, y, under, x),
         Mark::Bad(_) => default_of(s, x.of),
         Mark::Outside(_) => default_of(s, x.of),
         Mark::Silent => default_of(s, x.of),
@@ -250,25 +312,35 @@ fn by_beside(s: &State, whole: Want, beside: Mark, x: Facts) -> Want
 }
 
 /// The operands of a comparison take nothing of the whole.
+#[tactic(auto, unfolding(crate::specs::Wishes::handed))]
 fn handed(s: &State, op: Operator, whole: Want) -> Want
     requires whole { IsWishOf s.now whole }
     ensures is { wish_of s.now result ≡ handed op (wish_of s.now whole) }
     ensures within { IsWishOf s.now result }
 {
-    if is_comparison(op) { Want::Free } else { whole }
+    if compares(op) { Want::Free } else { whole }
 }
 
-/// What an operand takes, with another beside it.
-pub fn operand_wish(s: &State, op: Operator, own: Mark, beside: Mark, whole: Want) -> Want
+/// What an operand takes, with another beside it, which has this underlying type.
+#[tactic(auto, unfolding(crate::specs::Wishes::operand_wish))]
+pub fn operand_wish(
+    s: &State,
+    op: Operator,
+    own: Mark,
+    beside: Mark,
+    under: Option<TypeId>,
+    whole: Want,
+) -> Want
     requires basics { HasBasics s.now.table }
     requires own { IsMarkOf s.now own }
     requires beside { IsMarkOf s.now beside }
+    requires under { MayBeTypeOf s.now under }
     requires whole { IsWishOf s.now whole }
-    ensures is { wish_of s.now result ≡ operand_wish op (said s.now own) (said s.now beside) (wish_of s.now whole) }
+    ensures is { wish_of s.now result ≡ operand_wish op (said s.now own) (said s.now beside) (option_map (type_in s.now) under) (wish_of s.now whole) }
     ensures within { IsWishOf s.now result }
 {
     match own {
-        Mark::Good(x) => by_beside(s, handed(s, op, whole), beside, x),
+        Mark::Good(x) => by_beside(s, handed(s, op, whole), beside, under, x),
         Mark::Bad(_) => Want::Free,
         Mark::Outside(_) => Want::Free,
         Mark::Silent => Want::Free,
