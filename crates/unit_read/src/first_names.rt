@@ -7,23 +7,23 @@ use gv_base::NoMemory;
 use std::alloc::Global;
 use std::collections::HashMap;
 
-/// The first place of a name.
-pub fn find(names: &HashMap<&[u8], usize>, name: &[u8]) -> Option<usize>
+/// What is kept under a name.
+pub fn find<X: Copy>(names: &HashMap<&[u8], X>, name: &[u8]) -> Option<X>
     ensures { result ≡ found names.now name.now }
 {
     names.get(name).copied()
 }
 
-/// Keeps the place under its name, where no earlier one has it.
-fn add_name<'a>(
-    names: &mut HashMap<&'a [u8], usize>,
+/// Keeps a value under a name, where none is kept yet.
+pub fn add_name<'a, X: Copy>(
+    names: &mut HashMap<&'a [u8], X>,
     name: &'a [u8],
-    place: usize,
+    value: X,
 ) -> Result<(), NoMemory>
-    ensures { OnOk result (AddsName names.old names.new name.now place) }
+    ensures { OnOk result (AddsName names.old names.new name.now value) }
 {
     if find(names, name).is_none() {
-        names.insert(name, place)?;
+        names.insert(name, value)?;
     }
     Ok(())
 }

@@ -5,7 +5,7 @@ use denote.Ref.{Bor}
 use Rattle.go_tree.specs.Lexeme.{place_of}
 use Rattle.unit_read.specs.Index.{texts_of, found}
 use Rattle.unit_read.proofs.IndexLemmas.{index_more}
-use Rattle.unit_read.proofs.index.index.Goals as goal
+use Rattle.unit_read.proofs.first_names.index.Goals as goal
 
 pub loop-place-preserved : goal.loop-place-preserved
 loop-place-preserved c = λ q.

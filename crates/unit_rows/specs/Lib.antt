@@ -1,0 +1,4 @@
+pub mod Defined
+pub mod Drafts
+pub mod Rows
+pub mod Tables
