@@ -1,6 +1,6 @@
 -- Which members of a struct or an interface have the name of an earlier one (Go 1.17, "Struct types": field names must be unique; "Interface
 -- types": each method must have a unique name). The blank name may stand more than once.
-use Rattle.std.specs.Prelude.{ℕ, Bool, true, false, nat_lt, if◌then◌else◌, List, [], ◌∷◌, length, map, Option, Some, None, slice_get}
+use Rattle.std.specs.Prelude.{ℕ, Bool, true, false, nat_lt, if◌then◌else◌, List, [], ◌∷◌, length, map, Option, Some, None, slice_get, slice_index_or}
 use Rattle.std.specs.Option.{option_map_or}
 use Rattle.go_tree.specs.Lexeme.{place_of}
 use Rattle.go_tree.specs.declared.tree.Node.{Node}
@@ -48,29 +48,29 @@ name_by u file node = if is_embedded node.kind then embedded_name u file node el
 abbrev pub member_name : Unit → NodeRef → List ℕ
 member_name u at = option_map_or (name_by u at.file) (node_at u at) []
 
-abbrev pub member_names : Unit → ℕ → List ℕ → List (List ℕ)
-member_names u file members = map (λ n. member_name u (place file n)) members
+abbrev pub member_names : Unit → List NodeRef → List (List ℕ)
+member_names u nodes = map (member_name u) nodes
 
 -- ---- repetitions
 
--- the name that stands at a place has its first place before
+-- what stands at a place has its first place before
 abbrev pub is_later : ℕ → Option ℕ → Bool
 is_later i None = false
 is_later i (Some first) = nat_lt first i
 
-abbrev pub is_repetition : List (List ℕ) → ℕ → List ℕ → Bool
-is_repetition names i name = if is_blank name then false else is_later i (place_of names name)
+-- the name at a place stands at an earlier one too
+abbrev pub is_again : List (List ℕ) → ℕ → List ℕ → Bool
+is_again names i name = if is_blank name then false else is_later i (place_of names name)
 
-abbrev pub repeat_of : Unit → ℕ → List ℕ → ℕ → ℕ → List NodeRef
-repeat_of u file members i n =
-    if is_repetition (member_names u file members) i (member_name u (place file n)) then place file n ∷ [] else []
+abbrev pub again_at : List (List ℕ) → ℕ → NodeRef → List NodeRef
+again_at names i at = if is_again names i (slice_index_or names i []) then at ∷ [] else []
 
--- the member at a place, if an earlier one has its name
-abbrev pub nth_repeat : Unit → ℕ → List ℕ → ℕ → List NodeRef
-nth_repeat u file members i = option_map_or (repeat_of u file members i) (slice_get members i) []
+abbrev pub nth_again : List (List ℕ) → List NodeRef → ℕ → List NodeRef
+nth_again names nodes i = option_map_or (again_at names i) (slice_get nodes i) []
 
-abbrev pub repeats_of : Unit → ℕ → List ℕ → List NodeRef
-repeats_of u file members = gather (nth_repeat u file members) (length members)
+-- of nodes with these names, those that have the name of an earlier one
+abbrev pub all_again : List (List ℕ) → List NodeRef → List NodeRef
+all_again names nodes = gather (nth_again names nodes) (length nodes)
 
 abbrev pub is_member_list : NodeKind → Bool
 is_member_list k.StructType = true
@@ -87,8 +87,12 @@ nth_members nodes node i = option_map_or (members_at nodes) (part node i) []
 abbrev pub members_in : List Node → Node → List ℕ
 members_in nodes node = gather (nth_members nodes node) (length node.parts)
 
+-- those of some members that have the name of an earlier one
+abbrev pub repeats_of : Unit → List NodeRef → List NodeRef
+repeats_of u nodes = all_again (member_names u nodes) nodes
+
 abbrev pub repeats_by : Unit → ℕ → Node → List NodeRef
-repeats_by u file node = if is_member_list node.kind then repeats_of u file (members_in (nodes_at u file) node) else []
+repeats_by u file node = if is_member_list node.kind then repeats_of u (map (place file) (members_in (nodes_at u file) node)) else []
 
 abbrev pub repeats_at : Unit → ℕ → ℕ → List NodeRef
 repeats_at u file n = option_map_or (repeats_by u file) (slice_get (nodes_at u file) n) []

@@ -4,16 +4,16 @@ use Rattle.std.specs.Global.{Vec}
 use Rattle.std.specs.List.{position_from}
 use Rattle.std.specs.Option.{option_map_or}
 use Rattle.std.proofs.lemmas.Option.{slice_get-map}
+use Rattle.go_tree.specs.declared.tree.FileTree.{FileTree}
 use Rattle.go_tree.specs.declared.tree.Node.{Node}
 use Rattle.go_tree.specs.declared.tree.NodeRef.{NodeRef}
 use Rattle.object_order.specs.Views.{same_key}
-use Rattle.unit_read.specs.Members.{repeats, is_repeat}
 use Rattle.unit_read.specs.Rows.{AreRows}
 use Rattle.unit_read.specs.Subjects.{cell, flag}
-use Rattle.unit_read.specs.Units.{Unit, is_this, is_among, first_place, node_at}
+use Rattle.unit_read.specs.Units.{is_this, is_among}
 use Rattle.unit_rows.specs.Rows.{first_in}
-use Rattle.unit_rows.specs.Tables.{some_node, items_of, flags_of}
-use Rattle.unit_rows.proofs.ReadLemmas.{firsts_read, first_at}
+use Rattle.unit_rows.specs.Tables.{some_node, items_of, flags_of, is_listed}
+use Rattle.unit_rows.proofs.ReadLemmas.{firsts_read, first_at, in_tree}
 
 -- ---- flags and cells
 
@@ -49,12 +49,12 @@ among at (o ∷ list) i = by (same_key (at.file, at.node) (o.file, o.node)) (amo
   by true later = refl
   by false later = later
 
-pub repeats_read : (u : Unit) (list : List NodeRef) (nodes : List (Option NodeRef)) (rows : List (Vec (Option ℕ))) (flags : List (Vec Bool)) → list ≡ repeats u → nodes ≡ map some_node list
-    → AreRows (first_in nodes) u.trees rows (length u.trees) → map items_of flags ≡ map flags_of rows → (at : NodeRef) → flag flags at ≡ is_repeat u at
-repeats_read u list nodes rows flags all some are same at =
+pub listed_read : (trees : List FileTree) (list : List NodeRef) (nodes : List (Option NodeRef)) (rows : List (Vec (Option ℕ))) (flags : List (Vec Bool)) → nodes ≡ map some_node list
+    → AreRows (first_in nodes) trees rows (length trees) → map items_of flags ≡ map flags_of rows → (at : NodeRef) → flag flags at ≡ is_listed trees list at
+listed_read trees list nodes rows flags some are same at =
     flag_is flags rows same at
-    ∙ (ap is_some (firsts_read u nodes rows are at)
-    ∙ (ap (λ (xs : List (Option NodeRef)). is_some (first_at u xs at (node_at u at))) (some ∙ ap (map some_node) all) ∙ by (node_at u at))) where
-  by : (o : Option Node) → is_some (first_at u (map some_node (repeats u)) at o) ≡ option_map_or (λ (node : Node). is_among at (repeats u)) o false
+    ∙ (ap is_some (firsts_read trees nodes rows are at)
+    ∙ (ap (λ (xs : List (Option NodeRef)). is_some (first_at xs at (in_tree at (slice_get trees at.file)))) some ∙ by (in_tree at (slice_get trees at.file)))) where
+  by : (o : Option Node) → is_some (first_at (map some_node list) at o) ≡ option_map_or (λ (node : Node). is_among at list) o false
   by None = refl
-  by (Some node) = among at (repeats u) 0
+  by (Some node) = among at list 0

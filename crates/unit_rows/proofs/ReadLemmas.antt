@@ -72,6 +72,16 @@ module _ {X : Type 0} (says : ℕ → FileTree → ℕ → Option X) (trees : Li
   pub cells : cell rows at ≡ target at
   cells = by_tree (slice_get trees at.file) refl
 
+-- the first places of nodes in a list
+abbrev pub first_at : List (Option NodeRef) → NodeRef → Option Node → Option ℕ
+first_at list at o = option_and_then (λ (node : Node). first_place at list) o
+
+pub firsts_read : (trees : List FileTree) (list : List (Option NodeRef)) (rows : List (Vec (Option ℕ))) → AreRows (first_in list) trees rows (length trees) → (at : NodeRef)
+    → cell rows at ≡ first_at list at (in_tree at (slice_get trees at.file))
+firsts_read trees list rows are =
+    cells (first_in list) trees rows (λ at. first_at list at (in_tree at (slice_get trees at.file))) (λ at none. ap (first_at list at) none)
+    (λ at tree node there is. ap (first_at list at) (ap (in_tree at) there ∙ is)) are
+
 -- ---- the tables of a package
 
 module _ (u : Unit) where
@@ -109,20 +119,10 @@ module _ (u : Unit) where
   pub leads_read : (rows : List (Vec (Option Lead))) → AreRows (leads_in u.env u.texts) u.trees rows (length u.trees) → (at : NodeRef) → cell rows at ≡ lead_at u at
   leads_read rows are = cells (leads_in u.env u.texts) u.trees rows (lead_at u) (λ at none. ap (option_and_then (lead_of u at.file)) none) lead_is are
 
-  -- the first places of nodes in a list
-  abbrev pub first_at : List (Option NodeRef) → NodeRef → Option Node → Option ℕ
-  first_at list at o = option_and_then (λ (node : Node). first_place at list) o
-
-  pub firsts_read : (list : List (Option NodeRef)) (rows : List (Vec (Option ℕ))) → AreRows (first_in list) u.trees rows (length u.trees) → (at : NodeRef)
-      → cell rows at ≡ first_at list at (in_tree at (slice_get u.trees at.file))
-  firsts_read list rows are =
-      cells (first_in list) u.trees rows (λ at. first_at list at (in_tree at (slice_get u.trees at.file))) (λ at none. ap (first_at list at) none)
-      (λ at tree node there is. ap (first_at list at) (ap (in_tree at) there ∙ is)) are
-
   pub copies_read : (blocks : List Passage) (rows : List (Vec (Option ℕ))) → blocks ≡ passages u.trees → AreRows (first_in (map repeater blocks)) u.trees rows (length u.trees) → (at : NodeRef)
       → cell rows at ≡ copy_at u at
   copies_read blocks rows all are at =
-      firsts_read (map repeater blocks) rows are at ∙ ap (λ (xs : List Passage). first_at (map repeater xs) at (in_tree at (slice_get u.trees at.file))) all
+      firsts_read u.trees (map repeater blocks) rows are at ∙ ap (λ (xs : List Passage). first_at (map repeater xs) at (in_tree at (slice_get u.trees at.file))) all
 
   pub locals_read : (list : List NodeRef) (rows : List (Vec (Option ℕ))) → list ≡ defined u → AreRows (local_in u list) u.trees rows (length u.trees) → (at : NodeRef)
       → cell rows at ≡ option_map (λ (n : TypeName). n.local) (type_name_at u at)

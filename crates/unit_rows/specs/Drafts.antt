@@ -17,6 +17,10 @@ abbrev pub package_unit : List ℕ → List (List ℕ) → List FileTree → Lis
 package_unit path texts trees uses env redeclared cyclic =
     record { path = path; texts = texts; trees = trees; uses = uses; env = env; redeclared = flag redeclared; cyclic = flag cyclic }
 
+-- the package with these flags
+abbrev pub with_flags : Unit → List (Vec Bool) → List (Vec Bool) → Unit
+with_flags u redeclared cyclic = package_unit u.path u.texts u.trees u.uses u.env redeclared cyclic
+
 -- the rows of places are made
 abbrev pub IsPlaced : Subject → Type 0
 IsPlaced s = (at : NodeRef) → cell s.places.items at ≡ place_at (unit_of s) at

@@ -1,10 +1,12 @@
 -- Tables that are filled node by node.
-use Rattle.std.specs.Prelude.{◌≡◌, ℕ, ◌<◌, ◌==◌, Bool, List, [], length, map, is_some, Option, Some, None, slice_get, slice_index_or}
+use Rattle.std.specs.Prelude.{◌≡◌, ℕ, ◌<◌, ◌==◌, Bool, false, List, [], length, map, is_some, Option, Some, None, slice_get, slice_index_or}
 use Rattle.std.specs.Global.{Vec}
 use Rattle.std.specs.Option.{option_map_or}
 use Rattle.go_tree.specs.declared.tree.FileTree.{FileTree}
+use Rattle.go_tree.specs.declared.tree.Node.{Node}
 use Rattle.go_tree.specs.declared.tree.NodeRef.{NodeRef}
 use Rattle.unit_read.specs.Places.{put_at}
+use Rattle.unit_read.specs.Units.{nodes_of, is_among}
 
 abbrev pub row_in : {X : Type 0} → List (Vec X) → ℕ → List X
 row_in {X} rows f = option_map_or (λ (row : Vec X). row.items) (slice_get rows f) []
@@ -40,3 +42,7 @@ items_of row = row.items
 -- whether something stands in the cells of a row
 abbrev pub flags_of : Vec (Option ℕ) → List Bool
 flags_of row = map is_some row.items
+
+-- the node stands in the list
+abbrev pub is_listed : List FileTree → List NodeRef → NodeRef → Bool
+is_listed trees list at = option_map_or (λ (node : Node). is_among at list) (slice_get (nodes_of (slice_get trees at.file)) at.node) false

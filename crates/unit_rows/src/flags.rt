@@ -1,17 +1,13 @@
 //! Flags of what stands in a list.
-ghost use Rattle.std.specs.Prelude.{◌≡◌, ◌≤◌, ◌^◌, Some, is_some, IfOk, length, map};
+ghost use Rattle.std.specs.Prelude.{◌≡◌, is_some, IfOk, map};
 ghost use Rattle.go_tree.specs.declared.tree.NodeRef.{NodeRef};
-ghost use Rattle.unit_read.specs.Members.{is_repeat};
-ghost use Rattle.unit_read.specs.Subjects.{flag, unit_of};
-ghost use Rattle.unit_rows.specs.Rows.{AreSmall};
-ghost use Rattle.unit_rows.specs.Tables.{some_node, items_of, flags_of};
+ghost use Rattle.unit_read.specs.Subjects.{flag};
+ghost use Rattle.unit_rows.specs.Tables.{some_node, items_of, flags_of, is_listed};
 
 use crate::firsts::first_rows;
-use crate::repeats::repeats;
-use go_tree::NodeRef;
+use go_tree::{FileTree, NodeRef};
 use gv_base::NoMemory;
 use std::alloc::Global;
-use unit_read::Subject;
 
 fn some_node(at: NodeRef) -> Option<NodeRef>
     ensures { result ≡ some_node at }
@@ -58,15 +54,16 @@ fn flag_rows(alloc: Global, rows: &[Vec<Option<usize>>]) -> Result<Vec<Vec<bool>
     Ok(flags)
 }
 
-/// For each node of each file whether it is a member that has the name of an earlier one.
-pub fn repeat_rows(alloc: Global, s: &Subject) -> Result<Vec<Vec<bool>>, NoMemory>
-    requires small { AreSmall s.now.trees.now }
-    requires few { length s.now.trees.now ≤ 2 ^ 32 }
-    ensures { IfOk result (λ flags. (at : NodeRef) → flag flags.items at ≡ is_repeat (unit_of s.now) at) }
+/// For each node of each file whether it stands in a list.
+pub fn listed_rows(
+    alloc: Global,
+    trees: &[FileTree],
+    list: &[NodeRef],
+) -> Result<Vec<Vec<bool>>, NoMemory>
+    ensures { IfOk result (λ flags. (at : NodeRef) → flag flags.items at ≡ is_listed trees.now list.now at) }
 {
-    let list = repeats(alloc, s)?;
-    let nodes = some_nodes(alloc, &list)?;
-    let rows = first_rows(alloc, s.trees, &nodes)?;
+    let nodes = some_nodes(alloc, list)?;
+    let rows = first_rows(alloc, trees, &nodes)?;
     let flags = flag_rows(alloc, &rows)?;
     Ok(flags)
 }

@@ -1,7 +1,9 @@
 //! Reads a package: makes the rows of what is said of its nodes.
 #![tactic(auto)]
 
+mod again;
 mod copies;
+mod cyclic;
 mod firsts;
 mod flags;
 mod listing;
@@ -9,10 +11,13 @@ mod locals;
 mod members;
 mod objects;
 mod reader;
+mod redeclared;
 mod repeats;
 mod rows;
 mod tables;
 mod top;
 mod types;
 
-pub use reader::read_unit;
+pub use cyclic::cyclic_rows;
+pub use reader::{read_unit, with_flags};
+pub use redeclared::redeclared_rows;

@@ -1,5 +1,5 @@
 //! The members of structs and interfaces, and their names.
-ghost use Rattle.std.specs.Prelude.{◌≡◌, ◌++◌, [], map, IfOk, OnOk};
+ghost use Rattle.std.specs.Prelude.{◌≡◌, ◌++◌, [], IfOk, OnOk};
 ghost use Rattle.std.specs.List.{cons_option};
 ghost use Rattle.package_objects.specs.Declares.{items};
 ghost use Rattle.unit_read.specs.Index.{texts_of};
@@ -133,7 +133,7 @@ fn name_by<'a>(s: &Subject<'a>, file: u32, node: &Node) -> &'a [u8]
 }
 
 /// The name of the member that is declared at a node.
-pub fn member_name<'a>(s: &Subject<'a>, at: NodeRef) -> &'a [u8]
+fn member_name<'a>(s: &Subject<'a>, at: NodeRef) -> &'a [u8]
     ensures { result.now ≡ member_name (unit_of s.now) at }
 {
     match s.node_at(at) {
@@ -146,20 +146,13 @@ pub fn member_name<'a>(s: &Subject<'a>, at: NodeRef) -> &'a [u8]
 pub fn member_names<'a>(
     alloc: Global,
     s: &Subject<'a>,
-    file: u32,
-    members: &[u32],
+    members: &[NodeRef],
 ) -> Result<Vec<&'a [u8]>, NoMemory>
-    ensures { IfOk result (λ names. texts_of names.items ≡ member_names (unit_of s.now) file members.now) }
+    ensures { IfOk result (λ names. texts_of names.items ≡ member_names (unit_of s.now) members.now) }
 {
     let mut names = Vec::new(alloc);
     for member in members {
-        names.push(member_name(
-            s,
-            NodeRef {
-                file,
-                node: *member,
-            },
-        ))?;
+        names.push(member_name(s, *member))?;
     }
     Ok(names)
 }

@@ -4,14 +4,14 @@ ghost use Rattle.go_tree.specs.Bindings.{AreInOrder};
 ghost use Rattle.unit_read.specs.Environments.{IsEnvironment};
 ghost use Rattle.unit_read.specs.Index.{texts_of};
 ghost use Rattle.unit_read.specs.Subjects.{unit_of, IsRead};
-ghost use Rattle.unit_rows.specs.Drafts.{package_unit};
+ghost use Rattle.unit_rows.specs.Drafts.{package_unit, with_flags};
 ghost use Rattle.unit_rows.specs.Rows.{AreSmall};
 
 use crate::copies::copy_rows;
-use crate::flags::repeat_rows;
 use crate::listing::defined;
 use crate::locals::local_rows;
 use crate::objects::object_rows;
+use crate::repeats::repeat_rows;
 use crate::rows::{place_rows, spec_rows};
 use crate::types::named_types;
 use go_tree::{Bindings, FileTree};
@@ -72,4 +72,20 @@ pub fn read_unit<'a>(
     let repeats = repeat_rows(alloc, &s)?;
     s.repeats = repeats;
     Ok(s)
+}
+
+/// The same package with other flags.
+pub fn with_flags<'a>(
+    s: Subject<'a>,
+    redeclared: Vec<Vec<bool>>,
+    cyclic: Vec<Vec<bool>>,
+) -> Subject<'a>
+    requires { IsRead s }
+    ensures read { IsRead result }
+    ensures of { unit_of result ≡ with_flags (unit_of s) redeclared.items cyclic.items }
+{
+    let mut s = s;
+    s.redeclared = redeclared;
+    s.cyclic = cyclic;
+    s
 }

@@ -16,7 +16,7 @@ fn place_at(s: &Subject, at: NodeRef) -> Option<Place>
 }
 
 /// The node around another.
-fn around(s: &Subject, at: NodeRef) -> Option<NodeRef>
+pub fn around(s: &Subject, at: NodeRef) -> Option<NodeRef>
     requires { IsPlaced s.now }
     ensures { result ≡ around (unit_of s.now) at }
 {
