@@ -6,3 +6,4 @@ pub mod NumberLemmas
 pub mod NamedLemmas
 pub mod ListLemmas
 pub mod FlagLemmas
+pub mod CyclicLemmas

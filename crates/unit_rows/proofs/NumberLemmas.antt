@@ -50,7 +50,7 @@ among_there at (o ∷ list) (suc k) e = by (same_key (at.file, at.node) (o.file,
   by true later = refl
   by false later = later
 
-among_is : (at : NodeRef) (list : List NodeRef) → is_among at list ≡ true → (k : ℕ) × (slice_get list k ≡ Some at)
+pub among_is : (at : NodeRef) (list : List NodeRef) → is_among at list ≡ true → (k : ℕ) × (slice_get list k ≡ Some at)
 among_is at [] e = absurd cc
 among_is at (o ∷ list) e = by (same_key (at.file, at.node) (o.file, o.node)) refl (λ h. among_is at list h) e where
   by : (b : Bool) → same_key (at.file, at.node) (o.file, o.node) ≡ b → (is_among at list ≡ true → (k : ℕ) × (slice_get list k ≡ Some at))
@@ -63,10 +63,10 @@ among_is at (o ∷ list) e = by (same_key (at.file, at.node) (o.file, o.node)) r
 abbrev IsIn : ℕ → List Node → NodeRef → Type 0
 IsIn f nodes at = (node : Node) × (at.file ≡ f) × (slice_get nodes at.node ≡ Some node)
 
-none_there : {X : Type 0} (x : X) (j : ℕ) → slice_get [] j ≡ Some x → ⊥
+pub none_there : {X : Type 0} (x : X) (j : ℕ) → slice_get [] j ≡ Some x → ⊥
 none_there x j e = cc
 
-only_there : (x y : NodeRef) (j : ℕ) → slice_get (x ∷ []) j ≡ Some y → x ≡ y
+pub only_there : (x y : NodeRef) (j : ℕ) → slice_get (x ∷ []) j ≡ Some y → x ≡ y
 only_there x y zero e = cc
 only_there x y (suc j) e = absurd cc
 

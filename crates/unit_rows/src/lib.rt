@@ -6,6 +6,7 @@ mod copies;
 mod cyclic;
 mod firsts;
 mod flags;
+mod laws;
 mod listing;
 mod locals;
 mod members;
@@ -19,5 +20,6 @@ mod top;
 mod types;
 
 pub use cyclic::cyclic_rows;
+pub use laws::marked_names_need_themselves;
 pub use reader::{read_unit, with_flags};
 pub use redeclared::redeclared_rows;

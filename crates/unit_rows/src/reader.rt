@@ -82,7 +82,7 @@ pub fn with_flags<'a>(
 ) -> Subject<'a>
     requires { IsRead s }
     ensures read { IsRead result }
-    ensures of { unit_of result ≡ with_flags (unit_of s) redeclared.items cyclic.items }
+    ensures of { unit_of result ≡ with_flags (unit_of s.entry) redeclared.items cyclic.items }
 {
     let mut s = s;
     s.redeclared = redeclared;
