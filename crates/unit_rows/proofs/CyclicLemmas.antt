@@ -74,9 +74,10 @@ pub marks_cyclic : (uses : List (NodeRef × Object)) (trees : List FileTree) (or
 marks_cyclic uses trees order of at node there = (
   λ is.
       let m = marked order at (sym listed ∙ is) in
-      let loops = (of.ordered.cyclic m.number m.item m.there).0 m.cyclic in
-      (subst (λ (o : NodeRef). IsNamed (declared trees of.rows) o) m.object (of.ordered.only m.number m.item m.there),
-      subst (λ (o : NodeRef). Leads (NeedsOf of.world) o o) m.object loops),
+      let loops = (of.ordered.cyclic m.number m.item m.there).0 m.cyclic in (
+        subst (λ (o : NodeRef). IsNamed (declared trees of.rows) o) m.object (of.ordered.only m.number m.item m.there),
+        subst (λ (o : NodeRef). Leads (NeedsOf of.world) o o) m.object loops,
+      ),
   λ needs.
       let (k, e, is, same) = of.ordered.each at needs.0 in
       let cyclic = (of.ordered.cyclic k e is).1 (subst (λ (o : NodeRef). Leads (NeedsOf of.world) o o) (sym same) needs.1) in

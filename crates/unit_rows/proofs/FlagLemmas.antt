@@ -21,7 +21,8 @@ abbrev flag_in : ℕ → Option (List Bool) → Bool
 flag_in n o = option_map_or (λ (xs : List Bool). slice_index_or xs n false) o false
 
 there : (xs : List (Option ℕ)) (n : ℕ) → slice_index_or (map is_some xs) n false ≡ is_some (option_and_then (λ (o : Option ℕ). o) (slice_get xs n))
-there [] n = refl
+there [] zero = refl
+there [] (suc n) = refl
 there (x ∷ xs) zero = refl
 there (x ∷ xs) (suc n) = there xs n
 
@@ -30,14 +31,14 @@ flag_is flags rows same at =
     bare (slice_get flags at.file)
     ∙ (ap (flag_in at.node) (sym (slice_get-map items_of flags at.file) ∙ (ap (λ (xs : List (List Bool)). slice_get xs at.file) same ∙ slice_get-map flags_of rows at.file))
     ∙ made (slice_get rows at.file)) where
-  bare : (o : Option (Vec Bool)) → option_map_or (λ (row : Vec Bool). slice_index_or row.items at.node false) o false ≡ flag_in at.node (option_map items_of o)
-  bare None = refl
-  bare (Some row) = refl
+      bare : (o : Option (Vec Bool)) → option_map_or (λ (row : Vec Bool). slice_index_or row.items at.node false) o false ≡ flag_in at.node (option_map items_of o)
+      bare None = refl
+      bare (Some row) = refl
 
-  made : (o : Option (Vec (Option ℕ)))
-      → flag_in at.node (option_map flags_of o) ≡ is_some (option_and_then (λ (row : Vec (Option ℕ)). option_and_then (λ (c : Option ℕ). c) (slice_get row.items at.node)) o)
-  made None = refl
-  made (Some row) = there row.items at.node
+      made : (o : Option (Vec (Option ℕ)))
+          → flag_in at.node (option_map flags_of o) ≡ is_some (option_and_then (λ (row : Vec (Option ℕ)). option_and_then (λ (c : Option ℕ). c) (slice_get row.items at.node)) o)
+      made None = refl
+      made (Some row) = there row.items at.node
 
 -- ---- what stands in a list
 
@@ -55,6 +56,6 @@ listed_read trees list nodes rows flags some are same at =
     flag_is flags rows same at
     ∙ (ap is_some (firsts_read trees nodes rows are at)
     ∙ (ap (λ (xs : List (Option NodeRef)). is_some (first_at xs at (in_tree at (slice_get trees at.file)))) some ∙ by (in_tree at (slice_get trees at.file)))) where
-  by : (o : Option Node) → is_some (first_at (map some_node list) at o) ≡ option_map_or (λ (node : Node). is_among at list) o false
-  by None = refl
-  by (Some node) = among at list 0
+      by : (o : Option Node) → is_some (first_at (map some_node list) at o) ≡ option_map_or (λ (node : Node). is_among at list) o false
+      by None = refl
+      by (Some node) = among at list 0

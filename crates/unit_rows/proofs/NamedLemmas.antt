@@ -34,11 +34,11 @@ top_same : (u : Unit) (x : NodeRef) (q : List ℕ) → is_same_name (type_name u
 top_same u x q =
     ap (λ (b : Bool). b && (bytes_eq (name_at u x) q && nat_eq (if is_top u x then 0 else place_in x (defined u) 1) 0)) ((bytes_eq-Decides u.path u.path).1 refl)
     ∙ by (is_top u x) (bytes_eq (name_at u x) q) (place_in x (defined u) 1) (counted x (defined u) 1) where
-  by : (t b : Bool) (p : ℕ) → 1 ≤ p → (b && nat_eq (if t then 0 else p) 0) ≡ (t && b)
-  by true true p low = refl
-  by true false p low = refl
-  by false true p low = ne_eqb p 0 (λ same. omega arith)
-  by false false p low = refl
+      by : (t b : Bool) (p : ℕ) → 1 ≤ p → (b && nat_eq (if t then 0 else p) 0) ≡ (t && b)
+      by true true p low = refl
+      by true false p low = refl
+      by false true p low = ne_eqb p 0 (λ same. omega arith)
+      by false false p low = refl
 
 kept : {S : Type 0} (u : Unit) (old new : HashMap (Bor (List ℕ)) NodeRef S) (x : NodeRef) → AddsType u old new x → (q : List ℕ)
     → found new q ≡ put_at (found old q) (is_top u x && bytes_eq (name_at u x) q) x

@@ -32,13 +32,13 @@ pub local_is : (u : Unit) (list : List NodeRef) (at : NodeRef) → list ≡ defi
 local_is u list at all =
     ap (λ (xs : List NodeRef). local_among u xs at) all
     ∙ (twice (position_from (is_other at) 0 (defined u)) ∙ (ap (option_map (local_by u at)) (sym (placed at (defined u) 1 0 (omega arith))) ∙ by (is_among at (defined u)))) where
-  twice : (o : Option ℕ) → option_map (λ k. local_by u at (k + 1)) o ≡ option_map (local_by u at) (option_map (λ k. k + 1) o)
-  twice None = refl
-  twice (Some k) = refl
+      twice : (o : Option ℕ) → option_map (λ k. local_by u at (k + 1)) o ≡ option_map (local_by u at) (option_map (λ k. k + 1) o)
+      twice None = refl
+      twice (Some k) = refl
 
-  by : (b : Bool) → option_map (local_by u at) (if b then Some (place_in at (defined u) 1) else None) ≡ option_map (λ (n : TypeName). n.local) (if b then Some (type_name u at) else None)
-  by true = refl
-  by false = refl
+      by : (b : Bool) → option_map (local_by u at) (if b then Some (place_in at (defined u) 1) else None) ≡ option_map (λ (n : TypeName). n.local) (if b then Some (type_name u at) else None)
+      by true = refl
+      by false = refl
 
 pub among_there : (at : NodeRef) (list : List NodeRef) (k : ℕ) → slice_get list k ≡ Some at → is_among at list ≡ true
 among_there at [] k e = absurd cc

@@ -31,7 +31,6 @@ none_past [] k e = omega arith
 none_past (x ∷ xs) zero e = absurd cc
 none_past (x ∷ xs) (suc k) e = let h = none_past xs k e in omega arith
 
-
 abbrev pub in_row : {X : Type 0} → NodeRef → Option (Vec (Option X)) → Option X
 in_row {X} at o = option_and_then (λ (row : Vec (Option X)). option_and_then (λ (o : Option X). o) (slice_get row.items at.node)) o
 

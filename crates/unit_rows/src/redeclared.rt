@@ -102,12 +102,7 @@ fn nth_name(entries: &[Entry], i: usize) -> Option<NodeRef>
     }
 }
 
-fn add_nth(
-    s: &Subject,
-    entries: &[Entry],
-    i: usize,
-    out: &mut Vec<NodeRef>,
-) -> Result<(), NoMemory>
+fn add_nth(s: &Subject, entries: &[Entry], i: usize, out: &mut Vec<NodeRef>) -> Result<(), NoMemory>
     requires { IsPlaced s.now }
     ensures { OnOk result (out.new.items ≡ out.old.items ++ nth_in_block (unit_of s.now) entries.now i) }
 {
@@ -139,11 +134,7 @@ fn package_names(alloc: Global, s: &Subject) -> Result<Vec<NodeRef>, NoMemory>
     Ok(names)
 }
 
-fn spelled<'a>(
-    alloc: Global,
-    s: &Subject<'a>,
-    nodes: &[NodeRef],
-) -> Result<Vec<&'a [u8]>, NoMemory>
+fn spelled<'a>(alloc: Global, s: &Subject<'a>, nodes: &[NodeRef]) -> Result<Vec<&'a [u8]>, NoMemory>
     ensures { IfOk result (λ texts. texts_of texts.items ≡ map (name_at (unit_of s.now)) nodes.now) }
 {
     let mut texts = Vec::new(alloc);

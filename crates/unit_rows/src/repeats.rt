@@ -90,12 +90,7 @@ fn add_at(
     Ok(())
 }
 
-fn add_file(
-    alloc: Global,
-    s: &Subject,
-    file: u32,
-    out: &mut Vec<NodeRef>,
-) -> Result<(), NoMemory>
+fn add_file(alloc: Global, s: &Subject, file: u32, out: &mut Vec<NodeRef>) -> Result<(), NoMemory>
     requires { length (nodes_at (unit_of s.now) file) ≤ 2 ^ 32 }
     ensures { OnOk result (out.new.items ≡ out.old.items ++ repeats_in (unit_of s.now) file) }
 {

@@ -1,4 +1,3 @@
-
 use Rattle.unit_rows.proofs.reader.with_flags.Goals as goal
 
 pub returns-clause-read : goal.returns-clause-read
