@@ -29,10 +29,10 @@ behind (y ∷ xs) ys j x e = let r = behind xs ys j x e in (suc r.0, r.1)
 
 gather_has : {X : Type 0} (g : ℕ → List X) (n k j : ℕ) (x : X) → k < n → slice_get (g k) j ≡ Some x → (i : ℕ) × (slice_get (gather g n) i ≡ Some x)
 gather_has g zero k j x low e = absurd (omega arith)
-gather_has {X} g (suc n) k j x low e = by (cases_lt k n) where
-  by : (k < n) ⊎ (n ≤ k) → (i : ℕ) × (slice_get (gather g n ++ g n) i ≡ Some x)
-  by (inl less) = let r = gather_has g n k j x less e in (r.0, in_front (gather g n) (g n) r.0 x r.1)
-  by (inr more) = let same : k ≡ n = omega arith in behind (gather g n) (g n) j x (ap (λ (m : ℕ). slice_get (g m) j) (sym same) ∙ e)
+gather_has {X} g (suc n) k j x low e = by (cases_lt k n) (λ less. gather_has g n k j x less e) where
+  by : (k < n) ⊎ (n ≤ k) → ((k < n) → (i : ℕ) × (slice_get (gather g n) i ≡ Some x)) → (i : ℕ) × (slice_get (gather g n ++ g n) i ≡ Some x)
+  by (inl less) before = let r = before less in (r.0, in_front (gather g n) (g n) r.0 x r.1)
+  by (inr more) before = let same : k ≡ n = omega arith in behind (gather g n) (g n) j x (ap (λ (m : ℕ). slice_get (g m) j) (sym same) ∙ e)
 
 -- an item that the order marks
 record IsMarked (order : List Needed) (at : NodeRef) : Type 0 where

@@ -36,6 +36,6 @@ returns-clause-read c =
       locals = λ k at there. numbers at ∙ local_there u k at there;
       inside = numbers;
       repeats = c.in_ok-repeats.ensures;
-      copies = copies_read u c.in_ok-passages.passages.items c.in_ok-copies.copies.items c.in_ok-passages.ensures c.in_ok-copies.ensures;
+      copies = copies_read u c.deref.result.now c.in_ok-copies.copies.items (c.deref.ensures.value ∙ c.in_ok-passages.ensures) c.in_ok-copies.ensures;
       named = λ q. c.in_ok-named.ensures q ∙ ap (named_by u (top_name u q)) c.in_ok-defined.ensures;
     }

@@ -8,4 +8,5 @@ use Rattle.unit_rows.proofs.redeclared.redeclared_rows.Goals as goal
 pub returns : goal.returns
 returns c = λ at.
     c.in_ok-flags.ensures at
-    ∙ ap (λ (list : List NodeRef). is_listed c.args.s.now.trees.now list at) (c.in_ok-list.ensures ∙ ap (named_again (unit_of c.args.s.now)) c.in_ok-names.ensures)
+    ∙ ap (λ (list : List NodeRef). is_listed c.args.s.now.trees.now list at)
+    (c.deref-2.ensures.value ∙ (c.in_ok-list.ensures ∙ ap (named_again (unit_of c.args.s.now)) (c.deref.ensures.value ∙ c.in_ok-names.ensures)))
