@@ -1,6 +1,6 @@
-mod CellLemmas
-mod EnvironmentLemmas
-mod IndexLemmas
-mod NameLemmas
+pub mod CellLemmas
+pub mod EnvironmentLemmas
+pub mod IndexLemmas
+pub mod NameLemmas
 mod RowLemmas
-mod TypeLemmas
+pub mod TypeLemmas

@@ -49,17 +49,17 @@ local_of u x name e =
 abbrev pair : ℕ → ℕ → ℕ × ℕ
 pair a b = (a, b)
 
-key_parts : (a b : ℕ × ℕ) → same_key a b ≡ true → a ≡ b
+pub key_parts : (a b : ℕ × ℕ) → same_key a b ≡ true → a ≡ b
 key_parts a b is = at (nat_eq a.0 b.0) (nat_eq a.1 b.1) refl refl is where
   at : (x y : Bool) → nat_eq a.0 b.0 ≡ x → nat_eq a.1 b.1 ≡ y → (x && y) ≡ true → a ≡ b
   at true true e f h = ap (λ (x : ℕ). pair x a.1) (eqb-true a.0 b.0 e) ∙ ap (λ (y : ℕ). pair b.0 y) (eqb-true a.1 b.1 f)
   at true false e f h = absurd cc
   at false y e f h = absurd cc
 
-key_itself : (a : ℕ × ℕ) → same_key a a ≡ true
+pub key_itself : (a : ℕ × ℕ) → same_key a a ≡ true
 key_itself a = ap (λ x. x && nat_eq a.1 a.1) (eq-eqb a.0 a.0 refl) ∙ eq-eqb a.1 a.1 refl
 
-same_node : (a b : NodeRef) → same_key (a.file, a.node) (b.file, b.node) ≡ true → a ≡ b
+pub same_node : (a b : NodeRef) → same_key (a.file, a.node) (b.file, b.node) ≡ true → a ≡ b
 same_node a b e =
     let both : (a.file, a.node) ≡ (b.file, b.node) = key_parts (a.file, a.node) (b.file, b.node) e in
     ap (λ (p : ℕ × ℕ). node_ref p.0 p.1) both
@@ -68,7 +68,7 @@ same_node a b e =
     node_ref f n = record { file = f; node = n }
 
 -- a place that is counted on from a number isn't before it
-counted : (at : NodeRef) (list : List NodeRef) (n : ℕ) → n ≤ place_in at list n
+pub counted : (at : NodeRef) (list : List NodeRef) (n : ℕ) → n ≤ place_in at list n
 counted at [] n = omega arith
 counted at (o ∷ list) n = by (same_key (at.file, at.node) (o.file, o.node)) (counted at list (suc n)) where
   by : (b : Bool) → suc n ≤ place_in at list (suc n) → n ≤ (if b then n else place_in at list (suc n))

@@ -7,11 +7,11 @@ use denote.Ref.{Bor}
 abbrev pub texts_of : List (Bor (List ℕ)) → List (List ℕ)
 texts_of sources = map (λ source. source.now) sources
 
--- the place of a name
-abbrev pub found : {S : Type 0} → HashMap (Bor (List ℕ)) ℕ S → List ℕ → Option ℕ
+-- what is kept under a name
+abbrev pub found : {X S : Type 0} → HashMap (Bor (List ℕ)) X S → List ℕ → Option X
 found names name = get_by (λ key. bytes_eq name key.now) names
 
--- the place is kept under its name, unless that is taken
-abbrev pub AddsName : {S : Type 0} → HashMap (Bor (List ℕ)) ℕ S → HashMap (Bor (List ℕ)) ℕ S → List ℕ → ℕ → Type 0
-AddsName old new name place =
-    (q : List ℕ) → found new q ≡ (if bytes_eq name q then Some (unwrap_or (found old q) place) else found old q)
+-- the value is kept under its name, unless that is taken
+abbrev pub AddsName : {X S : Type 0} → HashMap (Bor (List ℕ)) X S → HashMap (Bor (List ℕ)) X S → List ℕ → X → Type 0
+AddsName old new name value =
+    (q : List ℕ) → found new q ≡ (if bytes_eq name q then Some (unwrap_or (found old q) value) else found old q)

@@ -44,7 +44,8 @@ place_of nodes n = first_for n (all_standing nodes)
 
 -- ---- a row of places
 
-abbrev pub put_at : Option Place → Bool → Place → Option Place
+-- what is put stands there, unless something stood there
+abbrev pub put_at : {X : Type 0} → Option X → Bool → X → Option X
 put_at (Some old) here p = Some old
 put_at None true p = Some p
 put_at None false p = None

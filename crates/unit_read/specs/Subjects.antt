@@ -1,15 +1,13 @@
 -- What is kept of a package that has been read.
-use Rattle.std.specs.Prelude.{◌≡◌, ℕ, Bool, false, List, map, Option, Some, option_and_then, option_map, slice_get, slice_index_or}
+use Rattle.std.specs.Prelude.{◌≡◌, ℕ, Bool, false, List, Option, Some, option_and_then, option_map, slice_get, slice_index_or}
 use Rattle.std.specs.Option.{option_map_or}
 use Rattle.std.specs.Global.{Vec}
-use Rattle.std.specs.HashMap.{HashMap, get_by}
-use Rattle.std.specs.Str.{bytes_eq}
-use denote.Ref.{Bor}
 use Rattle.type_model.specs.declared.term.TypeName.{TypeName}
 use Rattle.go_tree.specs.declared.tree.NodeRef.{NodeRef}
 use Rattle.unit_read.specs.declared.subject.Subject.{Subject}
 use Rattle.unit_read.specs.Environments.{IsEnvironment}
 use Rattle.unit_read.specs.Imports.{lead_at}
+use Rattle.unit_read.specs.Index.{texts_of, found}
 use Rattle.unit_read.specs.Passages.{passages}
 use Rattle.unit_read.specs.Units.{Unit, object_at, place_at, spec_at, defined, type_name, type_name_at, named_by, copy_at}
 use Rattle.unit_read.specs.Members.{is_repeat}
@@ -22,16 +20,9 @@ cell {X} rows at = option_and_then (λ (row : Vec (Option X)). option_and_then (
 abbrev pub flag : List (Vec Bool) → NodeRef → Bool
 flag rows at = option_map_or (λ (row : Vec Bool). slice_index_or row.items at.node false) (slice_get rows at.file) false
 
-abbrev pub texts_of : List (Bor (List ℕ)) → List (List ℕ)
-texts_of texts = map (λ text. text.now) texts
-
 -- the package of a subject
 abbrev pub unit_of : Subject → Unit
 unit_of s = record { path = s.path.now; texts = texts_of s.texts.now; trees = s.trees.now; uses = s.uses.now; env = s.env.now.interfaces.now; redeclared = flag s.redeclared.items; cyclic = flag s.cyclic.items }
-
--- what is kept under a name
-abbrev pub found : {X S : Type 0} → HashMap (Bor (List ℕ)) X S → List ℕ → Option X
-found named name = get_by (λ key. bytes_eq name key.now) named
 
 -- the name of a defined type of a package that is declared at package level
 abbrev pub top_name : Unit → List ℕ → TypeName

@@ -1,5 +1,6 @@
 -- A package as its rules read it: its files with their trees, what the uses in them denote, and what stands where in them.
-use Rattle.std.specs.Prelude.{◌≡◌, ℕ, zero, suc, Bool, ◌&&◌, ◌||◌, true, false, if◌then◌else◌, List, [], ◌∷◌, length, Option, Some, None, slice_get, slice_index_or, option_and_then, option_map, codes, nat_eq}
+use Rattle.std.specs.Prelude.{◌≡◌, ℕ, zero, suc, Bool, ◌&&◌, ◌||◌, true, false, if◌then◌else◌, List, [], ◌∷◌, length, map, Option, Some, None, slice_get, slice_index_or, option_and_then, option_map, codes}
+use Rattle.std.specs.List.{position_from}
 use Rattle.std.specs.Option.{option_map_or}
 use Rattle.std.specs.Str.{bytes_eq}
 use Rattle.gv_base.specs.declared.constant.Kind.TheVariants as kind
@@ -91,11 +92,11 @@ object_at u at = option_and_then (λ (node : Node). object_in u.uses at) (node_a
 
 -- where a node stands
 abbrev pub place_at : Unit → NodeRef → Option Place
-place_at u at = place_of (nodes_at u at.file) at.node
+place_at u at = option_and_then (λ (node : Node). place_of (nodes_at u at.file) at.node) (node_at u at)
 
 -- the specification to which a node belongs
 abbrev pub spec_at : Unit → NodeRef → Option Spec
-spec_at u at = first_from at.node (specs_in (nodes_at u at.file))
+spec_at u at = option_and_then (λ (node : Node). first_from at.node (specs_in (nodes_at u at.file))) (node_at u at)
 
 -- ---- blocks
 
@@ -103,16 +104,22 @@ spec_at u at = first_from at.node (specs_in (nodes_at u at.file))
 abbrev pub passage_at : Unit → ℕ → Option Passage
 passage_at u block = slice_get (passages u.trees) block
 
-abbrev pub is_repeated_at : NodeRef → Passage → Bool
-is_repeated_at at p = nat_eq p.file at.file && option_map_or (λ (s : Spec). nat_eq s.node at.node) p.spec false
+-- what stands at a place of a list is this node
+abbrev pub is_this : NodeRef → Option NodeRef → Bool
+is_this at None = false
+is_this at (Some other) = same_key (at.file, at.node) (other.file, other.node)
 
-abbrev pub copy_among : NodeRef → ℕ → List Passage → Option ℕ
-copy_among at block [] = None
-copy_among at block (p ∷ list) = if is_repeated_at at p then Some block else copy_among at (suc block) list
+-- the first place of a node in a list
+abbrev pub first_place : NodeRef → List (Option NodeRef) → Option ℕ
+first_place at list = position_from (is_this at) 0 list
+
+-- the node of the specification that repeats the list of a passage
+abbrev pub repeater : Passage → Option NodeRef
+repeater p = option_map (λ (s : Spec). place p.file s.node) p.spec
 
 -- the block of the list that a specification repeats
 abbrev pub copy_at : Unit → NodeRef → Option ℕ
-copy_at u at = copy_among at 0 (passages u.trees)
+copy_at u at = option_and_then (λ (node : Node). first_place at (map repeater (passages u.trees))) (node_at u at)
 
 -- ---- the types that are declared
 
@@ -120,14 +127,18 @@ abbrev pub is_defined_node : NodeKind → Bool
 is_defined_node k.Defined = true
 is_defined_node _ = false
 
-abbrev pub named : ℕ → Option ℕ → List NodeRef
-named f o = option_map_or (λ n. place f n ∷ []) o []
+abbrev pub named_node : ℕ → List Node → ℕ → List NodeRef
+named_node f nodes n = option_map_or (λ (node : Node). place f n ∷ []) (slice_get nodes n) []
 
-abbrev pub defined_by : ℕ → Node → List NodeRef
-defined_by f node = if is_defined_node node.kind then named f (part node 0) else []
+-- the name, if it is a node
+abbrev pub named : ℕ → List Node → Option ℕ → List NodeRef
+named f nodes o = option_map_or (named_node f nodes) o []
+
+abbrev pub defined_by : ℕ → List Node → Node → List NodeRef
+defined_by f nodes node = if is_defined_node node.kind then named f nodes (part node 0) else []
 
 abbrev pub defined_at : ℕ → List Node → ℕ → List NodeRef
-defined_at f nodes n = option_map_or (defined_by f) (slice_get nodes n) []
+defined_at f nodes n = option_map_or (defined_by f nodes) (slice_get nodes n) []
 
 abbrev pub defined_in : Unit → ℕ → List NodeRef
 defined_in u f = gather (defined_at f (nodes_at u f)) (length (nodes_at u f))

@@ -5,7 +5,7 @@ ghost use Rattle.unit_read.specs.Imports.{paths_of, names_of};
 ghost use Rattle.unit_read.specs.Index.{texts_of, found};
 ghost use Rattle.unit_read.specs.Environments.{ListsMembers, IsMember, IsEnvironment};
 
-use crate::index::index;
+use crate::first_names::index;
 use export_data::{ConstInterface, ConstOut};
 use gv_base::NoMemory;
 use std::alloc::Global;

@@ -11,7 +11,7 @@ ghost use Rattle.unit_read.specs.Subjects.{unit_of, IsRead};
 ghost use Rattle.unit_read.specs.Exports.{SaysIfSome, member_of, used_lead};
 
 use crate::environment::Environment;
-use crate::index::find;
+use crate::first_names::find;
 use crate::lead::Lead;
 use crate::subject::Subject;
 use export_data::{ConstInterface, ConstOut};

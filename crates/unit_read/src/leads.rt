@@ -8,7 +8,7 @@ ghost use Rattle.unit_read.specs.Index.{texts_of};
 ghost use Rattle.unit_read.specs.Rows.{IsRow, AreRows, token_bytes, lead_in, lead_for, leads_in};
 
 use crate::environment::Environment;
-use crate::index::find;
+use crate::first_names::find;
 use crate::lead::Lead;
 use go_tree::{FileTree, Node, NodeKind, Token, are_segments, text_value, token_text};
 use gv_base::NoMemory;

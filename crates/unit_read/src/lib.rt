@@ -3,7 +3,7 @@
 
 mod environment;
 mod exported;
-mod index;
+mod first_names;
 mod lead;
 mod leads;
 mod passage;
@@ -14,10 +14,11 @@ mod subject;
 
 pub use environment::Environment;
 pub use exported::{exported_of, judge_lead};
+pub use first_names::{add_name, find, index};
 pub use lead::Lead;
 pub use leads::lead_rows;
 pub use passage::Passage;
 pub use passage_list::passages;
 pub use place::{Place, Standing};
 pub use places::place_row;
-pub use subject::Subject;
+pub use subject::{Subject, cell};

@@ -6,9 +6,10 @@ ghost use Rattle.type_model.specs.Tables.{is_same_name};
 ghost use Rattle.unit_read.specs.Units.{text_in, tree_at, nodes_at, node_at, token_at, spelled, object_at, place_at, spec_at, passage_at, name_at, defined, type_name, type_node, copy_at};
 ghost use Rattle.unit_read.specs.Imports.{lead_at};
 ghost use Rattle.unit_read.specs.Members.{is_repeat};
-ghost use Rattle.unit_read.specs.Subjects.{cell, flag, found, unit_of, IsRead};
+ghost use Rattle.unit_read.specs.Subjects.{cell, flag, unit_of, IsRead};
 
 use crate::environment::Environment;
+use crate::first_names::find;
 use crate::lead::Lead;
 use crate::passage::Passage;
 use crate::place::Place;
@@ -35,7 +36,7 @@ pub struct Subject<'a> {
     pub specs: Vec<Vec<Option<Spec>>>,
     pub leads: Vec<Vec<Option<Lead>>>,
     pub defined: Vec<NodeRef>,
-    pub locals: Vec<Vec<Option<u64>>>,
+    pub locals: Vec<Vec<Option<usize>>>,
     pub named: HashMap<&'a [u8], NodeRef>,
     pub redeclared: Vec<Vec<bool>>,
     pub cyclic: Vec<Vec<bool>>,
@@ -65,7 +66,7 @@ fn cell_at<T: Copy>(row: &Vec<Option<T>>, node: u32) -> Option<T>
 }
 
 /// What a table has for a node.
-fn cell<T: Copy>(rows: &Vec<Vec<Option<T>>>, at: NodeRef) -> Option<T>
+pub fn cell<T: Copy>(rows: &Vec<Vec<Option<T>>>, at: NodeRef) -> Option<T>
     ensures { result ≡ cell rows.now.items at }
 {
     match row_at(rows, at.file) {
@@ -91,12 +92,6 @@ fn flag(rows: &Vec<Vec<bool>>, at: NodeRef) -> bool
         Some(row) => flag_at(row, at.node),
         None => false,
     }
-}
-
-fn find(named: &HashMap<&[u8], NodeRef>, name: &[u8]) -> Option<NodeRef>
-    ensures { result ≡ found named.now name.now }
-{
-    named.get(name).copied()
 }
 
 fn nth(list: &Vec<NodeRef>, i: usize) -> Option<NodeRef>
@@ -214,7 +209,10 @@ impl<'a> Subject<'a> {
     pub fn local_at(&self, at: NodeRef) -> Option<u64>
         ensures { result ≡ cell self.now.locals.items at }
     {
-        cell(&self.locals, at)
+        match cell(&self.locals, at) {
+            Some(local) => Some(local as u64),
+            None => None,
+        }
     }
 
     /// Whether a name is declared before in its block (Go 1.17, "Declarations and scope").

@@ -1,0 +1,40 @@
+//! Names by their first place in a list.
+ghost use Rattle.std.specs.Prelude.{◌≡◌, ℕ, List, IfOk, OnOk};
+ghost use Rattle.go_tree.specs.Lexeme.{place_of};
+ghost use Rattle.unit_read.specs.Index.{texts_of, found, AddsName};
+
+use gv_base::NoMemory;
+use std::alloc::Global;
+use std::collections::HashMap;
+
+/// What is kept under a name.
+pub fn find<X: Copy>(names: &HashMap<&[u8], X>, name: &[u8]) -> Option<X>
+    ensures { result ≡ found names.now name.now }
+{
+    names.get(name).copied()
+}
+
+/// Keeps a value under a name, where none is kept yet.
+pub fn add_name<'a, X: Copy>(
+    names: &mut HashMap<&'a [u8], X>,
+    name: &'a [u8],
+    value: X,
+) -> Result<(), NoMemory>
+    ensures { OnOk result (AddsName names.old names.new name.now value) }
+{
+    if find(names, name).is_none() {
+        names.insert(name, value)?;
+    }
+    Ok(())
+}
+
+/// The first place of each name.
+pub fn index<'a>(alloc: Global, list: &[&'a [u8]]) -> Result<HashMap<&'a [u8], usize>, NoMemory>
+    ensures { IfOk result (λ names. (q : List ℕ) → found names q ≡ place_of (texts_of list.now) q) }
+{
+    let mut names = HashMap::new(alloc);
+    for place in 0..list.len() {
+        add_name(&mut names, list[place], place)?;
+    }
+    Ok(names)
+}

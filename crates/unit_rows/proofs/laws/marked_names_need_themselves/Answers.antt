@@ -1,0 +1,5 @@
+use Rattle.unit_rows.proofs.CyclicLemmas.{marks_cyclic}
+use Rattle.unit_rows.proofs.laws.marked_names_need_themselves.Goals as goal
+
+pub returns : goal.returns
+returns c = λ uses trees order. marks_cyclic uses trees order

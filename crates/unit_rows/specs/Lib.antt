@@ -1,0 +1,6 @@
+pub mod Cyclic
+pub mod Defined
+pub mod Drafts
+pub mod Redeclared
+pub mod Rows
+pub mod Tables

@@ -1,0 +1,25 @@
+//! Reads a package: makes the rows of what is said of its nodes.
+#![tactic(auto)]
+
+mod again;
+mod copies;
+mod cyclic;
+mod firsts;
+mod flags;
+mod laws;
+mod listing;
+mod locals;
+mod members;
+mod objects;
+mod reader;
+mod redeclared;
+mod repeats;
+mod rows;
+mod tables;
+mod top;
+mod types;
+
+pub use cyclic::cyclic_rows;
+pub use laws::marked_names_need_themselves;
+pub use reader::{read_unit, with_flags};
+pub use redeclared::redeclared_rows;

@@ -1,0 +1,91 @@
+//! How a package is read.
+ghost use Rattle.std.specs.Prelude.{◌≡◌, ◌≤◌, ◌^◌, IfOk, length};
+ghost use Rattle.go_tree.specs.Bindings.{AreInOrder};
+ghost use Rattle.unit_read.specs.Environments.{IsEnvironment};
+ghost use Rattle.unit_read.specs.Index.{texts_of};
+ghost use Rattle.unit_read.specs.Subjects.{unit_of, IsRead};
+ghost use Rattle.unit_rows.specs.Drafts.{package_unit, with_flags};
+ghost use Rattle.unit_rows.specs.Rows.{AreSmall};
+
+use crate::copies::copy_rows;
+use crate::listing::defined;
+use crate::locals::local_rows;
+use crate::objects::object_rows;
+use crate::repeats::repeat_rows;
+use crate::rows::{place_rows, spec_rows};
+use crate::types::named_types;
+use go_tree::{Bindings, FileTree};
+use gv_base::NoMemory;
+use std::alloc::Global;
+use std::collections::HashMap;
+use unit_read::{Environment, Subject, lead_rows, passages};
+
+/// Reads a package: its path, the bytes of its files and their trees, what the uses in them denote, the interfaces to which their imports may
+/// lead, and for each node of each file whether it is a name that is declared before in its block, and whether it is one that needs itself.
+pub fn read_unit<'a>(
+    alloc: Global,
+    path: &'a [u8],
+    texts: &'a [&'a [u8]],
+    trees: &'a [FileTree],
+    uses: &'a Bindings,
+    env: &'a Environment<'a>,
+    redeclared: Vec<Vec<bool>>,
+    cyclic: Vec<Vec<bool>>,
+) -> Result<Subject<'a>, NoMemory>
+    requires small { AreSmall trees.now }
+    requires few { length trees.now ≤ 2 ^ 32 }
+    requires uses { AreInOrder uses.now }
+    requires env { IsEnvironment env.now }
+    ensures read { IfOk result (λ s. IsRead s) }
+    ensures of { IfOk result (λ s. unit_of s ≡ package_unit path.now (texts_of texts.now) trees.now uses.now env.now.interfaces.now redeclared.items cyclic.items) }
+{
+    let passages = passages(alloc, trees)?;
+    let objects = object_rows(alloc, uses, trees)?;
+    let places = place_rows(alloc, trees)?;
+    let specs = spec_rows(alloc, trees)?;
+    let leads = lead_rows(alloc, env, texts, trees)?;
+    let copies = copy_rows(alloc, trees, &passages)?;
+    let defined = defined(alloc, trees)?;
+    let mut s = Subject {
+        path,
+        texts,
+        trees,
+        uses,
+        env,
+        passages,
+        objects,
+        places,
+        specs,
+        leads,
+        defined,
+        locals: Vec::new(alloc),
+        named: HashMap::new(alloc),
+        redeclared,
+        cyclic,
+        repeats: Vec::new(alloc),
+        copies,
+    };
+    let locals = local_rows(alloc, &s)?;
+    s.locals = locals;
+    let named = named_types(alloc, &s)?;
+    s.named = named;
+    let repeats = repeat_rows(alloc, &s)?;
+    s.repeats = repeats;
+    Ok(s)
+}
+
+/// The same package with other flags.
+pub fn with_flags<'a>(
+    s: Subject<'a>,
+    redeclared: Vec<Vec<bool>>,
+    cyclic: Vec<Vec<bool>>,
+) -> Subject<'a>
+    requires { IsRead s }
+    ensures read { IsRead result }
+    ensures of { unit_of result ≡ with_flags (unit_of s.entry) redeclared.items cyclic.items }
+{
+    let mut s = s;
+    s.redeclared = redeclared;
+    s.cyclic = cyclic;
+    s
+}
