@@ -1,7 +1,7 @@
 #!/usr/bin/env bash
 # Each rule that the code names by its number has: a page in docs/rules with an accepted example, a row in the table of docs/rules/README.md,
 # a definition in some specs/, its number in the code that finds it, a case, and an edit that has to be refused. A case is a line of a
-# file of crates/conformance/data/checks that expects the number, as `// ERROR E31` or `// ERROR 12:E31`. Prints what lacks, and ends with 1
+# file of crates/check_cases/data that expects the number, as `// ERROR E31` or `// ERROR 12:E31`. Prints what lacks, and ends with 1
 # where something does, or where no rules were found.
 set -u
 cd "$(dirname "$0")/.." || exit 1
@@ -32,7 +32,7 @@ for n in $numbers; do
     grep -qE "^\| E$n \|" docs/rules/README.md || lacks "$n" "row in docs/rules/README.md"
     grep -qrE "\bE$n\b" crates/*/specs || lacks "$n" "definition in specs"
     grep -qE "\bE$n\b" $code || lacks "$n" "number in the code"
-    grep -qrE "// ERROR ([^ ]+ )*([0-9]+:)?E$n( |\$)" crates/conformance/data/checks || lacks "$n" "case in conformance"
+    grep -qrE "// ERROR ([^ ]+ )*([0-9]+:)?E$n( |\$)" crates/check_cases/data || lacks "$n" "case in check_cases"
     ls crates/*/must-fail/e"$n"_*.edit crates/*/edits/e"$n"_*.edit 2>/dev/null | grep -q . || lacks "$n" "edit in must-fail or edits"
 done
 echo "rules: $(echo "$numbers" | wc -l | tr -d ' ') looked at"

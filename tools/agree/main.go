@@ -1,4 +1,4 @@
-// Asks go/types about the trees in crates/conformance/data/checks, and prints each line where it refuses a declaration and
+// Asks go/types about the trees in crates/check_cases/data, and prints each line where it refuses a declaration and
 // no comment expects an error, or the other way. A tree whose first line says `Not for go/types` isn't asked.
 //
 //	go run ./tools/agree     (Go 1.19; V=1 prints the other lines too)
@@ -104,7 +104,7 @@ func expected(files []file) map[string]string {
 }
 
 func main() {
-	paths, err := filepath.Glob("crates/conformance/data/checks/*/*")
+	paths, err := filepath.Glob("crates/check_cases/data/*/*")
 	if err != nil || len(paths) == 0 {
 		panic("no trees were found")
 	}

@@ -1,4 +1,2 @@
 pub mod Ready
-pub mod Comparison
-pub mod Cuts
 pub mod Plain

@@ -26,8 +26,6 @@ pub enum Family {
     Needs,
     /// How types relate.
     Types,
-    /// The errors of a tree of files.
-    Checks,
 }
 
 /// The family whose folder has this name.
@@ -40,7 +38,6 @@ pub fn family_of(name: &str) -> Option<Family> {
         "labels" => Some(Family::Labels),
         "needs" => Some(Family::Needs),
         "types" => Some(Family::Types),
-        "checks" => Some(Family::Checks),
         _ => None,
     }
 }
@@ -56,7 +53,6 @@ impl Family {
             Family::Labels => labels(alloc, texts),
             Family::Needs => needs(alloc, texts),
             Family::Types => answers(alloc, texts),
-            Family::Checks => Ok(String::new(alloc)),
         }
     }
 }

@@ -1,6 +1,6 @@
 //! The head of a file.
-use crate::parsed::shown;
 use anyhow::{Result, bail};
+use bundles::shown;
 use go_tree::{FileTree, Head, ImportLine, LocalName};
 use parse_file::{FileVerdict, parse_file};
 use std::alloc::Global;

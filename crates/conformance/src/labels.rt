@@ -1,8 +1,8 @@
 //! The labels of a file.
 ghost use Rattle.go_tree.specs.Pieces.{Spelled};
 
-use crate::parsed::shown;
 use anyhow::{Result, bail};
+use bundles::shown;
 use go_tree::{FileTree, token_text};
 use label_uses::{Jump, Label, labels as labels_in};
 use parse_file::{FileVerdict, parse_file};

@@ -1,9 +1,7 @@
 //! Runs the cases in the folders that lie where it runs, and prints a line for each file: as expected, or what differs.
 #![tactic(auto)]
 
-mod bundle;
 mod cases;
-mod checks;
 mod family;
 mod folder;
 mod heads;
@@ -17,13 +15,11 @@ mod uses;
 
 use anyhow::Result;
 use cases::run_bundles;
-use checks::run_checks;
-use family::{Family, family_of};
+use family::family_of;
 
 fn main(rt: HostRuntime) -> Result<()> {
     for name in folder::names(&rt, ".")?.as_slice() {
         match family_of(name.as_str()) {
-            Some(Family::Checks) => run_checks(&rt, &rt, name.as_str())?,
             Some(family) => run_bundles(&rt, family, name.as_str())?,
             None => println!(rt; "{name}: no family of cases has this name")?,
         }

@@ -1,9 +1,10 @@
 //! The order of need of a package's objects.
 ghost use Rattle.conformance.specs.Ready.{AreReady};
 
-use crate::parsed::{add_files, shown};
+use crate::parsed::add_files;
 use anyhow::{Result, bail};
 use bind::bind;
+use bundles::shown;
 use go_tree::{FileTree, token_text};
 use gv_base::{Bytes, NoMemory, Text};
 use object_order::Needed;

@@ -14,14 +14,6 @@ const LIMIT: usize = 1 << 24;
 /// The most nodes of a file.
 const MOST: usize = 1 << 30;
 
-/// The bytes as text, or `?` where they aren't UTF-8.
-pub fn shown(bytes: &[u8]) -> &str {
-    match std::str::from_utf8(bytes) {
-        Ok(text) => text,
-        Err(_) => "?",
-    }
-}
-
 fn source_of(alloc: Global, text: &[u8]) -> Result<(Text, Bytes), NoMemory>
     ensures { IfOk result (λ source. source.1 ≡ text.now) }
 {

@@ -1,9 +1,10 @@
 //! What the names in the files of a package denote.
 ghost use Rattle.conformance.specs.Ready.{AreReady};
 
-use crate::parsed::{add_files, shown};
+use crate::parsed::add_files;
 use anyhow::{Result, bail};
 use bind::bind;
+use bundles::shown;
 use file_uses::{Locals, name_at};
 use go_tree::{Bindings, FileTree, NodeRef, Object};
 use gv_base::{Bytes, Text};

@@ -1,9 +1,9 @@
 //! Whether the errors of a reply are those that comments expect.
 ghost use Rattle.std.specs.Prelude.{◌↔◌, IsTrue};
-ghost use Rattle.conformance.specs.Comparison.{IsColumn, Meets, AreMet};
+ghost use Rattle.check_cases.specs.Comparison.{IsColumn, Meets, AreMet};
 
-use super::expected::Expected;
-use super::found::Found;
+use crate::expected::Expected;
+use crate::found::Found;
 
 /// The column is the one that is expected, if one is.
 fn is_column(wanted: Option<u64>, column: u64) -> bool

@@ -1,11 +1,11 @@
 //! A tree and what is printed of it.
-use super::SourceFile;
-use super::comparison::{are_met, meets};
-use super::expected::{Expected, expected_in};
-use super::found::{Found, found_in};
-use super::session::{reply, script_of};
-use crate::parsed::shown;
+use crate::comparison::{are_met, meets};
+use crate::expected::{Expected, expected_in};
+use crate::found::{Found, found_in};
+use crate::session::{reply, script_of};
+use crate::trees::SourceFile;
 use anyhow::Result;
+use bundles::shown;
 use std::random::RandomSource;
 use std::thread::Threads;
 

@@ -1,7 +1,7 @@
 -- The errors of a reply beside those that comments expect.
 use Rattle.std.specs.Prelude.{◌≡◌, ℕ, List, Option, Some, slice_get, length}
-use Rattle.conformance.specs.declared.checks.expected.Expected.{Expected}
-use Rattle.conformance.specs.declared.checks.found.Found.{Found}
+use Rattle.check_cases.specs.declared.expected.Expected.{Expected}
+use Rattle.check_cases.specs.declared.found.Found.{Found}
 
 -- the column is the one that is expected, if one is
 abbrev pub IsColumn : Option ℕ → ℕ → Type 0

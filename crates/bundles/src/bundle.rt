@@ -1,6 +1,6 @@
 //! Bundles: texts in one file, each behind a line `-- NAME --`.
 ghost use Rattle.std.specs.Prelude.{◌≡◌, ◌<◌, ◌↔◌, length, IsTrue, IfSome, None};
-ghost use Rattle.conformance.specs.Cuts.{StandsAt, IsCut, IsNowhere};
+ghost use Rattle.bundles.specs.Cuts.{StandsAt, IsCut, IsNowhere};
 
 use anyhow::{Result, bail};
 use std::alloc::Global;

@@ -1,5 +1,5 @@
 //! A tree, checked by the tool's session.
-use super::SourceFile;
+use crate::trees::SourceFile;
 use anyhow::{Result, bail};
 use gv_base::{MemSink, SureKeeper, SureSource, SureTree};
 use gv_tool::call::gvet;

@@ -1,10 +1,10 @@
 //! The errors that comments expect.
 ghost use Rattle.std.specs.Prelude.{◌≡◌, ℕ, List, IfSome, None, codes};
-ghost use Rattle.conformance.specs.Cuts.{IsCut, IsNowhere};
+ghost use Rattle.bundles.specs.Cuts.{IsCut, IsNowhere};
 
-use super::SourceFile;
-use crate::bundle::cut;
+use crate::trees::SourceFile;
 use anyhow::{Result, bail};
+use bundles::cut;
 use std::alloc::Global;
 use typed_tree::{Limit, Rule};
 
