@@ -2,7 +2,7 @@
 #![tactic(auto)]
 
 mod bundle;
-mod shown;
+mod showing;
 
 pub use bundle::{Section, cut, sections};
-pub use shown::shown;
+pub use showing::shown;
