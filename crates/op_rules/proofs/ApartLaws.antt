@@ -3,9 +3,8 @@ use Rattle.std.proofs.Common.{◌≡◌, ◌⊎◌, Bool, true, false, Option, S
 use Rattle.gv_base.specs.declared.constant.Kind.{Kind}
 use Rattle.gv_base.specs.declared.constant.Kind.TheVariants.{UntypedBool}
 use Rattle.type_model.specs.Declarations.{Declarations, under_of}
-use Rattle.type_model.specs.GoTypes.{GoType, GoMethods, BasicType, DefinedType, PointerTo, SliceOf, ArrayOf, MapOf, ChanOf, FuncOf, StructOf, InterfaceOf}
-use Rattle.type_model.specs.Identity.{Identical}
-use Rattle.type_rel.specs.Assigning.{Assignable, counts_as_defined, holds_nil, Identicals, SameUnder, Implementing, Narrowing, Nils, Represented, ByDefault, UntypedTruths}
+use Rattle.type_model.specs.GoTypes.{GoType, BasicType, DefinedType, PointerTo, SliceOf, ArrayOf, MapOf, ChanOf, FuncOf, StructOf, InterfaceOf}
+use Rattle.type_rel.specs.Assigning.{counts_as_defined, holds_nil, Identicals, SameUnder, Implementing, Narrowing, Nils, Represented, ByDefault, UntypedTruths}
 use Rattle.type_rel.specs.Kinds.{is_untyped}
 use Rattle.op_rules.specs.Loose.{BasicsAreApart}
 

@@ -1,5 +1,5 @@
 -- An untyped operand goes beside one of a type exactly where it is assignable to that type.
-use Rattle.std.proofs.Common.{◌≡◌, ◌⊎◌, ◌↔◌, IsTrue, T, Bool, true, false, ◌&&◌, ◌||◌, if◌then◌else◌, Option, Some, None, int_le, inl, inr, refl, sym, ap, ◌∙◌, subst}
+use Rattle.std.proofs.Common.{◌≡◌, T, Bool, true, false, ◌&&◌, ◌||◌, if◌then◌else◌, Option, Some, None, int_le, inl, inr, refl, sym, ap, ◌∙◌, subst}
 use lib.Signed.{le_z_yes}
 use Rattle.gv_base.specs.declared.constant.Const.{Const}
 use Rattle.gv_base.specs.declared.constant.Const.TheVariants as const
@@ -7,7 +7,6 @@ use Rattle.gv_base.specs.declared.constant.Kind.{Kind}
 use Rattle.gv_base.specs.declared.constant.Kind.TheVariants as k
 use Rattle.gv_base.specs.Fits.{Values, Truths, Integers, Texts, NoConstants, values_of, IsAmong, Fits}
 use Rattle.const_eval.specs.Meaning.{is_among}
-use Rattle.type_model.specs.declared.term.Dir.{Dir}
 use Rattle.type_model.specs.declared.term.Dir.TheVariants.{Both}
 use Rattle.type_model.specs.Declarations.{Declarations, under_of}
 use Rattle.type_model.specs.GoTypes.{GoType, GoMethods, BasicType, DefinedType, PointerTo, SliceOf, ArrayOf, MapOf, ChanOf, FuncOf, StructOf, InterfaceOf, NoMethod, AndMethod}

@@ -1,5 +1,5 @@
 -- An interface that has a method isn't empty.
-use Rattle.std.proofs.Common.{◌≡◌, ℕ, ◌≤◌, false, List, [], ◌∷◌, length, refl, arith}
+use Rattle.std.proofs.Common.{◌≡◌, ◌≤◌, false, List, [], ◌∷◌, length, refl, arith}
 use Rattle.type_model.specs.declared.term.Method.{Method}
 use Rattle.type_model.specs.GoTypes.{GoType, methods_of}
 use Rattle.op_rules.specs.Types.{has_none}

@@ -1,5 +1,5 @@
 -- Operands in code, with types and constants by number.
-use Rattle.std.specs.Prelude.{◌≡◌, length}
+use Rattle.std.specs.Prelude.{length}
 use Rattle.typed_marks.specs.declared.mark.Facts.{Facts}
 use Rattle.typed_marks.specs.declared.mark.Want.{Want}
 use Rattle.typed_marks.specs.declared.state.State.{State}

@@ -1,6 +1,6 @@
 //! Basic types: which values they have, and which are of one class.
 ghost use Rattle.std.specs.Prelude.{◌≡◌, ◌||◌};
-ghost use Rattle.type_rel.specs.Kinds.{is_untyped, is_integer};
+ghost use Rattle.type_rel.specs.Kinds.{is_untyped};
 ghost use Rattle.typed_tree.specs.Operands.{is_text, is_boolean, is_nil, is_rune, fits_in};
 ghost use Rattle.op_rules.specs.Types.{alike};
 

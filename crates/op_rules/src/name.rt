@@ -1,17 +1,15 @@
 //! Names and qualified identifiers (Go 1.17, "Operands", "Qualified identifiers", "Iota").
 ghost use Rattle.std.specs.Prelude.{◌≡◌, IfOk, Some, option_map, IfSome};
 ghost use Rattle.mark_walk.specs.Telling.{tell};
-ghost use Rattle.object_order.specs.Spots.{place};
 ghost use Rattle.type_model.specs.Tables.{types_in, count};
 ghost use Rattle.typed_tree.specs.Basics.{HasBasics, Says as SaysInTree};
 ghost use Rattle.typed_tree.specs.Meanings.{Meaning as TreeMeaning, mark_in as tree_mark_in, IsWithin};
 ghost use Rattle.typed_tree.specs.Places.{exported_mark};
 ghost use Rattle.typed_marks.specs.Meanings.{known_in, AreWithin};
 ghost use Rattle.typed_marks.specs.States.{so_far};
-ghost use Rattle.unit_read.specs.Exports.{SaysIfSome};
 ghost use Rattle.unit_read.specs.Imports.{exported_of};
 ghost use Rattle.unit_read.specs.Subjects.{unit_of, IsRead};
-ghost use Rattle.unit_read.specs.Units.{first_spelled, last_spelled, is_blank};
+ghost use Rattle.unit_read.specs.Units.{is_blank};
 ghost use Rattle.std.specs.Prelude.{length};
 ghost use Rattle.rule_words.specs.Scenes.{IsScene, said, IsMarkOf, type_in, IsTypeOf, part_in, IsSeenOf};
 ghost use Rattle.rule_words.specs.Answers.{answer_in, IsAnswerOf};

@@ -1,13 +1,12 @@
 //! Operands of operators.
-ghost use Rattle.std.specs.Prelude.{◌≡◌, true, option_map, IfSome};
+ghost use Rattle.std.specs.Prelude.{◌≡◌, option_map, IfSome};
 ghost use Rattle.std.specs.Option.{option_copied};
 ghost use Rattle.typed_tree.specs.Basics.{HasBasics};
 ghost use Rattle.typed_marks.specs.Meanings.{constant_at, known_in, AreWithin};
 ghost use Rattle.type_model.specs.Tables.{types_in, count};
 ghost use Rattle.std.specs.Prelude.{length};
-ghost use Rattle.rule_words.specs.Scenes.{said, IsMarkOf, type_in, MayBeTypeOf, part_in, IsSeenOf};
-ghost use Rattle.rule_words.specs.Answers.{answer_in, IsAnswerOf};
-ghost use Rattle.op_rules.specs.Operands.{operand_of, good_operand, operand_at};
+ghost use Rattle.rule_words.specs.Scenes.{type_in, MayBeTypeOf, part_in, IsSeenOf};
+ghost use Rattle.op_rules.specs.Operands.{operand_of, operand_at};
 ghost use Rattle.op_rules.specs.InCode.{operand_in, IsOperandOf};
 
 use crate::types::counted;

@@ -7,7 +7,7 @@ ghost use Rattle.typed_tree.specs.Places.{is_type, is_package};
 ghost use Rattle.typed_marks.specs.States.{so_far};
 ghost use Rattle.unit_read.specs.Subjects.{unit_of};
 ghost use Rattle.rule_words.specs.Answers.{is_plain};
-ghost use Rattle.rule_words.specs.Scenes.{IsScene, told_by, IfFound, said, IsMarkOf, type_in, IsTypeOf, MayBeTypeOf};
+ghost use Rattle.rule_words.specs.Scenes.{IsScene, said, IsMarkOf, type_in, IsTypeOf, MayBeTypeOf};
 ghost use Rattle.rule_words.specs.Steps.{step_in, IsStepOf};
 ghost use Rattle.rule_words.specs.Putting.{held, assign_ask};
 ghost use Rattle.rule_words.specs.Wanting.{wanted_of, IsWantedOf};
@@ -25,7 +25,7 @@ use crate::wishes::is_shifted;
 use rule_words::{Answer, Asked, Rest, Step, Wanted, under_of};
 use type_model::TypeId;
 use type_questions::Found;
-use typed_marks::{ConstId, Facts, Item, Mark, State, Want};
+use typed_marks::{ConstId, Facts, Mark, State, Want};
 use typed_tree::{Mode, Rule, Want as Demand};
 use unit_read::Subject;
 

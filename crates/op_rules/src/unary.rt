@@ -1,6 +1,5 @@
 //! Unary expressions `+x -x !x ^x` (Go 1.17, "Arithmetic operators", "Logical operators").
-ghost use Rattle.std.specs.Prelude.{◌≡◌, IfOk, option_map};
-ghost use Rattle.std.specs.Option.{option_copied};
+ghost use Rattle.std.specs.Prelude.{◌≡◌, IfOk};
 ghost use Rattle.mark_walk.specs.Telling.{tell};
 ghost use Rattle.type_rel.specs.Terms.{kind_of};
 ghost use Rattle.typed_tree.specs.Basics.{HasBasics};

@@ -1,4 +1,4 @@
-use Rattle.std.proofs.Common.{map, option_map, slice_get, sym, ap, ◌∙◌}
+use Rattle.std.proofs.Common.{option_map, sym, ap, ◌∙◌}
 use Rattle.std.specs.Option.{option_map_or}
 use Rattle.std.proofs.lemmas.Option.{slice_get-map}
 use Rattle.rule_words.specs.Parts.{Part, no_part}

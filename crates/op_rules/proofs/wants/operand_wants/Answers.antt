@@ -1,4 +1,4 @@
-use Rattle.std.proofs.Common.{sym, ap, ◌∙◌}
+use Rattle.std.proofs.Common.{sym, ◌∙◌}
 use Rattle.mark_walk.specs.Telling.{Says, Waits}
 use Rattle.mark_walk.proofs.TellLaws.{told_bind}
 use Rattle.typed_marks.specs.States.{so_far}
