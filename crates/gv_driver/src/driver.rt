@@ -1,12 +1,13 @@
 //! Runs over a tree.
-ghost use Rattle.std.specs.Prelude.{◌≡◌, ◌<◌, ◌≤◌, ◌+◌, ◌^◌, ℕ, None, Some, IfOk, OnErr, length, replicate, slice_get, sum_by};
+ghost use Rattle.std.specs.Prelude.{◌≡◌, ◌<◌, ◌≤◌, ◌+◌, ◌^◌, ℕ, true, None, Some, IfOk, OnErr, length, replicate, slice_get, sum_by};
+ghost use Rattle.fact_cache.specs.Caches.{is_within};
 ghost use Rattle.gv_driver.specs.Trees.{IsTree};
 ghost use Rattle.gv_driver.specs.Caches.{IsHonest};
 ghost use Rattle.gv_driver.specs.Runs.{IsCutOff, Ran};
 ghost use Rattle.gv_driver.specs.Standing.{AreVerdictsIn};
 
 use crate::counts::counts;
-use crate::keep::keep;
+use crate::keep::keep_within;
 use crate::node::Node;
 use crate::reply::Judgement;
 use crate::report::verdicts;
@@ -43,12 +44,13 @@ fn run_with<K: Kit>(
     ensures ran { IsHonest cache.old → IfOk result (λ reply. Ran tree.now cache.old cache.new (K.loads kit.old) (K.loads kit.new) reply) }
     ensures cut_off { IsHonest cache.old → OnErr result (IsCutOff tree.now cache.old cache.new (K.loads kit.old) (K.loads kit.new)) }
     ensures honest { IsHonest cache.old → IsHonest cache.new }
+    ensures within { is_within cache.old ≡ true → is_within cache.new ≡ true }
 {
     let mut table = none_done(alloc, tree.len())?;
     run_loads(alloc, tree, cache, kit, &mut table)?;
     let list = verdicts(alloc, tree, &table)?;
     let counts = counts(&table);
-    keep(alloc, cache, table)?;
+    keep_within(alloc, cache, table)?;
     Ok(Judgement {
         verdicts: Row::new(list),
         counts,
@@ -58,7 +60,8 @@ fn run_with<K: Kit>(
 /// Judges a tree with the first of the kits, and with what the cache has; what was executed is kept. It returns
 /// over any cache, after at most as many loads as there are packages, with a verdict for each package whose marks
 /// stand in the package's files. Where the cache is honest, the verdicts are
-/// those of the sources, exactly the missing loads are executed, and their entries stand behind the old ones.
+/// those of the sources, exactly the missing loads are executed, and their entries stand behind the old ones, of which the
+/// oldest are dropped until the cache's limits hold.
 pub fn run<K: Kit>(
     alloc: Global,
     tree: &[PackageTexts],
@@ -75,6 +78,7 @@ pub fn run<K: Kit>(
     ensures ran { IsHonest cache.old → IfOk result (λ reply. Ran tree.now cache.old cache.new (sum_by K.loads kits.old) (sum_by K.loads kits.new) reply) }
     ensures cut_off { IsHonest cache.old → OnErr result (IsCutOff tree.now cache.old cache.new (sum_by K.loads kits.old) (sum_by K.loads kits.new)) }
     ensures honest { IsHonest cache.old → IsHonest cache.new }
+    ensures within { is_within cache.old ≡ true → is_within cache.new ≡ true }
 {
     let reply = run_with(alloc, tree, cache, &mut kits[0])?;
     Ok(reply)

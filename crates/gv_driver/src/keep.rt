@@ -1,7 +1,8 @@
 //! Keeping what was executed.
-ghost use Rattle.std.specs.Prelude.{◌≡◌, ℕ, false, None, OnOk, OnErr, length};
-ghost use Rattle.fact_cache.specs.Caches.{lookup};
-ghost use Rattle.gv_driver.specs.Runs.{CanKeep, Keeping, kept};
+ghost use Rattle.std.specs.Prelude.{◌≡◌, ℕ, true, None, Some, OnOk, OnErr, length};
+ghost use Rattle.fact_cache.specs.declared.texts.Input.{Input};
+ghost use Rattle.fact_cache.specs.Caches.{is_within, lookup};
+ghost use Rattle.gv_driver.specs.Runs.{CanKeep, Keeping, KeepingWithin, kept};
 
 use crate::answer::write_answer;
 use crate::node::Node;
@@ -10,20 +11,23 @@ use gv_base::NoMemory;
 use std::alloc::Global;
 
 fn keep_node(alloc: Global, cache: &mut Cache, node: Node) -> Result<(), NoMemory>
-    requires { node.found ≡ false → lookup cache.old node.key ≡ None }
+    requires { (i : Input) → node.fresh ≡ Some i → lookup cache.old i ≡ None }
     ensures kept { OnOk result (cache.new ≡ kept cache.old node) }
     ensures unchanged { OnErr result (cache.new ≡ cache.old) }
 {
-    if node.found {
-        return Ok(());
+    let Node { fresh, answer } = node;
+    match fresh {
+        None => Ok(()),
+        Some(input) => {
+            let outcome = write_answer(alloc, &answer)?;
+            cache.put(input, outcome)?;
+            Ok(())
+        }
     }
-    let outcome = write_answer(alloc, &node.answer)?;
-    cache.put(node.key, outcome)?;
-    Ok(())
 }
 
-/// Adds the entries of the nodes that weren't found, in order.
-pub(crate) fn keep(
+/// Adds the entries of the executed loads, in order.
+fn keep(
     alloc: Global,
     cache: &mut Cache,
     mut table: Vec<Option<Node>>,
@@ -38,4 +42,21 @@ pub(crate) fn keep(
         }
     }
     Ok(())
+}
+
+/// Adds the entries of the executed loads, in order, and drops the oldest until the limits hold; that also where
+/// memory was wanting.
+pub(crate) fn keep_within(
+    alloc: Global,
+    cache: &mut Cache,
+    table: Vec<Option<Node>>,
+) -> Result<(), NoMemory>
+    requires { CanKeep cache.old table.items }
+    ensures whole { OnOk result (KeepingWithin cache.old table.items (length table.items) cache.new) }
+    ensures part { OnErr result ((done : ℕ) × KeepingWithin cache.old table.items done cache.new) }
+    ensures within { is_within cache.new ≡ true }
+{
+    let kept = keep(alloc, cache, table);
+    cache.trim();
+    kept
 }
