@@ -13,9 +13,9 @@ use Rattle.gv_driver.specs.Trees.{IsTree}
 use Rattle.gv_driver.specs.Caches.{IsHonest, IsCacheAfter, IsPartKept, is_cached, missing_of, input_of}
 use Rattle.gv_driver.specs.Tables.{IsKeyOf, IsTable, fresh_inputs, with_fresh}
 use Rattle.gv_driver.specs.Loads.{IsInput}
-use Rattle.gv_driver.specs.Runs.{CanKeep, Keeping, KeepingWithin, entry_of, kept, kept_of}
+use Rattle.gv_driver.specs.Runs.{CanKeep, Keeping, entry_of, kept, kept_of}
 use Rattle.gv_driver.proofs.Places.{append-none, nothing-left, nothing-contained}
-use Rattle.gv_driver.proofs.CacheLaws.{honest-append, honest-trimmed, lookup-append, lookup-others, not-found}
+use Rattle.gv_driver.proofs.CacheLaws.{honest-append, lookup-append, lookup-others, not-found}
 use Rattle.gv_driver.proofs.InputLaws.{left-some}
 use Rattle.gv_driver.proofs.TableLaws.{node-entry}
 use Rattle.gv_driver.proofs.WholeLaws.{same-number}
@@ -71,18 +71,18 @@ taken-at xs ys p r o h l is same =
 pub can-keep : (tree : List PackageTexts) (before : List Entry) (table : List (Option Node)) → IsTree tree → IsTable tree before table → CanKeep before table
 can-keep tree before table formed is = record {
   missing = λ p n i h e.
-      let s = left p n i h e in
+      let s = key-left p n i h e in
       subst (λ (k : Input). is_cached before k ≡ false) s.1 s.0;
   distinct = λ p q n m i h g e f.
       let a = is.looked p n h in
       let b = is.looked q m g in
-      same-keys p q a.key b.key a.of b.of ((left p n i h e).1 ∙ sym (left q m i g f).1);
+      same-keys p q a.key b.key a.of b.of ((key-left p n i h e).1 ∙ sym (key-left q m i g f).1);
   right = λ honest p n i h e.
-      node-entry tree p n i ((is.right honest).node p n h) (subst (λ (k : Input). IsInput tree p k) (left p n i h e).1 ((is.looked p n h).input honest));
+      node-entry tree p n i ((is.right honest).node p n h) (subst (λ (k : Input). IsInput tree p k) (key-left p n i h e).1 ((is.looked p n h).input honest));
 }
   where
-    left : (p : ℕ) (n : Node) (i : Input) (h : slice_get table p ≡ Some (Some n)) → n.fresh ≡ Some i → (is_cached before (is.looked p n h).key ≡ false) × ((is.looked p n h).key ≡ i)
-    left p n i h e = left-some (is_cached before (is.looked p n h).key) (is.looked p n h).key i (sym (is.looked p n h).left ∙ e)
+    key-left : (p : ℕ) (n : Node) (i : Input) (h : slice_get table p ≡ Some (Some n)) → n.fresh ≡ Some i → (is_cached before (is.looked p n h).key ≡ false) × ((is.looked p n h).key ≡ i)
+    key-left p n i h e = left-some (is_cached before (is.looked p n h).key) (is.looked p n h).key i (sym (is.looked p n h).left ∙ e)
     same-keys : (p q : ℕ) (s t : Input) → IsKeyOf tree p s → IsKeyOf tree q t → s ≡ t → p ≡ q
     same-keys p q s t a b e =
         let lists : a.pack.path ∷ a.rest ≡ b.pack.path ∷ b.rest = sym a.texts ∙ (ap (λ (x : Input). x.texts) e ∙ b.texts) in
@@ -165,27 +165,25 @@ keeping-new before table p n i now can at is f =
 
 -- what is left to keep is what is left of the missing inputs
 pub keeping-part : (before : List Entry) (table : List (Option Node)) (p : ℕ) (now : List Entry) (inputs : List (Option Input)) → IsHonest before → fresh_inputs table ≡ missing_of before inputs
-    → KeepingWithin before table p now → IsPartKept before now inputs
+    → Keeping before table p now → IsPartKept before (trimmed now) inputs
 keeping-part before table p now inputs honest same is = record {
-  added = is.keeping.added;
+  added = is.added;
   more = fresh_inputs (drop p table);
-  is = inr (is.is ∙ ap (λ (l : List Entry). trimmed l) is.keeping.is);
-  part = is.keeping.rest ∙ same;
-  right = is.keeping.right honest;
+  is = ap (λ (l : List Entry). trimmed l) is.is;
+  part = is.rest ∙ same;
+  right = is.right honest;
 }
 
 pub keeping-whole : (before : List Entry) (table : List (Option Node)) (now : List Entry) (inputs : List (Option Input)) → IsHonest before → fresh_inputs table ≡ missing_of before inputs
-    → KeepingWithin before table (length table) now → IsCacheAfter before now inputs
+    → Keeping before table (length table) now → IsCacheAfter before (trimmed now) inputs
 keeping-whole before table now inputs honest same is =
     let none : fresh_inputs (drop (length table) table) ≡ [] = ap fresh_inputs (nothing-left table) in
     record {
-      added = is.keeping.added;
-      is = is.is ∙ ap (λ (l : List Entry). trimmed l) is.keeping.is;
-      whole = sym (append-none (map input_of is.keeping.added)) ∙ (ap (λ l. map input_of is.keeping.added ++ l) (sym none) ∙ (is.keeping.rest ∙ same));
-      right = is.keeping.right honest;
+      added = is.added;
+      is = ap (λ (l : List Entry). trimmed l) is.is;
+      whole = sym (append-none (map input_of is.added)) ∙ (ap (λ l. map input_of is.added ++ l) (sym none) ∙ (is.rest ∙ same));
+      right = is.right honest;
     }
 
-pub keeping-honest : (before : List Entry) (table : List (Option Node)) (p : ℕ) (now : List Entry) → KeepingWithin before table p now → IsHonest before → IsHonest now
-keeping-honest before table p now is honest =
-    subst IsHonest (sym is.is)
-    (honest-trimmed is.all (subst IsHonest (sym is.keeping.is) (honest-append before is.keeping.added honest (is.keeping.right honest))))
+pub keeping-honest : (before : List Entry) (table : List (Option Node)) (p : ℕ) (now : List Entry) → Keeping before table p now → IsHonest before → IsHonest now
+keeping-honest before table p now is honest = subst IsHonest (sym is.is) (honest-append before is.added honest (is.right honest))

@@ -32,16 +32,16 @@ performs-from tree before table next p pack load node count now formed is ready 
     key = load_input load;
     of = subst (λ (k : Input). IsKeyOf tree p k) (sym (ap load_input made)) (load-key tree table p pack at);
     left = left;
-    input = λ honest. record { load = load; of = of honest; is = refl };
+    input = λ honest. record { load = load; of = load-of honest; is = refl };
   };
   counts = counts;
   right = λ honest.
-      let lawful = load-lawful tree p load formed (of honest) in
-      record { load = load; of = of honest; lawful = lawful; outcome = right honest lawful };
+      let lawful = load-lawful tree p load formed (load-of honest) in
+      record { load = load; of = load-of honest; lawful = lawful; outcome = right honest lawful };
 }
   where
-    of : IsHonest before → IsLoadOf tree p load
-    of honest = subst (λ (l : LoadInput). IsLoadOf tree p l) (sym made) (ready-load tree table p pack (is.right honest) at ready)
+    load-of : IsHonest before → IsLoadOf tree p load
+    load-of honest = subst (λ (l : LoadInput). IsLoadOf tree p l) (sym made) (ready-load tree table p pack (is.right honest) at ready)
 
 left-by : (x : Option (List ℕ)) (i : Input) (o : List ℕ) → x ≡ Some o → None ≡ (if is_found x then None else Some i)
 left-by None i o e = cc

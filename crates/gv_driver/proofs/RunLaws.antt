@@ -4,6 +4,7 @@ use Rattle.std.specs.Prelude.{sum_by}
 use Rattle.std.proofs.lemmas.Option.{same_Some, slice_get_within}
 use Rattle.fact_cache.specs.declared.texts.Input.{Input}
 use Rattle.fact_cache.specs.declared.list.Entry.{Entry}
+use Rattle.fact_cache.specs.Caches.{trimmed}
 use Rattle.gv_driver.specs.declared.tree.PackageTexts.{PackageTexts}
 use Rattle.gv_driver.specs.declared.node.Node.{Node}
 use Rattle.gv_driver.specs.declared.reply.Judgement.{Judgement}
@@ -11,7 +12,7 @@ use Rattle.gv_driver.specs.Loads.{IsInput, IsPlan}
 use Rattle.gv_driver.specs.Caches.{IsHonest, IsPartKept, missing_of, is_cached, input_of}
 use Rattle.gv_driver.specs.Tables.{AreRight, IsReady, IsTable, executed, waiting, done_in, fresh_in, fresh_inputs}
 use Rattle.gv_driver.specs.Reports.{AreShown}
-use Rattle.gv_driver.specs.Runs.{Goes, KeepingWithin, Ran, IsCutOff}
+use Rattle.gv_driver.specs.Runs.{Goes, Keeping, Ran, IsCutOff}
 use Rattle.gv_driver.proofs.InputLaws.{AreInputsOf, IsOfRow, inputs-of, fresh-count, fresh-missing, done-inputs}
 use Rattle.gv_driver.proofs.Places.{append-none, element}
 use Rattle.gv_driver.proofs.WholeLaws.{unique-input, unique-plan}
@@ -93,16 +94,16 @@ loads-le tree before first table count now honest start goes inputs plan =
     let l : executed table ≤ length (missing_of before inputs) = executed-le tree before table inputs honest goes.right plan in
     omega (arith, e, f, l)
 
-nothing-kept : (before : List Entry) (inputs : List (Option Input)) → IsPartKept before before inputs
-nothing-kept before inputs = record { added = []; more = missing_of before inputs; is = inl (sym (append-none before)); part = refl; right = tt }
+nothing-kept : (before : List Entry) (inputs : List (Option Input)) → IsPartKept before (trimmed before) inputs
+nothing-kept before inputs = record { added = []; more = missing_of before inputs; is = ap (λ (l : List Entry). trimmed l) (sym (append-none before)); part = refl; right = tt }
 
 -- cut off before anything was done
-pub cut-first : (tree : List PackageTexts) (before : List Entry) (count : ℕ) → IsCutOff tree before before count count
+pub cut-first : (tree : List PackageTexts) (before : List Entry) (count : ℕ) → IsCutOff tree before (trimmed before) count count
 cut-first tree before count = record { loads = λ inputs plan. omega arith; cache = λ inputs plan. nothing-kept before inputs }
 
 -- cut off before anything was kept
 pub cut-in_loads : (tree : List PackageTexts) (before : List Entry) (first table : List (Option Node)) (count now : ℕ) → IsHonest before → first ≡ replicate (length tree) None
-    → Goes tree before first table count now → IsCutOff tree before before count now
+    → Goes tree before first table count now → IsCutOff tree before (trimmed before) count now
 cut-in_loads tree before first table count now honest start goes = record {
   loads = loads-le tree before first table count now honest start goes;
   cache = λ inputs plan. nothing-kept before inputs;
@@ -110,7 +111,7 @@ cut-in_loads tree before first table count now honest start goes = record {
 
 -- cut off while the entries were kept
 pub cut-in_keep : (tree : List PackageTexts) (before after : List Entry) (first table : List (Option Node)) (count now done : ℕ) → IsHonest before → first ≡ replicate (length tree) None
-    → Goes tree before first table count now → ((p : ℕ) → IsReady tree table p → ⊥) → KeepingWithin before table done after → IsCutOff tree before after count now
+    → Goes tree before first table count now → ((p : ℕ) → IsReady tree table p → ⊥) → Keeping before table done after → IsCutOff tree before (trimmed after) count now
 cut-in_keep tree before after first table count now done honest start goes none keeping =
     let are = inputs-of tree before table honest goes.right in
     let mine = plan-right tree before table (goes.right.right honest) none are in
@@ -122,9 +123,9 @@ cut-in_keep tree before after first table count now done honest start goes none 
     }
 
 pub ran-right : (tree : List PackageTexts) (before after : List Entry) (first table : List (Option Node)) (count now : ℕ) (reply : Judgement) → IsHonest before → first ≡ replicate (length tree) None
-    → Goes tree before first table count now → ((p : ℕ) → IsReady tree table p → ⊥) → KeepingWithin before table (length table) after
+    → Goes tree before first table count now → ((p : ℕ) → IsReady tree table p → ⊥) → Keeping before table (length table) after
     → AreShown tree table reply.verdicts (length tree) → reply.counts.nodes ≡ sum_by done_in table → reply.counts.missing ≡ sum_by fresh_in table → reply.counts.loads ≡ sum_by fresh_in table → reply.counts.runs ≡ 0
-    → Ran tree before after count now reply
+    → Ran tree before (trimmed after) count now reply
 ran-right tree before after first table count now reply honest start goes none keeping shown nodes missing loads runs =
     let right = goes.right.right honest in
     let are = inputs-of tree before table honest goes.right in
@@ -157,7 +158,7 @@ ran-cut tree b c n m r is = record {
       omega (arith, long, loads, risen);
   cache = λ inputs plan.
       subst (λ (i : List (Option Input)). IsPartKept b c i) (unique-plan tree is.inputs inputs is.plan plan)
-      (record { added = is.cache.added; more = []; is = inr is.cache.is; part = append-none (map input_of is.cache.added) ∙ is.cache.whole; right = is.cache.right });
+      (record { added = is.cache.added; more = []; is = is.cache.is; part = append-none (map input_of is.cache.added) ∙ is.cache.whole; right = is.cache.right });
 }
 
 -- the same run, counted over several kits

@@ -1,5 +1,5 @@
 -- Honest caches, and what a run leaves in one.
-use Rattle.std.specs.Prelude.{◌≡◌, ◌⊎◌, ℕ, Bool, true, false, Option, Some, None, List, [], ◌∷◌, ◌++◌, map, if◌then◌else◌}
+use Rattle.std.specs.Prelude.{◌≡◌, ℕ, Bool, true, false, Option, Some, None, List, [], ◌∷◌, ◌++◌, map, if◌then◌else◌}
 use Rattle.fact_cache.specs.declared.texts.Input.{Input}
 use Rattle.fact_cache.specs.declared.list.Entry.{Entry}
 use Rattle.fact_cache.specs.Caches.{lookup, trimmed}
@@ -43,11 +43,11 @@ pub record IsCacheAfter (before after : List Entry) (inputs : List (Option Input
   pub whole : map input_of added ≡ missing_of before inputs
   pub right : IsHonest added
 
--- The old entries, and then right ones of the first of the missing inputs; all of these, or what is left of them until the
--- limits hold.
+-- The old entries, and then right ones of the first of the missing inputs; of all these without the oldest, until the
+-- limits of a cache hold.
 pub record IsPartKept (before after : List Entry) (inputs : List (Option Input)) : Type 0 where
   pub added : List Entry
   pub more : List Input
-  pub is : (after ≡ before ++ added) ⊎ (after ≡ trimmed (before ++ added))
+  pub is : after ≡ trimmed (before ++ added)
   pub part : map input_of added ++ more ≡ missing_of before inputs
   pub right : IsHonest added

@@ -4,7 +4,6 @@ use Rattle.std.specs.List.{Contains}
 use Rattle.need_order.specs.declared.needed.Needed.{Needed}
 use Rattle.fact_cache.specs.declared.texts.Input.{Input}
 use Rattle.fact_cache.specs.declared.list.Entry.{Entry}
-use Rattle.fact_cache.specs.Caches.{trimmed}
 use Rattle.gv_driver.specs.declared.tree.PackageTexts.{PackageTexts}
 use Rattle.gv_driver.specs.declared.node.Answer.{Answer}
 use Rattle.gv_driver.specs.declared.node.Node.{Node}
@@ -63,12 +62,6 @@ pub record Keeping (before : List Entry) (table : List (Option Node)) (done : �
   pub rest : map input_of added ++ fresh_inputs (drop done table) ≡ fresh_inputs table
   pub each : (e : Entry) → Contains added e → (q : ℕ) × (n : Node) × (q < done) × (slice_get table q ≡ Some (Some n)) × (n.fresh ≡ Some e.input)
   pub right : IsHonest before → IsHonest added
-
--- the same, and then without the oldest, until the limits hold
-pub record KeepingWithin (before : List Entry) (table : List (Option Node)) (done : ℕ) (now : List Entry) : Type 0 where
-  pub all : List Entry
-  pub keeping : Keeping before table done all
-  pub is : now ≡ trimmed all
 
 abbrev pub some_in : Option Input → ℕ
 some_in None = 0

@@ -1,8 +1,8 @@
 //! Keeping what was executed.
-ghost use Rattle.std.specs.Prelude.{◌≡◌, ℕ, true, None, Some, OnOk, OnErr, length};
+ghost use Rattle.std.specs.Prelude.{◌≡◌, ℕ, None, Some, OnOk, OnErr, length};
 ghost use Rattle.fact_cache.specs.declared.texts.Input.{Input};
-ghost use Rattle.fact_cache.specs.Caches.{is_within, lookup};
-ghost use Rattle.gv_driver.specs.Runs.{CanKeep, Keeping, KeepingWithin, kept};
+ghost use Rattle.fact_cache.specs.Caches.{lookup};
+ghost use Rattle.gv_driver.specs.Runs.{CanKeep, Keeping, kept};
 
 use crate::answer::write_answer;
 use crate::node::Node;
@@ -27,7 +27,7 @@ fn keep_node(alloc: Global, cache: &mut Cache, node: Node) -> Result<(), NoMemor
 }
 
 /// Adds the entries of the executed loads, in order.
-fn keep(
+pub(crate) fn keep(
     alloc: Global,
     cache: &mut Cache,
     mut table: Vec<Option<Node>>,
@@ -42,21 +42,4 @@ fn keep(
         }
     }
     Ok(())
-}
-
-/// Adds the entries of the executed loads, in order, and drops the oldest until the limits hold; that also where
-/// memory was wanting.
-pub(crate) fn keep_within(
-    alloc: Global,
-    cache: &mut Cache,
-    table: Vec<Option<Node>>,
-) -> Result<(), NoMemory>
-    requires { CanKeep cache.old table.items }
-    ensures whole { OnOk result (KeepingWithin cache.old table.items (length table.items) cache.new) }
-    ensures part { OnErr result ((done : ℕ) × KeepingWithin cache.old table.items done cache.new) }
-    ensures within { is_within cache.new ≡ true }
-{
-    let kept = keep(alloc, cache, table);
-    cache.trim();
-    kept
 }

@@ -49,25 +49,25 @@ returns-in_err-list-clause-cut_off g c = λ honest.
     honest c.in_ok-table.ensures c.run_loads.ensures.goes in
     search (rules, h)
 
-pub keep_within-requires : goal.keep_within-requires
-keep_within-requires g c = can-keep c.args.tree.now c.args.cache.now c.run_loads.new.table.items c.requires.tree c.run_loads.ensures.goes.right
+pub keep-requires : goal.keep-requires
+keep-requires g c = can-keep c.args.tree.now c.args.cache.now c.run_loads.new.table.items c.requires.tree c.run_loads.ensures.goes.right
 
-pub returns-in_err-keep_within-clause-bound : goal.returns-in_err-keep_within-clause-bound
-returns-in_err-keep_within-clause-bound g c =
+pub returns-in_err-keep-clause-bound : goal.returns-in_err-keep-clause-bound
+returns-in_err-keep-clause-bound g c =
     loads-bound c.args.tree.now c.args.cache.now c.in_ok-table.table.items c.run_loads.new.table.items (g.K.Kit.loads c.args.kit.now) (g.K.Kit.loads c.run_loads.new.kit)
     c.in_ok-table.ensures c.run_loads.ensures.goes
 
-pub returns-in_err-keep_within-clause-cut_off : goal.returns-in_err-keep_within-clause-cut_off
-returns-in_err-keep_within-clause-cut_off g c = λ honest.
-    let part = c.in_err-keep_within.ensures.part in
-    let h = cut-in_keep c.args.tree.now c.args.cache.now c.keep_within.new.cache c.in_ok-table.table.items c.run_loads.new.table.items (g.K.Kit.loads c.args.kit.now) (g.K.Kit.loads c.run_loads.new.kit) part.0
+pub returns-in_err-keep-clause-cut_off : goal.returns-in_err-keep-clause-cut_off
+returns-in_err-keep-clause-cut_off g c = λ honest.
+    let part = c.in_err-keep.ensures.part in
+    let h = cut-in_keep c.args.tree.now c.args.cache.now c.keep.new.cache c.in_ok-table.table.items c.run_loads.new.table.items (g.K.Kit.loads c.args.kit.now) (g.K.Kit.loads c.run_loads.new.kit) part.0
     honest c.in_ok-table.ensures c.run_loads.ensures.goes c.in_ok-run_loads.ensures.done part.1 in
     search (rules, h)
 
-pub returns-in_err-keep_within-clause-honest : goal.returns-in_err-keep_within-clause-honest
-returns-in_err-keep_within-clause-honest g c = λ honest.
-    let part = c.in_err-keep_within.ensures.part in
-    keeping-honest c.args.cache.now c.run_loads.new.table.items part.0 c.keep_within.new.cache part.1 honest
+pub returns-in_err-keep-clause-honest : goal.returns-in_err-keep-clause-honest
+returns-in_err-keep-clause-honest g c = λ honest.
+    let part = c.in_err-keep.ensures.part in
+    keeping-honest c.args.cache.now c.run_loads.new.table.items part.0 c.keep.new.cache part.1 honest
 
 pub returns-clause-bound : goal.returns-clause-bound
 returns-clause-bound g c =
@@ -91,8 +91,8 @@ returns-clause-ran g c = λ honest.
     let counts = c.counts-counts.result in
     let shown : AreShown tree table list (length tree) = subst (λ (v : List Verdict). AreShown tree table v (length tree)) (sym c.new.ensures)
     (subst (λ (l : List (Option Node)). AreShown tree l c.in_ok-list.list.items (length tree)) c.deref.ensures.value c.in_ok-list.ensures) in
-    ran-right tree c.args.cache.now c.keep_within.new.cache c.in_ok-table.table.items table (g.K.Kit.loads c.args.kit.now) (g.K.Kit.loads c.run_loads.new.kit)
-    (record { verdicts = list; counts = counts }) honest c.in_ok-table.ensures c.run_loads.ensures.goes c.in_ok-run_loads.ensures.done c.in_ok-keep_within.ensures.whole shown
+    ran-right tree c.args.cache.now c.keep.new.cache c.in_ok-table.table.items table (g.K.Kit.loads c.args.kit.now) (g.K.Kit.loads c.run_loads.new.kit)
+    (record { verdicts = list; counts = counts }) honest c.in_ok-table.ensures c.run_loads.ensures.goes c.in_ok-run_loads.ensures.done c.in_ok-keep.ensures.whole shown
     (c.counts-counts.ensures.nodes ∙ ap (λ (l : List (Option Node)). sum_by done_in l) c.deref-2.ensures.value)
     (c.counts-counts.ensures.missing ∙ ap (λ (l : List (Option Node)). sum_by fresh_in l) c.deref-2.ensures.value)
     (c.counts-counts.ensures.loads ∙ ap (λ (l : List (Option Node)). sum_by fresh_in l) c.deref-2.ensures.value)
@@ -100,4 +100,4 @@ returns-clause-ran g c = λ honest.
 
 pub returns-clause-honest : goal.returns-clause-honest
 returns-clause-honest g c = λ honest.
-    keeping-honest c.args.cache.now c.run_loads.new.table.items (length c.run_loads.new.table.items) c.keep_within.new.cache c.in_ok-keep_within.ensures.whole honest
+    keeping-honest c.args.cache.now c.run_loads.new.table.items (length c.run_loads.new.table.items) c.keep.new.cache c.in_ok-keep.ensures.whole honest
