@@ -1,8 +1,9 @@
 -- A ready package's load is performed.
-use Rattle.std.proofs.Common.{◌≡◌, ℕ, ◌+◌, Some, None, refl, if◌then◌else◌, List, Option, slice_get, set, get_or, sym, ap, ◌∙◌, subst}
+use Rattle.std.proofs.Common.{◌≡◌, ℕ, ◌+◌, Some, None, refl, if◌then◌else◌, List, [], ◌∷◌, ◌++◌, Option, slice_get, set, get_or, map, append_assoc, sym, ap, ◌∙◌, subst}
 use Rattle.std.proofs.lemmas.Option.{slice_get_within, slice_get-get_or}
 use Rattle.action_graph.specs.declared.kit.LoadInput.{LoadInput}
 use Rattle.action_graph.specs.Judging.{IsLawful, IsOutcome}
+use Rattle.action_graph.specs.Nodes.{Named, load_texts, pairs}
 use Rattle.action_graph.proofs.NodeLemmas.{one_load}
 use Rattle.fact_cache.specs.declared.texts.Input.{Input}
 use Rattle.fact_cache.specs.declared.list.Entry.{Entry}
@@ -12,7 +13,7 @@ use Rattle.gv_driver.specs.declared.node.Node.{Node}
 use Rattle.gv_driver.specs.Trees.{IsTree}
 use Rattle.gv_driver.specs.Loads.{IsLoadOf, load_input}
 use Rattle.gv_driver.specs.Caches.{IsHonest, is_found, left_of}
-use Rattle.gv_driver.specs.Tables.{answer_text, answer_in, cost, load_from, IsKeyOf, IsTable, IsReady}
+use Rattle.gv_driver.specs.Tables.{answer_text, answer_in, cost, load_from, pair_at, IsKeyOf, IsTable, IsReady}
 use Rattle.gv_driver.specs.Runs.{Performs}
 use Rattle.gv_driver.proofs.CacheLaws.{honest-lookup}
 use Rattle.gv_driver.proofs.WholeLaws.{load-lawful}
@@ -58,6 +59,19 @@ left-found cache i o e = left-by (lookup cache i) i o e
 -- and another is
 pub left-missing : (cache : List Entry) (i key : Input) → lookup cache i ≡ None → key ≡ i → Some key ≡ left_of cache i
 left-missing cache i key e same = missing-by (lookup cache i) i key e same
+
+-- the texts of a load's parts, as they are pushed
+pub parts-from : (tree : List PackageTexts) (table : List (Option Node)) (pack : PackageTexts) (one two three four : List (List ℕ)) (path : List ℕ) (files : List Named) (imports : List ℕ)
+    → path ≡ pack.path → files ≡ pack.files → imports ≡ pack.imports
+    → one ≡ path ∷ [] → two ≡ one ++ pairs files → three ≡ two ++ [] ∷ [] → four ≡ three ++ pairs (map (pair_at tree table) imports)
+    → four ≡ load_texts (load_from tree table pack)
+parts-from tree table pack one two three four path files imports p f i a b c d =
+    let env : List (List ℕ) = pairs (map (pair_at tree table) imports) in
+    d ∙ (ap (λ (l : List (List ℕ)). l ++ env) (c ∙ ap (λ (l : List (List ℕ)). l ++ [] ∷ []) (b ∙ ap (λ (l : List (List ℕ)). l ++ pairs files) a))
+    ∙ (ap (λ (l : List (List ℕ)). path ∷ l) (append_assoc (pairs files) ([] ∷ []) env)
+    ∙ (ap (λ (x : List ℕ). x ∷ (pairs files ++ [] ∷ env)) p
+    ∙ (ap (λ (x : List Named). pack.path ∷ (pairs x ++ [] ∷ env)) f
+    ∙ ap (λ (x : List ℕ). pack.path ∷ (pairs pack.files ++ [] ∷ pairs (map (pair_at tree table) x))) i))))
 
 same-outcome : (load : LoadInput) (text other : List ℕ) → text ≡ other → IsOutcome load text → IsOutcome load other
 same-outcome load text other e is = subst (λ (t : List ℕ). IsOutcome load t) e is

@@ -32,7 +32,7 @@ input-is tree before table are p t h =
     let row = element table p (omega (arith, within, size)) in
     plan-row tree before p t row.0 (are.each p row.0 (Some t) row.1 h)
 
-pub plan-right : (tree : List PackageTexts) (before : List Entry) (table : List (Option Node)) → AreRight tree table → ((p : ℕ) → IsReady tree table p → ⊥) → (are : AreInputsOf tree before table) → IsPlan tree are.inputs
+plan-right : (tree : List PackageTexts) (before : List Entry) (table : List (Option Node)) → AreRight tree table → ((p : ℕ) → IsReady tree table p → ⊥) → (are : AreInputsOf tree before table) → IsPlan tree are.inputs
 plan-right tree before table right none are = record {
   size = are.size ∙ right.size;
   right = λ p t h. input-is tree before table are p t h;

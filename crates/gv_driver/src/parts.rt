@@ -46,12 +46,32 @@ fn push_pair<'a>(parts: &mut Vec<&'a [u8]>, path: &'a str, bytes: &'a [u8]) -> R
     Ok(())
 }
 
+fn push_file<'a>(parts: &mut Vec<&'a [u8]>, file: &'a (Text, Bytes)) -> Result<(), NoMemory>
+    ensures { OnOk result (map (λ t. t.now) parts.new.items ≡ (map (λ t. t.now) parts.old.items ++ file.now.0 ∷ []) ++ file.now.1 ∷ []) }
+{
+    push_pair(parts, file.0.as_str(), file.1.as_slice())?;
+    Ok(())
+}
+
 fn push_files<'a>(parts: &mut Vec<&'a [u8]>, files: &'a [(Text, Bytes)]) -> Result<(), NoMemory>
     ensures { OnOk result (map (λ t. t.now) parts.new.items ≡ map (λ t. t.now) parts.old.items ++ pairs files.now) }
 {
     for file in files {
-        push_pair(parts, file.0.as_str(), file.1.as_slice())?;
+        push_file(parts, file)?;
     }
+    Ok(())
+}
+
+fn push_export<'a>(
+    parts: &mut Vec<&'a [u8]>,
+    tree: &'a [PackageTexts],
+    table: &'a [Option<Node>],
+    number: u32,
+) -> Result<(), NoMemory>
+    ensures { OnOk result (map (λ t. t.now) parts.new.items ≡ (map (λ t. t.now) parts.old.items ++ (pair_at tree.now table.now number).0 ∷ []) ++ (pair_at tree.now table.now number).1 ∷ []) }
+{
+    let at = number as usize;
+    push_pair(parts, path_at(tree, at), export_at(table, at))?;
     Ok(())
 }
 
@@ -64,8 +84,7 @@ fn push_exports<'a>(
     ensures { OnOk result (map (λ t. t.now) parts.new.items ≡ map (λ t. t.now) parts.old.items ++ pairs (map (pair_at tree.now table.now) numbers.now)) }
 {
     for number in numbers {
-        let at = *number as usize;
-        push_pair(parts, path_at(tree, at), export_at(table, at))?;
+        push_export(parts, tree, table, *number)?;
     }
     Ok(())
 }
