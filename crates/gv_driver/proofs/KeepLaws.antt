@@ -83,6 +83,7 @@ can-keep tree before table formed is = record {
   where
     key-left : (p : ℕ) (n : Node) (i : Input) (h : slice_get table p ≡ Some (Some n)) → n.fresh ≡ Some i → (is_cached before (is.looked p n h).key ≡ false) × ((is.looked p n h).key ≡ i)
     key-left p n i h e = left-some (is_cached before (is.looked p n h).key) (is.looked p n h).key i (sym (is.looked p n h).left ∙ e)
+
     same-keys : (p q : ℕ) (s t : Input) → IsKeyOf tree p s → IsKeyOf tree q t → s ≡ t → p ≡ q
     same-keys p q s t a b e =
         let lists : a.pack.path ∷ a.rest ≡ b.pack.path ∷ b.rest = sym a.texts ∙ (ap (λ (x : Input). x.texts) e ∙ b.texts) in
