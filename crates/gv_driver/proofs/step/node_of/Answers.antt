@@ -18,4 +18,4 @@ returns-in_ok-answer-in-Some-clause-right g c = λ honest lawful.
 
 pub returns-in_ok-answer-in-None-clause-fresh : goal.returns-in_ok-answer-in-None-clause-fresh
 returns-in_ok-answer-in-None-clause-fresh g c =
-    left-missing c.args.cache.now (load_input (load_from c.args.tree.now c.args.table.now c.args.pack.now)) c.in_ok-key.key (sym (rw c.in-None.is at c.in_ok-found.ensures)) c.in_ok-key.ensures
+    left-missing c.args.cache.now (load_input (load_from c.args.tree.now c.args.table.now c.args.pack.now)) c.in_ok-key-in-None.key (sym (rw c.in-None.is at c.in_ok-found.ensures)) c.in_ok-key-in-None.ensures
