@@ -1,5 +1,6 @@
 -- Runs over the files of a tree that memory cut off.
 use Rattle.std.proofs.Common.{◌≡◌, ℕ, Option, List, map, subst}
+use Rattle.std.specs.Prelude.{Result, Ok, Err, OnErr}
 use Rattle.gv_base.specs.Files.{Entry}
 use Rattle.go_tree.specs.declared.head.Head.{Head}
 use Rattle.parse_file.specs.declared.verdict.FileVerdict.{FileVerdict}
@@ -12,6 +13,11 @@ use Rattle.gv_driver.proofs.RunLaws.{ran-cut}
 use Rattle.tree_report.specs.Form.{IsForm}
 use Rattle.tree_report.specs.Reports.{texts_of, IsStopped}
 use Rattle.tree_report.specs.Reports.IsStopped.{in_run}
+
+-- what holds anyhow holds of an error
+pub on_any_err : {A E : Type 0} {P : Type 0} (r : Result A E) → P → OnErr r P
+on_any_err (Ok a) p = tt
+on_any_err (Err e) p = p
 
 -- what is said of the texts that were made is said of the packages
 pub stopped : (tree : List Entry) (v : List (Option FileVerdict)) (h : List (Option Head)) (p : List Package) (texts : List PackageTexts) (before after : List Kept) (count now : ℕ) → IsForm tree v h p
