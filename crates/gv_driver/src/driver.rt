@@ -58,6 +58,7 @@ fn run_with<K: Kit>(
 }
 
 /// The same, and then the oldest entries are dropped until the limits hold, also where memory was wanting.
+#[tactic(auto, using(crate::proofs::CacheLaws::honest_trimmed, crate::proofs::CacheLaws::trimmed_is_within))]
 fn run_within<K: Kit>(
     alloc: Global,
     tree: &[PackageTexts],
