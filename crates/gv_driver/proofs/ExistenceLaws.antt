@@ -11,6 +11,7 @@ use Rattle.action_graph.specs.Judging.{Judged, Env, Judges, IsOutcomeOf, Tells}
 use Rattle.action_graph.specs.Judging.Judged.{Accepts, Refuses}
 use Rattle.fact_cache.specs.declared.texts.Input.{Input}
 use Rattle.fact_cache.specs.declared.list.Entry.{Entry}
+use Rattle.fact_cache.specs.Caches.{trimmed}
 use Rattle.gv_driver.specs.declared.tree.PackageTexts.{PackageTexts}
 use Rattle.gv_driver.specs.declared.reply.Verdict.{Verdict}
 use Rattle.gv_driver.specs.declared.reply.Verdict.TheVariants as verdict
@@ -214,7 +215,7 @@ module _ (outcomes : AllHaveOutcomes) (tree : List PackageTexts) (formed : IsTre
       let added = entries before inputs (λ t has.
       let found = get-unmapped (λ (r : Row). r.what.input) rows has.0 (Some t) (at-contained inputs (Some t) has) in
       (found.0.what.right t found.2).1) in
-      none (map (λ (r : Row). r.what.told) rows) inputs (before ++ added.0)
+      none (map (λ (r : Row). r.what.told) rows) inputs (trimmed (before ++ added.0))
       (record { size = length-map rows (λ (r : Row). r.what.told) ∙ are.size; each = λ p v at. verdict-at rows are p v at })
       (record {
         size = length-map rows (λ (r : Row). r.what.input) ∙ are.size;

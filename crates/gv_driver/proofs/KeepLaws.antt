@@ -6,15 +6,17 @@ use Rattle.std.proofs.lemmas.List.{map-append}
 use Rattle.std.proofs.lemmas.List.Elements.{Contains-push_cases}
 use Rattle.fact_cache.specs.declared.texts.Input.{Input}
 use Rattle.fact_cache.specs.declared.list.Entry.{Entry}
-use Rattle.fact_cache.specs.Caches.{lookup}
+use Rattle.fact_cache.specs.Caches.{lookup, trimmed}
 use Rattle.gv_driver.specs.declared.tree.PackageTexts.{PackageTexts}
 use Rattle.gv_driver.specs.declared.node.Node.{Node}
 use Rattle.gv_driver.specs.Trees.{IsTree}
 use Rattle.gv_driver.specs.Caches.{IsHonest, IsCacheAfter, IsPartKept, is_cached, missing_of, input_of}
-use Rattle.gv_driver.specs.Tables.{IsKeyOf, IsTable, keys_in}
-use Rattle.gv_driver.specs.Runs.{CanKeep, Keeping, entry_of, kept}
+use Rattle.gv_driver.specs.Tables.{IsKeyOf, IsTable, fresh_inputs, with_fresh}
+use Rattle.gv_driver.specs.Loads.{IsInput}
+use Rattle.gv_driver.specs.Runs.{CanKeep, Keeping, entry_of, kept, kept_of}
 use Rattle.gv_driver.proofs.Places.{append-none, nothing-left, nothing-contained}
 use Rattle.gv_driver.proofs.CacheLaws.{honest-append, lookup-append, lookup-others, not-found}
+use Rattle.gv_driver.proofs.InputLaws.{left-some}
 use Rattle.gv_driver.proofs.TableLaws.{node-entry}
 use Rattle.gv_driver.proofs.WholeLaws.{same-number}
 
@@ -68,18 +70,27 @@ taken-at xs ys p r o h l is same =
 
 pub can-keep : (tree : List PackageTexts) (before : List Entry) (table : List (Option Node)) → IsTree tree → IsTable tree before table → CanKeep before table
 can-keep tree before table formed is = record {
-  found = is.found;
-  distinct = λ p q n m h g e. same-keys p q n.key m.key (is.key p n h) (is.key q m g) e;
-  right = λ honest p n h. node-entry tree p n ((is.right honest).node p n h);
+  missing = λ p n i h e.
+      let s = key-left p n i h e in
+      subst (λ (k : Input). is_cached before k ≡ false) s.1 s.0;
+  distinct = λ p q n m i h g e f.
+      let a = is.looked p n h in
+      let b = is.looked q m g in
+      same-keys p q a.key b.key a.of b.of ((key-left p n i h e).1 ∙ sym (key-left q m i g f).1);
+  right = λ honest p n i h e.
+      node-entry tree p n i ((is.right honest).node p n h) (subst (λ (k : Input). IsInput tree p k) (key-left p n i h e).1 ((is.looked p n h).input honest));
 }
   where
+    key-left : (p : ℕ) (n : Node) (i : Input) (h : slice_get table p ≡ Some (Some n)) → n.fresh ≡ Some i → (is_cached before (is.looked p n h).key ≡ false) × ((is.looked p n h).key ≡ i)
+    key-left p n i h e = left-some (is_cached before (is.looked p n h).key) (is.looked p n h).key i (sym (is.looked p n h).left ∙ e)
+
     same-keys : (p q : ℕ) (s t : Input) → IsKeyOf tree p s → IsKeyOf tree q t → s ≡ t → p ≡ q
     same-keys p q s t a b e =
         let lists : a.pack.path ∷ a.rest ≡ b.pack.path ∷ b.rest = sym a.texts ∙ (ap (λ (x : Input). x.texts) e ∙ b.texts) in
         same-number tree p q a.pack b.pack formed a.at b.at (ap (λ (l : List (List ℕ)). get_or l 0 []) lists)
 
-wider : (table : List (Option Node)) (p : ℕ) (e : Entry) → (q : ℕ) × (n : Node) × (q < p) × (slice_get table q ≡ Some (Some n)) × (n.key ≡ e.input)
-    → (q : ℕ) × (n : Node) × (q < p + 1) × (slice_get table q ≡ Some (Some n)) × (n.key ≡ e.input)
+wider : (table : List (Option Node)) (p : ℕ) (e : Entry) → (q : ℕ) × (n : Node) × (q < p) × (slice_get table q ≡ Some (Some n)) × (n.fresh ≡ Some e.input)
+    → (q : ℕ) × (n : Node) × (q < p + 1) × (slice_get table q ≡ Some (Some n)) × (n.fresh ≡ Some e.input)
 wider table p t (q, n, l, e, i) = (q, n, (omega arith), e, i)
 
 pub keeping-first : (before : List Entry) (table : List (Option Node)) → Keeping before table 0 before
@@ -95,23 +106,16 @@ pub keeping-none : (before : List Entry) (table : List (Option Node)) (p : ℕ) 
 keeping-none before table p now at is = record {
   added = is.added;
   is = is.is;
-  rest = ap (λ l. map input_of is.added ++ missing_of before (keys_in l)) (sym (drop-at table p None at)) ∙ is.rest;
+  rest = ap (λ l. map input_of is.added ++ fresh_inputs l) (sym (drop-at table p None at)) ∙ is.rest;
   each = λ e c. wider table p e (is.each e c);
   right = is.right;
 }
 
-skip-head : (b : Bool) (t : Input) (ts : List Input) → b ≡ true → (if b then ts else (t ∷ ts)) ≡ ts
-skip-head b t ts e = rw e refl
-
-put-head : (b : Bool) (t : Input) (ts : List Input) → b ≡ false → (if b then ts else (t ∷ ts)) ≡ t ∷ ts
-put-head b t ts e = rw e refl
-
-keeping-found : (before : List Entry) (table : List (Option Node)) (p : ℕ) (n : Node) (now : List Entry) → slice_get table p ≡ Some (Some n) → is_cached before n.key ≡ true
+keeping-found : (before : List Entry) (table : List (Option Node)) (p : ℕ) (n : Node) (now : List Entry) → slice_get table p ≡ Some (Some n) → n.fresh ≡ None
     → Keeping before table p now → Keeping before table (p + 1) now
 keeping-found before table p n now at found is =
-    let e : missing_of before (keys_in (drop p table)) ≡ missing_of before (keys_in (drop (p + 1) table)) =
-    ap (λ l. missing_of before (keys_in l)) (drop-at table p (Some n) at)
-    ∙ skip-head (is_cached before n.key) n.key (missing_of before (keys_in (drop (p + 1) table))) found in
+    let left = fresh_inputs (drop (p + 1) table) in
+    let e : fresh_inputs (drop p table) ≡ left = ap fresh_inputs (drop-at table p (Some n) at) ∙ ap (λ (o : Option Input). with_fresh o left) found in
     record {
       added = is.added;
       is = is.is;
@@ -120,66 +124,67 @@ keeping-found before table p n now at found is =
       right = is.right;
     }
 
-keeping-put : (before : List Entry) (table : List (Option Node)) (p : ℕ) (n : Node) (now later : List Entry) → CanKeep before table → slice_get table p ≡ Some (Some n) → is_cached before n.key ≡ false
-    → later ≡ now ++ entry_of n ∷ [] → Keeping before table p now → Keeping before table (p + 1) later
-keeping-put before table p n now later can at missing put is =
-    let x : Entry = entry_of n in
-    let left = missing_of before (keys_in (drop (p + 1) table)) in
-    let e : missing_of before (keys_in (drop p table)) ≡ n.key ∷ left =
-    ap (λ l. missing_of before (keys_in l)) (drop-at table p (Some n) at) ∙ put-head (is_cached before n.key) n.key left missing in
+keeping-put : (before : List Entry) (table : List (Option Node)) (p : ℕ) (n : Node) (i : Input) (now later : List Entry) → CanKeep before table → slice_get table p ≡ Some (Some n) → n.fresh ≡ Some i
+    → later ≡ now ++ entry_of i n.answer ∷ [] → Keeping before table p now → Keeping before table (p + 1) later
+keeping-put before table p n i now later can at fresh put is =
+    let x : Entry = entry_of i n.answer in
+    let left = fresh_inputs (drop (p + 1) table) in
+    let e : fresh_inputs (drop p table) ≡ i ∷ left = ap fresh_inputs (drop-at table p (Some n) at) ∙ ap (λ (o : Option Input). with_fresh o left) fresh in
     record {
       added = is.added ++ x ∷ [];
       is = put ∙ (ap (λ l. l ++ x ∷ []) is.is ∙ append_assoc before is.added (x ∷ []));
       rest = ap (λ l. l ++ left) (map-append input_of is.added (x ∷ []))
-          ∙ (append_assoc (map input_of is.added) (n.key ∷ []) left ∙ (ap (λ l. map input_of is.added ++ l) (sym e) ∙ is.rest));
+          ∙ (append_assoc (map input_of is.added) (i ∷ []) left ∙ (ap (λ l. map input_of is.added ++ l) (sym e) ∙ is.rest));
       each = λ y c. elim (Contains-push_cases is.added x y c) [
         | inl old ↦ wider table p y (is.each y old)
-        | inr new ↦ (p, n, (omega arith), at, ap input_of new)
+        | inr new ↦ (p, n, (omega arith), at, fresh ∙ ap (λ (z : Entry). Some z.input) new)
       ];
-      right = λ honest. honest-append is.added (x ∷ []) (is.right honest) (can.right honest p n at, tt);
+      right = λ honest. honest-append is.added (x ∷ []) (is.right honest) (can.right honest p n i at fresh, tt);
     }
 
-kept-case : (before : List Entry) (table : List (Option Node)) (p : ℕ) (n : Node) (now next : List Entry) (b : Bool) → CanKeep before table → slice_get table p ≡ Some (Some n) → n.found ≡ b
-    → next ≡ (if b then now else (now ++ entry_of n ∷ [])) → Keeping before table p now → Keeping before table (p + 1) next
-kept-case before table p n now next true can at f is keeping =
-    subst (λ (l : List Entry). Keeping before table (p + 1) l) (sym is) (keeping-found before table p n now at (sym (can.found p n at) ∙ f) keeping)
-kept-case before table p n now next false can at f is keeping =
-    keeping-put before table p n now next can at (sym (can.found p n at) ∙ f) is keeping
+kept-case : (before : List Entry) (table : List (Option Node)) (p : ℕ) (n : Node) (now next : List Entry) (o : Option Input) → CanKeep before table → slice_get table p ≡ Some (Some n) → n.fresh ≡ o
+    → next ≡ kept_of now n.answer o → Keeping before table p now → Keeping before table (p + 1) next
+kept-case before table p n now next None can at f is keeping =
+    subst (λ (l : List Entry). Keeping before table (p + 1) l) (sym is) (keeping-found before table p n now at f keeping)
+kept-case before table p n now next (Some i) can at f is keeping = keeping-put before table p n i now next can at f is keeping
 
 -- a node is kept
 pub keeping-kept : (before : List Entry) (table : List (Option Node)) (p : ℕ) (n : Node) (now next : List Entry) → CanKeep before table → slice_get table p ≡ Some (Some n)
     → next ≡ kept now n → Keeping before table p now → Keeping before table (p + 1) next
-keeping-kept before table p n now next can at is keeping = kept-case before table p n now next n.found can at refl is keeping
+keeping-kept before table p n now next can at is keeping = kept-case before table p n now next n.fresh can at refl is keeping
 
--- a node that wasn't found is new
-pub keeping-new : (before : List Entry) (table : List (Option Node)) (p : ℕ) (n : Node) (now : List Entry) → CanKeep before table → slice_get table p ≡ Some (Some n)
-    → Keeping before table p now → n.found ≡ false → lookup now n.key ≡ None
-keeping-new before table p n now can at is f =
-    let missing : is_cached before n.key ≡ false = sym (can.found p n at) ∙ f in
-    let others : (e : Entry) → Contains is.added e → e.input ≡ n.key → ⊥ = λ e c s.
+-- the input of an executed load has no entry yet
+pub keeping-new : (before : List Entry) (table : List (Option Node)) (p : ℕ) (n : Node) (i : Input) (now : List Entry) → CanKeep before table → slice_get table p ≡ Some (Some n)
+    → Keeping before table p now → n.fresh ≡ Some i → lookup now i ≡ None
+keeping-new before table p n i now can at is f =
+    let missing : is_cached before i ≡ false = can.missing p n i at f in
+    let others : (e : Entry) → Contains is.added e → e.input ≡ i → ⊥ = λ e c s.
     let h = is.each e c in
-    let same : h.0 ≡ p = can.distinct h.0 p h.1 n h.3 at (h.4 ∙ s) in
+    let same : h.0 ≡ p = can.distinct h.0 p h.1 n i h.3 at (h.4 ∙ ap (λ (k : Input). Some k) s) f in
     let less : h.0 < p = h.2 in absurd (omega (arith, same, less)) in
-    rw is.is (lookup-append before is.added n.key (not-found (lookup before n.key) missing) (lookup-others is.added n.key others))
+    rw is.is (lookup-append before is.added i (not-found (lookup before i) missing) (lookup-others is.added i others))
 
-pub keeping-part : (before : List Entry) (table : List (Option Node)) (p : ℕ) (now : List Entry) → IsHonest before → Keeping before table p now → IsPartKept before now (keys_in table)
-keeping-part before table p now honest is = record {
+-- what is left to keep is what is left of the missing inputs
+pub keeping-part : (before : List Entry) (table : List (Option Node)) (p : ℕ) (now : List Entry) (inputs : List (Option Input)) → IsHonest before → fresh_inputs table ≡ missing_of before inputs
+    → Keeping before table p now → IsPartKept before (trimmed now) inputs
+keeping-part before table p now inputs honest same is = record {
   added = is.added;
-  more = missing_of before (keys_in (drop p table));
-  is = is.is;
-  part = is.rest;
+  more = fresh_inputs (drop p table);
+  is = ap (λ (l : List Entry). trimmed l) is.is;
+  part = is.rest ∙ same;
   right = is.right honest;
 }
 
-pub keeping-whole : (before : List Entry) (table : List (Option Node)) (now : List Entry) → IsHonest before → Keeping before table (length table) now → IsCacheAfter before now (keys_in table)
-keeping-whole before table now honest is =
-    let none : missing_of before (keys_in (drop (length table) table)) ≡ [] = ap (λ l. missing_of before (keys_in l)) (nothing-left table) in
+pub keeping-whole : (before : List Entry) (table : List (Option Node)) (now : List Entry) (inputs : List (Option Input)) → IsHonest before → fresh_inputs table ≡ missing_of before inputs
+    → Keeping before table (length table) now → IsCacheAfter before (trimmed now) inputs
+keeping-whole before table now inputs honest same is =
+    let none : fresh_inputs (drop (length table) table) ≡ [] = ap fresh_inputs (nothing-left table) in
     record {
       added = is.added;
-      is = is.is;
-      whole = sym (append-none (map input_of is.added)) ∙ (ap (λ l. map input_of is.added ++ l) (sym none) ∙ is.rest);
+      is = ap (λ (l : List Entry). trimmed l) is.is;
+      whole = sym (append-none (map input_of is.added)) ∙ (ap (λ l. map input_of is.added ++ l) (sym none) ∙ (is.rest ∙ same));
       right = is.right honest;
     }
 
 pub keeping-honest : (before : List Entry) (table : List (Option Node)) (p : ℕ) (now : List Entry) → Keeping before table p now → IsHonest before → IsHonest now
-keeping-honest before table p now is honest = rw is.is (honest-append before is.added honest (is.right honest))
+keeping-honest before table p now is honest = subst IsHonest (sym is.is) (honest-append before is.added honest (is.right honest))

@@ -4,6 +4,7 @@ mod CacheLaws
 mod TableLaws
 mod StepLaws
 mod OrderLaws
+mod InputLaws
 mod KeepLaws
 mod ReportLaws
 pub mod RunLaws

@@ -8,6 +8,7 @@ use Rattle.action_graph.specs.Judging.Judged.{Accepts, Refuses}
 use Rattle.action_graph.proofs.JudgingLaws.{outcome_of_once}
 use Rattle.fact_cache.specs.declared.texts.Input.{Input}
 use Rattle.fact_cache.specs.declared.list.Entry.{Entry}
+use Rattle.fact_cache.specs.Caches.{is_within, trimmed}
 use Rattle.gv_driver.specs.declared.tree.PackageTexts.{PackageTexts}
 use Rattle.gv_driver.specs.declared.reply.Verdict.{Verdict}
 use Rattle.gv_driver.specs.declared.reply.Verdict.TheVariants as verdict
@@ -16,7 +17,7 @@ use Rattle.gv_driver.specs.Whole.Checked.{checked}
 use Rattle.gv_driver.specs.Caches.{IsHonest, IsCacheAfter, input_of}
 use Rattle.gv_driver.specs.Reports.{HasVerdict, IsReport}
 use Rattle.gv_driver.proofs.Places.{element, same-list, at-contained}
-use Rattle.gv_driver.proofs.CacheLaws.{honest-append}
+use Rattle.gv_driver.proofs.CacheLaws.{honest-append, honest_trimmed, trimmed_is_within}
 use Rattle.gv_driver.proofs.WholeLaws.{same_pack, unique}
 
 -- what a finding tells of the package
@@ -108,7 +109,10 @@ entries-once (x ∷ xs) (y ∷ ys) h g e =
 -- a run leaves one cache
 pub cache-once : (before a b : List Entry) (inputs : List (Option Input)) → IsCacheAfter before a inputs → IsCacheAfter before b inputs → a ≡ b
 cache-once before a b inputs one two =
-    one.is ∙ (ap (λ (l : List Entry). before ++ l) (entries-once one.added two.added one.right two.right (one.whole ∙ sym two.whole)) ∙ sym two.is)
+    one.is ∙ (ap (λ (l : List Entry). trimmed (before ++ l)) (entries-once one.added two.added one.right two.right (one.whole ∙ sym two.whole)) ∙ sym two.is)
 
 pub honest-after : (before after : List Entry) (inputs : List (Option Input)) → IsHonest before → IsCacheAfter before after inputs → IsHonest after
-honest-after before after inputs h is = rw is.is (honest-append before is.added h is.right)
+honest-after before after inputs h is = subst IsHonest (sym is.is) (honest_trimmed (before ++ is.added) (honest-append before is.added h is.right))
+
+pub within-after : (before after : List Entry) (inputs : List (Option Input)) → IsCacheAfter before after inputs → is_within after ≡ true
+within-after before after inputs is = ap (λ (l : List Entry). is_within l) is.is ∙ trimmed_is_within (before ++ is.added)

@@ -1,9 +1,9 @@
 -- A ready package's load is performed.
-use Rattle.std.proofs.Common.{◌≡◌, ℕ, ◌+◌, Some, List, Option, slice_get, set, get_or, map, sym, ap, ◌∙◌, subst}
+use Rattle.std.proofs.Common.{◌≡◌, ℕ, ◌+◌, Some, None, refl, if◌then◌else◌, List, [], ◌∷◌, ◌++◌, Option, slice_get, set, get_or, map, append_assoc, sym, ap, ◌∙◌, subst}
 use Rattle.std.proofs.lemmas.Option.{slice_get_within, slice_get-get_or}
 use Rattle.action_graph.specs.declared.kit.LoadInput.{LoadInput}
 use Rattle.action_graph.specs.Judging.{IsLawful, IsOutcome}
-use Rattle.action_graph.specs.Nodes.{Named, load_texts}
+use Rattle.action_graph.specs.Nodes.{Named, load_texts, pairs}
 use Rattle.action_graph.proofs.NodeLemmas.{one_load}
 use Rattle.fact_cache.specs.declared.texts.Input.{Input}
 use Rattle.fact_cache.specs.declared.list.Entry.{Entry}
@@ -12,7 +12,7 @@ use Rattle.gv_driver.specs.declared.tree.PackageTexts.{PackageTexts}
 use Rattle.gv_driver.specs.declared.node.Node.{Node}
 use Rattle.gv_driver.specs.Trees.{IsTree}
 use Rattle.gv_driver.specs.Loads.{IsLoadOf, load_input}
-use Rattle.gv_driver.specs.Caches.{IsHonest, is_cached}
+use Rattle.gv_driver.specs.Caches.{IsHonest, is_found, left_of}
 use Rattle.gv_driver.specs.Tables.{answer_text, answer_in, cost, load_from, pair_at, IsKeyOf, IsTable, IsReady}
 use Rattle.gv_driver.specs.Runs.{Performs}
 use Rattle.gv_driver.proofs.CacheLaws.{honest-lookup}
@@ -24,19 +24,54 @@ pack-at tree table p pack ready is = slice_get-get_or tree p pack (slice_get_wit
 
 pub performs-from : (tree : List PackageTexts) (before : List Entry) (table next : List (Option Node)) (p : ℕ) (pack : PackageTexts) (load : LoadInput) (node : Node) (count now : ℕ)
     → IsTree tree → IsTable tree before table → IsReady tree table p → slice_get tree p ≡ Some pack → load ≡ load_from tree table pack
-    → node.key ≡ load_input load → node.found ≡ is_cached before (load_input load) → now ≡ count + cost node.found
+    → node.fresh ≡ left_of before (load_input load) → now ≡ count + cost node.fresh
     → (IsHonest before → IsLawful load → IsOutcome load (answer_text node.answer)) → next ≡ set table p (Some node) → Performs tree before p table next count now
-performs-from tree before table next p pack load node count now formed is ready at made key found counts right put = record {
+performs-from tree before table next p pack load node count now formed is ready at made left counts right put = record {
   node = node;
   is = put;
-  key = subst (λ (k : Input). IsKeyOf tree p k) (sym (key ∙ ap load_input made)) (load-key tree table p pack at);
-  found = found ∙ ap (λ (k : Input). is_cached before k) (sym key);
+  looked = record {
+    key = load_input load;
+    of = subst (λ (k : Input). IsKeyOf tree p k) (sym (ap load_input made)) (load-key tree table p pack at);
+    left = left;
+    input = λ honest. record { load = load; of = load-of honest; is = refl };
+  };
   counts = counts;
   right = λ honest.
-      let of : IsLoadOf tree p load = subst (λ (l : LoadInput). IsLoadOf tree p l) (sym made) (ready-load tree table p pack (is.right honest) at ready) in
-      let lawful = load-lawful tree p load formed of in
-      record { load = load; of = of; key = key; lawful = lawful; outcome = right honest lawful };
+      let lawful = load-lawful tree p load formed (load-of honest) in
+      record { load = load; of = load-of honest; lawful = lawful; outcome = right honest lawful };
 }
+  where
+    load-of : IsHonest before → IsLoadOf tree p load
+    load-of honest = subst (λ (l : LoadInput). IsLoadOf tree p l) (sym made) (ready-load tree table p pack (is.right honest) at ready)
+
+left-by : (x : Option (List ℕ)) (i : Input) (o : List ℕ) → x ≡ Some o → None ≡ (if is_found x then None else Some i)
+left-by None i o e = cc
+left-by (Some y) i o e = refl
+
+missing-by : (x : Option (List ℕ)) (i key : Input) → x ≡ None → key ≡ i → Some key ≡ (if is_found x then None else Some i)
+missing-by None i key e same = ap (λ (k : Input). Some k) same
+missing-by (Some y) i key e same = cc
+
+-- a load of which the cache has an outcome isn't fresh
+pub left-found : (cache : List Entry) (i : Input) (o : List ℕ) → lookup cache i ≡ Some o → None ≡ left_of cache i
+left-found cache i o e = left-by (lookup cache i) i o e
+
+-- and another is
+pub left-missing : (cache : List Entry) (i key : Input) → lookup cache i ≡ None → key ≡ i → Some key ≡ left_of cache i
+left-missing cache i key e same = missing-by (lookup cache i) i key e same
+
+-- the texts of a load's parts, as they are pushed
+pub parts-from : (tree : List PackageTexts) (table : List (Option Node)) (pack : PackageTexts) (one two three four : List (List ℕ)) (path : List ℕ) (files : List Named) (imports : List ℕ)
+    → path ≡ pack.path → files ≡ pack.files → imports ≡ pack.imports
+    → one ≡ path ∷ [] → two ≡ one ++ pairs files → three ≡ two ++ [] ∷ [] → four ≡ three ++ pairs (map (pair_at tree table) imports)
+    → four ≡ load_texts (load_from tree table pack)
+parts-from tree table pack one two three four path files imports p f i a b c d =
+    let env : List (List ℕ) = pairs (map (pair_at tree table) imports) in
+    d ∙ (ap (λ (l : List (List ℕ)). l ++ env) (c ∙ ap (λ (l : List (List ℕ)). l ++ [] ∷ []) (b ∙ ap (λ (l : List (List ℕ)). l ++ pairs files) a))
+    ∙ (ap (λ (l : List (List ℕ)). path ∷ l) (append_assoc (pairs files) ([] ∷ []) env)
+    ∙ (ap (λ (x : List ℕ). x ∷ (pairs files ++ [] ∷ env)) p
+    ∙ (ap (λ (x : List Named). pack.path ∷ (pairs x ++ [] ∷ env)) f
+    ∙ ap (λ (x : List ℕ). pack.path ∷ (pairs pack.files ++ [] ∷ pairs (map (pair_at tree table) x))) i))))
 
 same-outcome : (load : LoadInput) (text other : List ℕ) → text ≡ other → IsOutcome load text → IsOutcome load other
 same-outcome load text other e is = subst (λ (t : List ℕ). IsOutcome load t) e is
@@ -48,14 +83,6 @@ found-right cache load text honest lawful e =
     let same : r.load ≡ load = one_load r.load load r.lawful.source.named lawful.source.named (sym r.is) in
     let out : IsOutcome load text = subst (λ (l : LoadInput). IsOutcome l text) same r.outcome in
     same-outcome load text (answer_text (answer_in text)) (sym (read-again out.judged text out.tells)) out
-
--- the texts of a load's parts
-pub texts-from : (tree : List PackageTexts) (table : List (Option Node)) (pack : PackageTexts) (texts : List (List ℕ)) (path : List ℕ) (files env : List Named)
-    → path ≡ pack.path → files ≡ pack.files → env ≡ map (pair_at tree table) pack.imports → texts ≡ load_texts (record { path = path; files = files; env = env }) → texts ≡ load_texts (load_from tree table pack)
-texts-from tree table pack texts path files env p f e is =
-    is ∙ (ap (λ (x : List ℕ). load_texts (record { path = x; files = files; env = env })) p
-    ∙ (ap (λ (x : List Named). load_texts (record { path = pack.path; files = x; env = env })) f
-    ∙ ap (λ (x : List Named). load_texts (record { path = pack.path; files = pack.files; env = x })) e))
 
 -- what comes of an input that was made of the table
 pub outcome-from : (load from : LoadInput) (text answer : List ℕ) → load ≡ from → answer ≡ text → (IsLawful load → IsOutcome load text) → IsLawful from → IsOutcome from answer

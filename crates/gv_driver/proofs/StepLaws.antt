@@ -10,30 +10,19 @@ use Rattle.fact_cache.specs.declared.list.Entry.{Entry}
 use Rattle.gv_driver.specs.declared.tree.PackageTexts.{PackageTexts}
 use Rattle.gv_driver.specs.declared.node.Node.{Node}
 use Rattle.gv_driver.specs.Trees.{Imports}
-use Rattle.gv_driver.specs.Caches.{IsHonest, missing_of, is_cached}
-use Rattle.gv_driver.specs.Tables.{accepted_in, IsGood, IsRightNode, AreRight, IsKeyOf, IsTable, IsReady, keys_in, executed, cost, waiting, weight, done_in, fresh_in}
-use Rattle.gv_driver.specs.Runs.{Performs, Goes, some_in}
+use Rattle.gv_driver.specs.Caches.{IsHonest}
+use Rattle.gv_driver.specs.Tables.{accepted_in, IsGood, IsRightNode, AreRight, IsLookedUp, IsTable, IsReady, executed, cost, waiting, weight, fresh_in}
+use Rattle.gv_driver.specs.Runs.{Performs, Goes}
 use Rattle.gv_driver.proofs.Places.{get-set_cases, get-set_other}
 use Rattle.gv_driver.proofs.WholeLaws.{same_pack}
 
-head-new : (b : Bool) (t : Input) (ts : List Input) → length (if b then ts else (t ∷ ts)) ≡ length ts + cost b
-head-new true t ts = omega arith
-head-new false t ts = omega arith
-
-head-old : (b : Bool) (t : Input) (ts us : List Input) (n : ℕ) → length us ≡ length ts + n
-    → length (if b then us else (t ∷ us)) ≡ length (if b then ts else (t ∷ ts)) + n
-head-old true t ts us n h = h
-head-old false t ts us n h = let e : length (t ∷ us) ≡ suc (length us) = refl in let f : length (t ∷ ts) ≡ suc (length ts) = refl in omega arith
-
-executed-set : (before : List Entry) (table : List (Option Node)) (p : ℕ) (n : Node) → slice_get table p ≡ Some None
-    → executed before (set table p (Some n)) ≡ executed before table + cost (is_cached before n.key)
-executed-set before [] p n h = cc
-executed-set before (None ∷ xs) zero n h = head-new (is_cached before n.key) n.key (missing_of before (keys_in xs))
-executed-set before (Some m ∷ xs) zero n h = cc
-executed-set before (None ∷ xs) (suc p) n h = executed-set before xs p n h
-executed-set before (Some m ∷ xs) (suc p) n h =
-    head-old (is_cached before m.key) m.key (missing_of before (keys_in xs)) (missing_of before (keys_in (set xs p (Some n)))) (cost (is_cached before n.key))
-    (executed-set before xs p n h)
+executed-set : (table : List (Option Node)) (p : ℕ) (n : Node) → slice_get table p ≡ Some None → executed (set table p (Some n)) ≡ executed table + cost n.fresh
+executed-set table p n h =
+    let within : p < length table = slice_get_within table p None h in
+    let e : get_or table p None ≡ None = get_or_from_slice_get table p None None h in
+    let f : fresh_in (get_or table p None) ≡ 0 = ap fresh_in e in
+    let s : executed (set table p (Some n)) + fresh_in (get_or table p None) ≡ executed table + cost n.fresh = sum_by-set fresh_in table p (Some n) None within in
+    omega (arith, f, s)
 
 waiting-set : (table : List (Option Node)) (p : ℕ) (n : Node) → slice_get table p ≡ Some None → waiting (set table p (Some n)) + 1 ≡ waiting table
 waiting-set table p n h =
@@ -43,9 +32,9 @@ waiting-set table p n h =
     let s : waiting (set table p (Some n)) + weight (get_or table p None) ≡ waiting table + 0 = sum_by-set weight table p (Some n) None within in
     omega (arith, f, s)
 
-pub cost-le : (b : Bool) → cost b ≤ 1
-cost-le true = omega arith
-cost-le false = omega arith
+pub cost-le : (o : Option Input) → cost o ≤ 1
+cost-le None = omega arith
+cost-le (Some i) = omega arith
 
 -- what is accepted isn't waiting
 good-other : (table : List (Option Node)) (p q : ℕ) → slice_get table p ≡ Some None → IsGood table q → q ≡ p → ⊥
@@ -68,20 +57,16 @@ right-set tree table p n is right = record {
 }
 
 table-set : (tree : List PackageTexts) (before : List Entry) (table : List (Option Node)) (p : ℕ) (n : Node) → IsTable tree before table → IsReady tree table p
-    → IsKeyOf tree p n.key → n.found ≡ is_cached before n.key → (IsHonest before → IsRightNode tree p n) → IsTable tree before (set table p (Some n))
-table-set tree before table p n is ready key found right = record {
+    → IsLookedUp tree before p n.fresh → (IsHonest before → IsRightNode tree p n) → IsTable tree before (set table p (Some n))
+table-set tree before table p n is ready looked right = record {
   size = length-set table p (Some n) ∙ is.size;
   closed = λ q r m h import. good-kept table p r n ready.waits (elim (get-set_cases table p q (Some n) (Some m) h) [
     | inl e ↦ ready.accepted r (imports-in tree p r ready.pack ready.at (subst (λ (x : ℕ). Imports tree x r) e.0 import))
     | inr was ↦ is.closed q r m was import
   ]);
-  key = λ q m h. elim (get-set_cases table p q (Some n) (Some m) h) [
-    | inl e ↦ subst (λ (x : ℕ). IsKeyOf tree x m.key) (sym e.0) (subst (λ (x : Node). IsKeyOf tree p x.key) (same_Some n m e.1) key)
-    | inr was ↦ is.key q m was
-  ];
-  found = λ q m h. elim (get-set_cases table p q (Some n) (Some m) h) [
-    | inl e ↦ subst (λ (x : Node). x.found ≡ is_cached before x.key) (same_Some n m e.1) found
-    | inr was ↦ is.found q m was
+  looked = λ q m h. elim (get-set_cases table p q (Some n) (Some m) h) [
+    | inl e ↦ subst (λ (x : ℕ). IsLookedUp tree before x m.fresh) (sym e.0) (subst (λ (x : Node). IsLookedUp tree before p x.fresh) (same_Some n m e.1) looked)
+    | inr was ↦ is.looked q m was
   ];
   right = λ honest. right-set tree table p n (is.right honest) (right honest);
 }
@@ -95,24 +80,23 @@ pub goes-performs : (tree : List PackageTexts) (before : List Entry) (first tabl
 goes-performs tree before first table next begun count now p goes ready does =
     let waits = ready.waits in
     let node = does.node in
-    let e : executed before (set table p (Some node)) ≡ executed before table + cost (is_cached before node.key) = executed-set before table p node waits in
-    let f : cost node.found ≡ cost (is_cached before node.key) = ap cost does.found in
+    let e : executed (set table p (Some node)) ≡ executed table + cost node.fresh = executed-set table p node waits in
     let w : waiting (set table p (Some node)) + 1 ≡ waiting table = waiting-set table p node waits in
-    let le : cost node.found ≤ 1 = cost-le node.found in
-    let counts : now ≡ count + cost node.found = does.counts in
-    let one : count + executed before first ≡ begun + executed before table = goes.counts in
+    let le : cost node.fresh ≤ 1 = cost-le node.fresh in
+    let counts : now ≡ count + cost node.fresh = does.counts in
+    let one : count + executed first ≡ begun + executed table = goes.counts in
     let two : count + waiting table ≤ begun + waiting first = goes.room in
     rw does.is (record {
-      right = table-set tree before table p node goes.right ready does.key does.found does.right;
-      counts = omega (arith, e, f, counts, one);
+      right = table-set tree before table p node goes.right ready does.looked does.right;
+      counts = omega (arith, e, counts, one);
       room = omega (arith, w, le, counts, two);
     })
 
 pub goes-on : (tree : List PackageTexts) (before : List Entry) (first table next : List (Option Node)) (begun count now : ℕ) → Goes tree before first table begun count → Goes tree before table next count now
     → Goes tree before first next begun now
 goes-on tree before first table next begun count now a b =
-    let one : count + executed before first ≡ begun + executed before table = a.counts in
-    let two : now + executed before table ≡ count + executed before next = b.counts in
+    let one : count + executed first ≡ begun + executed table = a.counts in
+    let two : now + executed table ≡ count + executed next = b.counts in
     let three : count + waiting table ≤ begun + waiting first = a.room in
     let four : now + waiting next ≤ count + waiting table = b.room in
     record { right = b.right; counts = omega (arith, one, two); room = omega (arith, three, four) }
@@ -134,8 +118,7 @@ pub table-none : (tree : List PackageTexts) (before : List Entry) (table : List 
 table-none tree before table e = rw e (record {
   size = length-none (length tree);
   closed = λ p q n h import. absurd (no-node (length tree) p n h);
-  key = λ p n h. absurd (no-node (length tree) p n h);
-  found = λ p n h. absurd (no-node (length tree) p n h);
+  looked = λ p n h. absurd (no-node (length tree) p n h);
   right = λ honest. record { size = length-none (length tree); node = λ p n h. absurd (no-node (length tree) p n h) };
 })
 
@@ -149,41 +132,12 @@ waiting-replicate (suc n) =
 pub waiting-none : (n : ℕ) (table : List (Option Node)) → table ≡ replicate n None → waiting table ≡ n
 waiting-none n table e = ap waiting e ∙ waiting-replicate n
 
-executed-replicate : (before : List Entry) (n : ℕ) → executed before (replicate n None) ≡ 0
-executed-replicate before zero = refl
-executed-replicate before (suc n) = executed-replicate before n
-
-pub executed-none : (before : List Entry) (n : ℕ) (table : List (Option Node)) → table ≡ replicate n None → executed before table ≡ 0
-executed-none before n table e = ap (λ l. executed before l) e ∙ executed-replicate before n
-
-fresh-head : (b c : Bool) (t : Input) (ts : List Input) (n : ℕ) → b ≡ c → n ≡ length ts → cost b + n ≡ length (if c then ts else (t ∷ ts))
-fresh-head true true t ts n e h = omega arith
-fresh-head false false t ts n e h = let l : length (t ∷ ts) ≡ suc (length ts) = refl in omega arith
-fresh-head true false t ts n e h = cc
-fresh-head false true t ts n e h = cc
-
--- the nodes that weren't found are the missing ones
-pub fresh-executed : (before : List Entry) (table : List (Option Node)) → ((p : ℕ) (n : Node) → slice_get table p ≡ Some (Some n) → n.found ≡ is_cached before n.key)
-    → sum_by fresh_in table ≡ executed before table
-fresh-executed before [] f = refl
-fresh-executed before (None ∷ xs) f =
-    let h : sum_by fresh_in xs ≡ executed before xs = fresh-executed before xs (λ p n. f (suc p) n) in
-    let e : sum_by fresh_in (None ∷ xs) ≡ 0 + sum_by fresh_in xs = sum_by-cons fresh_in None xs in
+executed-replicate : (n : ℕ) → executed (replicate n None) ≡ 0
+executed-replicate zero = refl
+executed-replicate (suc n) =
+    let e : executed (None ∷ replicate n None) ≡ 0 + executed (replicate n None) = sum_by-cons fresh_in None (replicate n None) in
+    let h : executed (replicate n None) ≡ 0 = executed-replicate n in
     omega (arith, e, h)
-fresh-executed before (Some n ∷ xs) f =
-    let h = fresh-executed before xs (λ p m. f (suc p) m) in
-    sum_by-cons fresh_in (Some n) xs ∙ fresh-head n.found (is_cached before n.key) n.key (missing_of before (keys_in xs)) (sum_by fresh_in xs) (f 0 n refl) h
 
--- the nodes of the table are its inputs
-pub done-inputs : (table : List (Option Node)) → sum_by done_in table ≡ sum_by some_in (keys_in table)
-done-inputs [] = refl
-done-inputs (None ∷ xs) =
-    let h : sum_by done_in xs ≡ sum_by some_in (keys_in xs) = done-inputs xs in
-    let e : sum_by done_in (None ∷ xs) ≡ 0 + sum_by done_in xs = sum_by-cons done_in None xs in
-    let f : sum_by some_in (None ∷ keys_in xs) ≡ 0 + sum_by some_in (keys_in xs) = sum_by-cons some_in None (keys_in xs) in
-    omega (arith, h, e, f)
-done-inputs (Some n ∷ xs) =
-    let h : sum_by done_in xs ≡ sum_by some_in (keys_in xs) = done-inputs xs in
-    let e : sum_by done_in (Some n ∷ xs) ≡ 1 + sum_by done_in xs = sum_by-cons done_in (Some n) xs in
-    let f : sum_by some_in (Some n.key ∷ keys_in xs) ≡ 1 + sum_by some_in (keys_in xs) = sum_by-cons some_in (Some n.key) (keys_in xs) in
-    omega (arith, h, e, f)
+pub executed-none : (n : ℕ) (table : List (Option Node)) → table ≡ replicate n None → executed table ≡ 0
+executed-none n table e = ap executed e ∙ executed-replicate n

@@ -17,12 +17,12 @@ use Rattle.gv_driver.specs.declared.node.Answer.TheVariants.{Accepted, Refused}
 use Rattle.gv_driver.specs.declared.node.Node.{Node}
 use Rattle.gv_driver.specs.Whole.{Checked}
 use Rattle.gv_driver.specs.Whole.Checked.{checked}
-use Rattle.gv_driver.specs.Loads.{IsExport, IsLoadOf, load_input}
+use Rattle.gv_driver.specs.Loads.{IsExport, IsInput, IsLoadOf, load_input}
 use Rattle.gv_driver.specs.Caches.{IsRight}
 use Rattle.gv_driver.specs.Tables.{answer_text, answer_in, is_good, export_part, accepted_in, IsGood, path_in, export_in, pair_at, load_from, IsRightNode, AreRight, IsKeyOf, IsReady}
 use Rattle.gv_driver.specs.Runs.{entry_of}
 use Rattle.gv_driver.proofs.Places.{element, get-mapped, contains-at, at-contained}
-use Rattle.gv_driver.proofs.WholeLaws.{same_pack, unique, judged-of}
+use Rattle.gv_driver.proofs.WholeLaws.{same_pack, unique, unique-input, judged-of}
 
 -- the answer that is read from an outcome text has that text
 pub read-again : (judged : Judged) (text : List ℕ) → Tells judged text → answer_text (answer_in text) ≡ text
@@ -160,8 +160,7 @@ load-done tree table right none p load is =
     accepted-good tree table right none q ex.face ex.good)
 
 -- the entry of a right node is right
-pub node-entry : (tree : List PackageTexts) (p : ℕ) (n : Node) → IsRightNode tree p n → IsRight (entry_of n)
-node-entry tree p n r = (
-  ap (λ (k : Input). k.node) r.key,
-  record { load = r.load; is = ap (λ (k : Input). k.texts) r.key; lawful = r.lawful; outcome = r.outcome },
-)
+pub node-entry : (tree : List PackageTexts) (p : ℕ) (n : Node) (i : Input) → IsRightNode tree p n → IsInput tree p i → IsRight (entry_of i n.answer)
+node-entry tree p n i r is =
+    let same : i ≡ load_input r.load = unique-input tree p i (load_input r.load) is (record { load = r.load; of = r.of; is = refl }) in
+    (ap (λ (k : Input). k.node) same, record { load = r.load; is = ap (λ (k : Input). k.texts) same; lawful = r.lawful; outcome = r.outcome })

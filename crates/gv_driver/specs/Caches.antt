@@ -2,7 +2,7 @@
 use Rattle.std.specs.Prelude.{◌≡◌, ℕ, Bool, true, false, Option, Some, None, List, [], ◌∷◌, ◌++◌, map, if◌then◌else◌}
 use Rattle.fact_cache.specs.declared.texts.Input.{Input}
 use Rattle.fact_cache.specs.declared.list.Entry.{Entry}
-use Rattle.fact_cache.specs.Caches.{lookup}
+use Rattle.fact_cache.specs.Caches.{lookup, trimmed}
 use Rattle.action_graph.specs.Judging.{IsOutcomeOf}
 
 -- the entry of a load, with what comes of its input
@@ -22,6 +22,10 @@ is_found (Some o) = true
 abbrev pub is_cached : List Entry → Input → Bool
 is_cached cache input = is_found (lookup cache input)
 
+-- the input, but where the cache has an outcome of it
+abbrev pub left_of : List Entry → Input → Option Input
+left_of cache input = if is_cached cache input then None else Some input
+
 -- the inputs, in turn, for which the cache has no outcome
 abbrev pub missing_of : List Entry → List (Option Input) → List Input
 missing_of cache [] = []
@@ -31,17 +35,19 @@ missing_of cache (Some input ∷ more) = if is_cached cache input then missing_o
 abbrev pub input_of : Entry → Input
 input_of e = e.input
 
--- The old entries, and then right ones of exactly the missing inputs, in turn.
+-- The old entries, and then right ones of exactly the missing inputs, in turn; of all these without the oldest, until the
+-- limits of a cache hold.
 pub record IsCacheAfter (before after : List Entry) (inputs : List (Option Input)) : Type 0 where
   pub added : List Entry
-  pub is : after ≡ before ++ added
+  pub is : after ≡ trimmed (before ++ added)
   pub whole : map input_of added ≡ missing_of before inputs
   pub right : IsHonest added
 
--- The old entries, and then right ones of the first of the missing inputs.
+-- The old entries, and then right ones of the first of the missing inputs; of all these without the oldest, until the
+-- limits of a cache hold.
 pub record IsPartKept (before after : List Entry) (inputs : List (Option Input)) : Type 0 where
   pub added : List Entry
   pub more : List Input
-  pub is : after ≡ before ++ added
+  pub is : after ≡ trimmed (before ++ added)
   pub part : map input_of added ++ more ≡ missing_of before inputs
   pub right : IsHonest added

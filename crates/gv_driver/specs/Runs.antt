@@ -1,24 +1,24 @@
 -- How a run goes on, and what it has done at its end.
-use Rattle.std.specs.Prelude.{◌≡◌, ℕ, ◌+◌, ◌≤◌, ◌<◌, Option, Some, None, List, [], ◌∷◌, ◌++◌, map, drop, length, slice_get, slice_set, sum_by, if◌then◌else◌}
+use Rattle.std.specs.Prelude.{◌≡◌, ℕ, ◌+◌, ◌≤◌, ◌<◌, Option, Some, None, List, [], ◌∷◌, ◌++◌, map, drop, length, slice_get, slice_set, sum_by, false}
 use Rattle.std.specs.List.{Contains}
 use Rattle.need_order.specs.declared.needed.Needed.{Needed}
 use Rattle.fact_cache.specs.declared.texts.Input.{Input}
 use Rattle.fact_cache.specs.declared.list.Entry.{Entry}
 use Rattle.gv_driver.specs.declared.tree.PackageTexts.{PackageTexts}
+use Rattle.gv_driver.specs.declared.node.Answer.{Answer}
 use Rattle.gv_driver.specs.declared.node.Node.{Node}
 use Rattle.gv_driver.specs.declared.reply.Judgement.{Judgement}
 use Rattle.gv_driver.specs.Loads.{IsPlan}
 use Rattle.gv_driver.specs.Caches.{IsHonest, IsRight, IsCacheAfter, IsPartKept, missing_of, is_cached, input_of}
-use Rattle.gv_driver.specs.Tables.{IsTable, IsReady, IsKeyOf, IsRightNode, answer_text, cost, waiting, executed, keys_in}
+use Rattle.gv_driver.specs.Tables.{IsTable, IsReady, IsLookedUp, IsRightNode, answer_text, cost, waiting, executed, fresh_inputs}
 use Rattle.gv_driver.specs.Reports.{IsReport}
 
 -- p's node is put into the table
 pub record Performs (tree : List PackageTexts) (before : List Entry) (p : ℕ) (table next : List (Option Node)) (count now : ℕ) : Type 0 where
   pub node : Node
   pub is : next ≡ slice_set table p (Some node)
-  pub key : IsKeyOf tree p node.key
-  pub found : node.found ≡ is_cached before node.key
-  pub counts : now ≡ count + cost node.found
+  pub looked : IsLookedUp tree before p node.fresh
+  pub counts : now ≡ count + cost node.fresh
   pub right : IsHonest before → IsRightNode tree p node
 
 -- p was looked at: its node was put in if it was ready, and nothing else changed.
@@ -33,29 +33,34 @@ ArePassed tree order end table = (k : ℕ) (e : Needed) → k < end → slice_ge
 -- From one table to a later one: the count of loads rose by what the later one took.
 pub record Goes (tree : List PackageTexts) (before : List Entry) (table next : List (Option Node)) (count now : ℕ) : Type 0 where
   pub right : IsTable tree before next
-  pub counts : now + executed before table ≡ count + executed before next
+  pub counts : now + executed table ≡ count + executed next
   pub room : now + waiting next ≤ count + waiting table
 
--- the entry of a node
-abbrev pub entry_of : Node → Entry
-entry_of n = record { input = n.key; outcome = answer_text n.answer }
+-- the entry of an executed load
+abbrev pub entry_of : Input → Answer → Entry
+entry_of input answer = record { input = input; outcome = answer_text answer }
 
--- the entries after a node is kept, if it wasn't found
+abbrev pub kept_of : List Entry → Answer → Option Input → List Entry
+kept_of entries answer None = entries
+kept_of entries answer (Some input) = entries ++ entry_of input answer ∷ []
+
+-- the entries after a node is kept, if its load was executed
 abbrev pub kept : List Entry → Node → List Entry
-kept entries n = if n.found then entries else (entries ++ entry_of n ∷ [])
+kept entries n = kept_of entries n.answer n.fresh
 
--- The nodes of a table can be kept: no two have one input, and over an honest cache their entries are right.
+-- The executed loads of a table can be kept: their inputs have no entry, no two have one input, and over an honest cache
+-- their entries are right.
 pub record CanKeep (before : List Entry) (table : List (Option Node)) : Type 0 where
-  pub found : (p : ℕ) (n : Node) → slice_get table p ≡ Some (Some n) → n.found ≡ is_cached before n.key
-  pub distinct : (p q : ℕ) (n m : Node) → slice_get table p ≡ Some (Some n) → slice_get table q ≡ Some (Some m) → n.key ≡ m.key → p ≡ q
-  pub right : IsHonest before → (p : ℕ) (n : Node) → slice_get table p ≡ Some (Some n) → IsRight (entry_of n)
+  pub missing : (p : ℕ) (n : Node) (i : Input) → slice_get table p ≡ Some (Some n) → n.fresh ≡ Some i → is_cached before i ≡ false
+  pub distinct : (p q : ℕ) (n m : Node) (i : Input) → slice_get table p ≡ Some (Some n) → slice_get table q ≡ Some (Some m) → n.fresh ≡ Some i → m.fresh ≡ Some i → p ≡ q
+  pub right : IsHonest before → (p : ℕ) (n : Node) (i : Input) → slice_get table p ≡ Some (Some n) → n.fresh ≡ Some i → IsRight (entry_of i n.answer)
 
--- These entries were added, and the rest would complete the missing ones.
+-- These entries were added, and the rest would complete those of the executed loads.
 pub record Keeping (before : List Entry) (table : List (Option Node)) (done : ℕ) (now : List Entry) : Type 0 where
   pub added : List Entry
   pub is : now ≡ before ++ added
-  pub rest : map input_of added ++ missing_of before (keys_in (drop done table)) ≡ missing_of before (keys_in table)
-  pub each : (e : Entry) → Contains added e → (q : ℕ) × (n : Node) × (q < done) × (slice_get table q ≡ Some (Some n)) × (n.key ≡ e.input)
+  pub rest : map input_of added ++ fresh_inputs (drop done table) ≡ fresh_inputs table
+  pub each : (e : Entry) → Contains added e → (q : ℕ) × (n : Node) × (q < done) × (slice_get table q ≡ Some (Some n)) × (n.fresh ≡ Some e.input)
   pub right : IsHonest before → IsHonest added
 
 abbrev pub some_in : Option Input → ℕ

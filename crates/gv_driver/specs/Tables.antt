@@ -1,7 +1,6 @@
 -- The table of what is done, and what can be done next.
 use Rattle.std.specs.Prelude.{◌≡◌, ℕ, ◌==◌, Bool, true, false, Option, Some, None, List, [], ◌∷◌, map, drop, length, slice_get, sum_by, if◌then◌else◌}
 use Rattle.std.specs.List.{Contains}
-use Rattle.std.specs.Option.{option_map}
 use Rattle.action_graph.specs.declared.kit.LoadInput.{LoadInput}
 use Rattle.action_graph.specs.Nodes.{Named}
 use Rattle.action_graph.specs.Judging.{IsLawful, IsOutcome, accepted_text, refused_text}
@@ -12,8 +11,8 @@ use Rattle.gv_driver.specs.declared.node.Answer.{Answer}
 use Rattle.gv_driver.specs.declared.node.Answer.TheVariants.{Accepted, Refused}
 use Rattle.gv_driver.specs.declared.node.Node.{Node}
 use Rattle.gv_driver.specs.Trees.{Imports}
-use Rattle.gv_driver.specs.Loads.{IsLoadOf, load_input}
-use Rattle.gv_driver.specs.Caches.{IsHonest, is_cached, missing_of}
+use Rattle.gv_driver.specs.Loads.{IsInput, IsLoadOf, load_input}
+use Rattle.gv_driver.specs.Caches.{IsHonest, left_of}
 
 -- an answer's outcome text
 abbrev pub answer_text : Answer → List ℕ
@@ -70,7 +69,6 @@ load_from tree table pack = record { path = pack.path; files = pack.files; env =
 pub record IsRightNode (tree : List PackageTexts) (p : ℕ) (n : Node) : Type 0 where
   pub load : LoadInput
   pub of : IsLoadOf tree p load
-  pub key : n.key ≡ load_input load
   pub lawful : IsLawful load
   pub outcome : IsOutcome load (answer_text n.answer)
 
@@ -87,12 +85,19 @@ pub record IsKeyOf (tree : List PackageTexts) (p : ℕ) (input : Input) : Type 0
   pub node : input.node ≡ 0
   pub texts : input.texts ≡ pack.path ∷ rest
 
+-- p's load was looked up by an input of p, and is fresh where the cache had no outcome of it. Over an honest cache that input is
+-- what the load reads.
+pub record IsLookedUp (tree : List PackageTexts) (before : List Entry) (p : ℕ) (fresh : Option Input) : Type 0 where
+  pub key : Input
+  pub of : IsKeyOf tree p key
+  pub left : fresh ≡ left_of before key
+  pub input : IsHonest before → IsInput tree p key
+
 -- The table over any cache: what a done package imports is accepted. Over an honest cache its nodes are right.
 pub record IsTable (tree : List PackageTexts) (before : List Entry) (table : List (Option Node)) : Type 0 where
   pub size : length table ≡ length tree
   pub closed : (p q : ℕ) (n : Node) → slice_get table p ≡ Some (Some n) → Imports tree p q → IsGood table q
-  pub key : (p : ℕ) (n : Node) → slice_get table p ≡ Some (Some n) → IsKeyOf tree p n.key
-  pub found : (p : ℕ) (n : Node) → slice_get table p ≡ Some (Some n) → n.found ≡ is_cached before n.key
+  pub looked : (p : ℕ) (n : Node) → slice_get table p ≡ Some (Some n) → IsLookedUp tree before p n.fresh
   pub right : IsHonest before → AreRight tree table
 
 -- each of these is done and accepted
@@ -110,19 +115,21 @@ pub record IsReady (tree : List PackageTexts) (table : List (Option Node)) (p : 
 abbrev pub imports_in : PackageTexts → List ℕ
 imports_in pack = pack.imports
 
-abbrev pub key_in : Node → Input
-key_in n = n.key
+-- an input, if there is one, before these
+abbrev pub with_fresh : Option Input → List Input → List Input
+with_fresh None rest = rest
+with_fresh (Some input) rest = input ∷ rest
 
-abbrev pub keys_in : List (Option Node) → List (Option Input)
-keys_in table = map (option_map key_in) table
+-- the inputs of the loads that were executed, in turn
+abbrev pub fresh_inputs : List (Option Node) → List Input
+fresh_inputs [] = []
+fresh_inputs (None ∷ more) = fresh_inputs more
+fresh_inputs (Some n ∷ more) = with_fresh n.fresh (fresh_inputs more)
 
--- how many loads the nodes of the table took
-abbrev pub executed : List Entry → List (Option Node) → ℕ
-executed before table = length (missing_of before (keys_in table))
-
-abbrev pub cost : Bool → ℕ
-cost true = 0
-cost false = 1
+-- how many loads a node took
+abbrev pub cost : Option Input → ℕ
+cost None = 0
+cost (Some input) = 1
 
 abbrev pub weight : Option Node → ℕ
 weight None = 1
@@ -138,4 +145,8 @@ done_in (Some n) = 1
 
 abbrev pub fresh_in : Option Node → ℕ
 fresh_in None = 0
-fresh_in (Some n) = cost n.found
+fresh_in (Some n) = cost n.fresh
+
+-- how many loads the nodes of the table took
+abbrev pub executed : List (Option Node) → ℕ
+executed table = sum_by fresh_in table

@@ -1,16 +1,26 @@
 //! How much work a run had.
 ghost use Rattle.std.specs.Prelude.{◌≡◌, ◌<◌, ◌≤◌, ◌^◌, length, sum_by, if◌then◌else◌};
-ghost use Rattle.gv_driver.specs.Tables.{done_in, fresh_in};
+ghost use Rattle.gv_driver.specs.Tables.{cost, done_in, fresh_in};
 
 use crate::node::Node;
 use analysis_core::Counts;
+use fact_cache::Input;
+
+fn is_some(fresh: &Option<Input>) -> bool
+    ensures { (if result then 1 else 0) ≡ cost fresh.now }
+{
+    match fresh {
+        None => false,
+        Some(_) => true,
+    }
+}
 
 fn is_fresh(node: &Option<Node>) -> bool
     ensures { (if result then 1 else 0) ≡ fresh_in node.now }
 {
     match node {
         None => false,
-        Some(node) => !node.found,
+        Some(node) => is_some(&node.fresh),
     }
 }
 

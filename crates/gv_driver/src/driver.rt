@@ -1,5 +1,6 @@
 //! Runs over a tree.
-ghost use Rattle.std.specs.Prelude.{◌≡◌, ◌<◌, ◌≤◌, ◌+◌, ◌^◌, ℕ, None, Some, IfOk, OnErr, length, replicate, slice_get, sum_by};
+ghost use Rattle.std.specs.Prelude.{◌≡◌, ◌<◌, ◌≤◌, ◌+◌, ◌^◌, ℕ, true, None, Some, IfOk, OnErr, length, replicate, slice_get, sum_by};
+ghost use Rattle.fact_cache.specs.Caches.{is_within, trimmed};
 ghost use Rattle.gv_driver.specs.Trees.{IsTree};
 ghost use Rattle.gv_driver.specs.Caches.{IsHonest};
 ghost use Rattle.gv_driver.specs.Runs.{IsCutOff, Ran};
@@ -28,7 +29,37 @@ fn none_done(alloc: Global, count: usize) -> Result<Vec<Option<Node>>, NoMemory>
     Ok(table)
 }
 
+/// What comes of a tree. No entry is dropped; the clauses say what holds once the oldest are.
 fn run_with<K: Kit>(
+    alloc: Global,
+    tree: &[PackageTexts],
+    cache: &mut Cache,
+    kit: &mut K,
+) -> Result<Judgement, NoMemory>
+    requires tree { IsTree tree.now }
+    requires few { length tree.now < 2 ^ 32 }
+    requires room { K.loads kit.old ≤ 2 ^ 62 }
+    ensures bound { K.loads kit.new ≤ K.loads kit.old + length tree.now }
+    ensures runs { K.runs kit.new ≡ K.runs kit.old }
+    ensures stand { IfOk result (λ reply. AreVerdictsIn tree.now reply.verdicts) }
+    ensures ran { IsHonest cache.old → IfOk result (λ reply. Ran tree.now cache.old (trimmed cache.new) (K.loads kit.old) (K.loads kit.new) reply) }
+    ensures cut_off { IsHonest cache.old → OnErr result (IsCutOff tree.now cache.old (trimmed cache.new) (K.loads kit.old) (K.loads kit.new)) }
+    ensures honest { IsHonest cache.old → IsHonest cache.new }
+{
+    let mut table = none_done(alloc, tree.len())?;
+    run_loads(alloc, tree, cache, kit, &mut table)?;
+    let list = verdicts(alloc, tree, &table)?;
+    let counts = counts(&table);
+    keep(alloc, cache, table)?;
+    Ok(Judgement {
+        verdicts: Row::new(list),
+        counts,
+    })
+}
+
+/// The same, and then the oldest entries are dropped until the limits hold, also where memory was wanting.
+#[tactic(auto, using(crate::proofs::CacheLaws::honest_trimmed, crate::proofs::CacheLaws::trimmed_is_within))]
+fn run_within<K: Kit>(
     alloc: Global,
     tree: &[PackageTexts],
     cache: &mut Cache,
@@ -43,22 +74,18 @@ fn run_with<K: Kit>(
     ensures ran { IsHonest cache.old → IfOk result (λ reply. Ran tree.now cache.old cache.new (K.loads kit.old) (K.loads kit.new) reply) }
     ensures cut_off { IsHonest cache.old → OnErr result (IsCutOff tree.now cache.old cache.new (K.loads kit.old) (K.loads kit.new)) }
     ensures honest { IsHonest cache.old → IsHonest cache.new }
+    ensures within { is_within cache.new ≡ true }
 {
-    let mut table = none_done(alloc, tree.len())?;
-    run_loads(alloc, tree, cache, kit, &mut table)?;
-    let list = verdicts(alloc, tree, &table)?;
-    let counts = counts(&table);
-    keep(alloc, cache, table)?;
-    Ok(Judgement {
-        verdicts: Row::new(list),
-        counts,
-    })
+    let reply = run_with(alloc, tree, cache, kit);
+    cache.trim();
+    reply
 }
 
 /// Judges a tree with the first of the kits, and with what the cache has; what was executed is kept. It returns
 /// over any cache, after at most as many loads as there are packages, with a verdict for each package whose marks
 /// stand in the package's files. Where the cache is honest, the verdicts are
-/// those of the sources, exactly the missing loads are executed, and their entries stand behind the old ones.
+/// those of the sources, exactly the missing loads are executed, and their entries stand behind the old ones. However it
+/// ends, the oldest entries are then dropped until the cache's limits hold.
 pub fn run<K: Kit>(
     alloc: Global,
     tree: &[PackageTexts],
@@ -75,7 +102,8 @@ pub fn run<K: Kit>(
     ensures ran { IsHonest cache.old → IfOk result (λ reply. Ran tree.now cache.old cache.new (sum_by K.loads kits.old) (sum_by K.loads kits.new) reply) }
     ensures cut_off { IsHonest cache.old → OnErr result (IsCutOff tree.now cache.old cache.new (sum_by K.loads kits.old) (sum_by K.loads kits.new)) }
     ensures honest { IsHonest cache.old → IsHonest cache.new }
+    ensures within { is_within cache.new ≡ true }
 {
-    let reply = run_with(alloc, tree, cache, &mut kits[0])?;
+    let reply = run_within(alloc, tree, cache, &mut kits[0])?;
     Ok(reply)
 }

@@ -1,13 +1,12 @@
 //! What a load reads.
-ghost use Rattle.std.specs.Prelude.{◌≡◌, IfOk, map, slice_get};
-ghost use Rattle.action_graph.specs.Nodes.{load_texts};
+ghost use Rattle.std.specs.Prelude.{◌≡◌, IfOk, map};
 ghost use Rattle.gv_driver.specs.Loads.{load_input};
-ghost use Rattle.gv_driver.specs.Tables.{export_in, load_from, pair_at, path_in};
+ghost use Rattle.gv_driver.specs.Tables.{load_from, pair_at};
 
-use crate::answer::export_of;
 use crate::node::Node;
+use crate::parts::{export_at, parts_of, path_at};
 use crate::tree::PackageTexts;
-use action_graph::{LoadInput, texts_of_parts};
+use action_graph::LoadInput;
 use fact_cache::Input;
 use gv_base::{Bytes, NoMemory, Row, Text};
 use std::alloc::Global;
@@ -35,25 +34,6 @@ fn copy_files(alloc: Global, files: &[(Text, Bytes)]) -> Result<Vec<(Text, Bytes
         copies.push(copy_file(alloc, file)?)?;
     }
     Ok(copies)
-}
-
-fn path_at(tree: &[PackageTexts], at: usize) -> &str
-    ensures { result.now ≡ path_in (slice_get tree.now at) }
-{
-    match tree.get(at) {
-        None => "",
-        Some(pack) => pack.path.as_str(),
-    }
-}
-
-fn export_at(table: &[Option<Node>], at: usize) -> &[u8]
-    ensures { result.now ≡ export_in (slice_get table.now at) }
-{
-    match table.get(at) {
-        None => b"",
-        Some(None) => b"",
-        Some(Some(node)) => export_of(&node.answer),
-    }
 }
 
 fn export_pair(
@@ -99,16 +79,13 @@ pub(crate) fn load_of(
     Ok(LoadInput { path, files, env })
 }
 
-fn texts_at(
-    alloc: Global,
-    tree: &[PackageTexts],
-    table: &[Option<Node>],
-    pack: &PackageTexts,
-) -> Result<Vec<Bytes>, NoMemory>
-    ensures { IfOk result (λ texts. texts.items ≡ load_texts (load_from tree.now table.now pack.now)) }
+fn copies_of(alloc: Global, parts: &[&[u8]]) -> Result<Vec<Bytes>, NoMemory>
+    ensures { IfOk result (λ texts. texts.items ≡ map (λ t. t.now) parts.now) }
 {
-    let env = export_pairs(alloc, tree, table, pack.imports.as_slice())?;
-    let texts = texts_of_parts(alloc, pack.path.as_str(), pack.files.as_slice(), &env)?;
+    let mut texts = Vec::new(alloc);
+    for part in parts {
+        texts.push(Bytes::of(alloc, *part)?)?;
+    }
     Ok(texts)
 }
 
@@ -121,7 +98,8 @@ pub(crate) fn key_of(
 ) -> Result<Input, NoMemory>
     ensures { IfOk result (λ key. key ≡ load_input (load_from tree.now table.now pack.now)) }
 {
-    let texts = texts_at(alloc, tree, table, pack)?;
+    let parts = parts_of(alloc, tree, table, pack)?;
+    let texts = copies_of(alloc, &parts)?;
     Ok(Input {
         node: 0,
         texts: Row::new(texts),

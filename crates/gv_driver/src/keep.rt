@@ -1,5 +1,6 @@
 //! Keeping what was executed.
-ghost use Rattle.std.specs.Prelude.{◌≡◌, ℕ, false, None, OnOk, OnErr, length};
+ghost use Rattle.std.specs.Prelude.{◌≡◌, ℕ, None, Some, OnOk, OnErr, length};
+ghost use Rattle.fact_cache.specs.declared.texts.Input.{Input};
 ghost use Rattle.fact_cache.specs.Caches.{lookup};
 ghost use Rattle.gv_driver.specs.Runs.{CanKeep, Keeping, kept};
 
@@ -10,19 +11,22 @@ use gv_base::NoMemory;
 use std::alloc::Global;
 
 fn keep_node(alloc: Global, cache: &mut Cache, node: Node) -> Result<(), NoMemory>
-    requires { node.found ≡ false → lookup cache.old node.key ≡ None }
+    requires { (i : Input) → node.fresh ≡ Some i → lookup cache.old i ≡ None }
     ensures kept { OnOk result (cache.new ≡ kept cache.old node) }
     ensures unchanged { OnErr result (cache.new ≡ cache.old) }
 {
-    if node.found {
-        return Ok(());
+    let Node { fresh, answer } = node;
+    match fresh {
+        None => Ok(()),
+        Some(input) => {
+            let outcome = write_answer(alloc, &answer)?;
+            cache.put(input, outcome)?;
+            Ok(())
+        }
     }
-    let outcome = write_answer(alloc, &node.answer)?;
-    cache.put(node.key, outcome)?;
-    Ok(())
 }
 
-/// Adds the entries of the nodes that weren't found, in order.
+/// Adds the entries of the executed loads, in order.
 pub(crate) fn keep(
     alloc: Global,
     cache: &mut Cache,

@@ -1,7 +1,8 @@
 //! Laws of trees and caches. Their bodies are empty: the contracts are the laws.
-ghost use Rattle.std.specs.Prelude.{◌≡◌, ℕ, List, Option};
+ghost use Rattle.std.specs.Prelude.{◌≡◌, ℕ, true, List, Option};
 ghost use Rattle.fact_cache.specs.declared.list.Entry.{Entry};
 ghost use Rattle.fact_cache.specs.declared.texts.Input.{Input};
+ghost use Rattle.fact_cache.specs.Caches.{is_within};
 ghost use Rattle.gv_driver.specs.declared.reply.Verdict.{Verdict};
 ghost use Rattle.gv_driver.specs.declared.tree.PackageTexts.{PackageTexts};
 ghost use Rattle.gv_driver.specs.Caches.{IsCacheAfter, IsHonest};
@@ -20,10 +21,11 @@ pub fn one_report()
     ensures { (tree : List PackageTexts) (a b : List Verdict) → IsReport tree a → IsReport tree b → a ≡ b }
 {}
 
-/// A run leaves one cache, and from an honest one an honest one.
+/// A run leaves one cache, within its limits, and from an honest one an honest one.
 pub fn one_cache()
     ensures one { (before a b : List Entry) (inputs : List (Option Input)) → IsCacheAfter before a inputs → IsCacheAfter before b inputs → a ≡ b }
     ensures honest { (before after : List Entry) (inputs : List (Option Input)) → IsHonest before → IsCacheAfter before after inputs → IsHonest after }
+    ensures within { (before after : List Entry) (inputs : List (Option Input)) → IsCacheAfter before after inputs → is_within after ≡ true }
 {}
 
 /// Where no lawful load is without an outcome, no tree is without verdicts, inputs of its loads, and a cache that a run leaves.

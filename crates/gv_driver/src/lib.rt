@@ -9,6 +9,7 @@ mod keep;
 mod laws;
 mod node;
 mod order;
+mod parts;
 mod ready;
 mod reply;
 mod report;

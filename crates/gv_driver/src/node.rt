@@ -14,10 +14,8 @@ pub enum Answer {
 /// A load that is done.
 #[derive(Drop)]
 pub struct Node {
-    /// All that it reads.
-    pub key: Input,
+    /// All that it read, where it was executed; nothing where the cache had what comes of it.
+    pub fresh: Option<Input>,
     /// What came of it.
     pub answer: Answer,
-    /// Whether it was found in the cache.
-    pub found: bool,
 }

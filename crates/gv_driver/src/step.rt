@@ -4,7 +4,7 @@ ghost use Rattle.action_graph.specs.Judging.{IsLawful, IsOutcome};
 ghost use Rattle.need_order.specs.Graphs.{IsOrder};
 ghost use Rattle.gv_driver.specs.Trees.{Imports, IsTree};
 ghost use Rattle.gv_driver.specs.Loads.{load_input};
-ghost use Rattle.gv_driver.specs.Caches.{IsHonest, is_cached};
+ghost use Rattle.gv_driver.specs.Caches.{IsHonest, left_of};
 ghost use Rattle.gv_driver.specs.Tables.{IsReady, IsTable, answer_text, cost, load_from, waiting};
 ghost use Rattle.gv_driver.specs.Runs.{Goes, Looks, Performs};
 
@@ -12,6 +12,7 @@ use crate::answer::{answer_of, read_answer};
 use crate::input::{key_of, load_of};
 use crate::node::{Answer, Node};
 use crate::order::load_order;
+use crate::parts::cached;
 use crate::ready::is_ready;
 use crate::tree::PackageTexts;
 use action_graph::Kit;
@@ -49,29 +50,27 @@ fn node_of<K: Kit>(
     pack: &PackageTexts,
 ) -> Result<Node, NoMemory>
     requires { K.loads kit.old < 2 ^ 63 }
-    ensures key { IfOk result (λ n. n.key ≡ load_input (load_from tree.now table.now pack.now)) }
-    ensures found { IfOk result (λ n. n.found ≡ is_cached cache.now (load_input (load_from tree.now table.now pack.now))) }
-    ensures counts { IfOk result (λ n. K.loads kit.new ≡ K.loads kit.old + cost n.found) }
+    ensures fresh { IfOk result (λ n. n.fresh ≡ left_of cache.now (load_input (load_from tree.now table.now pack.now))) }
+    ensures counts { IfOk result (λ n. K.loads kit.new ≡ K.loads kit.old + cost n.fresh) }
     ensures refused { OnErr result (K.loads kit.new ≡ K.loads kit.old) }
     ensures runs { K.runs kit.new ≡ K.runs kit.old }
     ensures right { IsHonest cache.now → IsLawful (load_from tree.now table.now pack.now) → IfOk result (λ n. IsOutcome (load_from tree.now table.now pack.now) (answer_text n.answer)) }
 {
-    let key = key_of(alloc, tree, table, pack)?;
-    match cache.find(&key) {
+    let found = cached(alloc, tree, cache, table, pack)?;
+    match found {
         Some(outcome) => {
             let answer = read_answer(alloc, outcome)?;
             Ok(Node {
-                key,
+                fresh: None,
                 answer,
-                found: true,
             })
         }
         None => {
+            let key = key_of(alloc, tree, table, pack)?;
             let answer = loaded(alloc, tree, kit, table, pack)?;
             Ok(Node {
-                key,
+                fresh: Some(key),
                 answer,
-                found: false,
             })
         }
     }

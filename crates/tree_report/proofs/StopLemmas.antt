@@ -1,5 +1,6 @@
 -- Runs over the files of a tree that memory cut off.
-use Rattle.std.proofs.Common.{◌≡◌, ℕ, Option, List, map, ap, ◌∙◌, subst}
+use Rattle.std.proofs.Common.{◌≡◌, ℕ, Option, List, map, subst}
+use Rattle.std.specs.Prelude.{Result, Ok, Err, OnErr}
 use Rattle.gv_base.specs.Files.{Entry}
 use Rattle.go_tree.specs.declared.head.Head.{Head}
 use Rattle.parse_file.specs.declared.verdict.FileVerdict.{FileVerdict}
@@ -11,16 +12,17 @@ use Rattle.gv_driver.specs.Runs.{IsCutOff, Ran}
 use Rattle.gv_driver.proofs.RunLaws.{ran-cut}
 use Rattle.tree_report.specs.Form.{IsForm}
 use Rattle.tree_report.specs.Reports.{texts_of, IsStopped}
-use Rattle.tree_report.proofs.OnceLemmas.{form-once}
+use Rattle.tree_report.specs.Reports.IsStopped.{in_run}
 
--- what is said of the packages that were found is said of all packages of the tree, which are these
+-- what holds anyhow holds of an error
+pub on_any_err : {A E : Type 0} {P : Type 0} (r : Result A E) → P → OnErr r P
+on_any_err (Ok a) p = tt
+on_any_err (Err e) p = p
+
+-- what is said of the texts that were made is said of the packages
 pub stopped : (tree : List Entry) (v : List (Option FileVerdict)) (h : List (Option Head)) (p : List Package) (texts : List PackageTexts) (before after : List Kept) (count now : ℕ) → IsForm tree v h p
     → texts ≡ map (texts_of tree) p → IsCutOff texts before after count now → IsStopped tree before after count now
-stopped tree v h p texts before after count now form is cut = record {
-  cut_off = λ w g q other.
-      let same : p ≡ q = (form-once tree v w h g p q form other).packages in
-      subst (λ (l : List PackageTexts). IsCutOff l before after count now) (is ∙ ap (map (texts_of tree)) same) cut;
-}
+stopped tree v h p texts before after count now form is cut = in_run v h p form (subst (λ (l : List PackageTexts). IsCutOff l before after count now) is cut)
 
 -- the same where the run came to its end, and memory was wanting for what is made of its answer
 pub stopped-after : (tree : List Entry) (v : List (Option FileVerdict)) (h : List (Option Head)) (p : List Package) (texts : List PackageTexts) (before after : List Kept) (count now : ℕ) (told : Judgement) → IsForm tree v h p

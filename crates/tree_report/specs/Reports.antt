@@ -78,8 +78,9 @@ abbrev pub IsSafeAnswer : List Entry → List Kept → List Kept → ℕ → ℕ
 IsSafeAnswer tree before after count now NotBuilt = (IsBuilt tree → ⊥) × ((after ≡ before) × (now ≡ count))
 IsSafeAnswer tree before after count now (Told report) = IsSafe tree report
 
--- After want of memory: at most the missing loads of the tree's packages were executed, and the cache has gained the entries of the
--- first of them alone.
-pub record IsStopped (tree : List Entry) (before after : List Kept) (count now : ℕ) : Type 0 where
-  pub cut_off : (verdicts : List (Option FileVerdict)) (heads : List (Option Head)) (packages : List Package) → IsForm tree verdicts heads packages
-      → IsCutOff (map (texts_of tree) packages) before after count now
+-- After want of memory: no package was looked at, and nothing has changed; or the tree is of the form, at most the missing loads of its
+-- packages were executed, and the cache has gained the entries of the first of them alone, within its limits.
+pub data IsStopped (tree : List Entry) (before after : List Kept) (count now : ℕ) : Type 0 where
+  not_run : after ≡ before → now ≡ count → IsStopped tree before after count now
+  in_run : (verdicts : List (Option FileVerdict)) (heads : List (Option Head)) (packages : List Package) → IsForm tree verdicts heads packages
+      → IsCutOff (map (texts_of tree) packages) before after count now → IsStopped tree before after count now

@@ -1,5 +1,6 @@
 //! The report of a tree.
-ghost use Rattle.std.specs.Prelude.{◌≡◌, ◌<◌, ◌≤◌, ◌+◌, ◌^◌, ℕ, Some, length, slice_get, sum_by, IfOk, OnErr};
+ghost use Rattle.std.specs.Prelude.{◌≡◌, ◌<◌, ◌≤◌, ◌+◌, ◌^◌, ℕ, true, Some, length, slice_get, sum_by, IfOk, OnErr};
+ghost use Rattle.fact_cache.specs.Caches.{is_within};
 ghost use Rattle.import_graph.specs.Packages.{paths_of};
 ghost use Rattle.import_graph.specs.Tables.{AreAscending};
 ghost use Rattle.tree_report.specs.Formed.{Holds, IsReplyOf};
@@ -85,6 +86,7 @@ fn report_formed<K: Kit>(
     ensures cut_off { IsHonest cache.old → OnErr result (IsStopped files.now cache.old cache.new (sum_by K.loads kits.old) (sum_by K.loads kits.new)) }
     ensures loads { IsHonest cache.old → IfOk result (λ report. sum_by K.loads kits.new ≡ sum_by K.loads kits.old + report.counts.loads) }
     ensures honest { IsHonest cache.old → IsHonest cache.new }
+    ensures within { is_within cache.old ≡ true → is_within cache.new ≡ true }
 {
     files_are_in_order(files);
     let tree = all_texts(alloc, files, &formed.packages)?;
@@ -96,7 +98,7 @@ fn report_formed<K: Kit>(
 
 /// Reports on a tree with the first of the kits, and with what the cache has; what was executed is kept. Over any cache the form
 /// alone decides whether the tree is built, and each place of the report stands in one of the files. After want of memory no more
-/// was executed than was missing, and the cache has gained entries of what was missing alone.
+/// was executed than was missing, and the cache has gained entries of what was missing alone. A cache within its limits stays there.
 pub fn report_on<K: Kit>(
     alloc: Global,
     files: &Files,
@@ -111,6 +113,7 @@ pub fn report_on<K: Kit>(
     ensures cut_off { IsHonest cache.old → OnErr result (IsStopped files.now cache.old cache.new (sum_by K.loads kits.old) (sum_by K.loads kits.new)) }
     ensures answered { IsHonest cache.old → IfOk result (IsAnswered files.now cache.old cache.new (sum_by K.loads kits.old) (sum_by K.loads kits.new)) }
     ensures honest { IsHonest cache.old → IsHonest cache.new }
+    ensures within { is_within cache.old ≡ true → is_within cache.new ≡ true }
 {
     let found = form_of(alloc, files)?;
     match found {

@@ -14,7 +14,7 @@ keep_node-requires c =
     let within : c.loop-p.p < length c.args.table.items = omega (arith, size, test) in
     let at : slice_get c.args.table.items c.loop-p.p ≡ Some (Some n) =
     taken-at c.loop-p.table.items c.args.table.items c.loop-p.p c.index_mut.result.now (Some n) c.loop-p.invariant.same within c.index_mut.ensures.value c.in-Some.ensures.value in
-    λ f. keeping-new c.args.cache.now c.args.table.items c.loop-p.p n c.loop-p.cache c.requires at c.loop-p.invariant.keeping f
+    λ i f. keeping-new c.args.cache.now c.args.table.items c.loop-p.p n i c.loop-p.cache c.requires at c.loop-p.invariant.keeping f
 
 pub loop-p-preserved : goal.loop-p-preserved
 loop-p-preserved c =

@@ -19,4 +19,4 @@ returns-clause-ok g c =
     performs-from tree c.args.cache.now table (set table c.args.at (Some node)) c.args.at pack (load_from tree c.deref.result.now pack) node (g.K.Kit.loads c.args.kit.now) (g.K.Kit.loads c.node_of.new.kit)
     c.requires.tree c.requires.table c.requires.ready (pack-at tree table c.args.at pack c.requires.ready c.index-tree-at.is)
     (ap (λ (t : List (Option Node)). load_from tree t pack) c.deref.ensures.value)
-    c.in_ok-node.ensures.key c.in_ok-node.ensures.found c.in_ok-node.ensures.counts c.in_ok-node.ensures.right refl
+    c.in_ok-node.ensures.fresh c.in_ok-node.ensures.counts c.in_ok-node.ensures.right refl

@@ -1,4 +1,4 @@
-use Rattle.std.proofs.Common.{rules, All, map, sum_by, sym, ap, ◌∙◌, subst}
+use Rattle.std.proofs.Common.{All, map, sum_by, sym, ap, ◌∙◌, subst}
 use Rattle.report_text.specs.Standing.{StandsIn}
 use Rattle.gv_driver.specs.Standing.{AreVerdictsIn}
 use Rattle.gv_driver.specs.Trees.{IsTree}
@@ -6,7 +6,7 @@ use Rattle.tree_report.specs.Reports.{texts_of}
 use Rattle.tree_report.proofs.TreeLemmas.{is-tree, paths-rise}
 use Rattle.tree_report.proofs.PlainLemmas.{check-stands}
 use Rattle.tree_report.proofs.StandLemmas.{error-lines-stand}
-use Rattle.tree_report.proofs.StopLemmas.{stopped, stopped-after}
+use Rattle.tree_report.proofs.StopLemmas.{on_any_err, stopped, stopped-after}
 use Rattle.tree_report.proofs.run.report_formed.Goals as goal
 
 pub run-requires-clause-tree : goal.run-requires-clause-tree
@@ -21,13 +21,13 @@ pub returns-in_err-ran-clause-cut_off : goal.returns-in_err-ran-clause-cut_off
 returns-in_err-ran-clause-cut_off g c = λ honest.
     let h = stopped c.args.files.now c.args.formed.now.verdicts.items c.args.formed.now.heads.items c.args.formed.now.packages.items c.deref-2.result.now c.args.cache.now c.run.new.cache (sum_by g.K.Kit.loads c.args.kits.now) (sum_by g.K.Kit.loads c.run.new.kits) c.requires.form
     (c.deref-2.ensures.value ∙ (c.in_ok-tree.ensures ∙ ap (map (texts_of c.args.files.now)) c.deref.ensures.value)) (c.in_err-ran.ensures.cut_off honest) in
-    search (rules, h)
+    on_any_err c.from_residual-in_err-ran.result h
 
 pub returns-in_err-reply-clause-cut_off : goal.returns-in_err-reply-clause-cut_off
 returns-in_err-reply-clause-cut_off g c = λ honest.
     let h = stopped-after c.args.files.now c.args.formed.now.verdicts.items c.args.formed.now.heads.items c.args.formed.now.packages.items c.deref-2.result.now c.args.cache.now c.run.new.cache (sum_by g.K.Kit.loads c.args.kits.now) (sum_by g.K.Kit.loads c.run.new.kits) c.in_ok-ran.ran c.requires.form
     (c.deref-2.ensures.value ∙ (c.in_ok-tree.ensures ∙ ap (map (texts_of c.args.files.now)) c.deref.ensures.value)) (c.in_ok-ran.ensures.ran honest) in
-    search (rules, h)
+    on_any_err c.from_residual-in_err-reply.result h
 
 pub printed-requires : goal.printed-requires
 printed-requires g c =
@@ -40,7 +40,7 @@ pub returns-in_err-report-clause-cut_off : goal.returns-in_err-report-clause-cut
 returns-in_err-report-clause-cut_off g c = λ honest.
     let h = stopped-after c.args.files.now c.args.formed.now.verdicts.items c.args.formed.now.heads.items c.args.formed.now.packages.items c.deref-2.result.now c.args.cache.now c.run.new.cache (sum_by g.K.Kit.loads c.args.kits.now) (sum_by g.K.Kit.loads c.run.new.kits) c.in_ok-ran.ran c.requires.form
     (c.deref-2.ensures.value ∙ (c.in_ok-tree.ensures ∙ ap (map (texts_of c.args.files.now)) c.deref.ensures.value)) (c.in_ok-ran.ensures.ran honest) in
-    search (rules, h)
+    on_any_err c.from_residual-in_err-report.result h
 
 pub returns-clause-safe : goal.returns-clause-safe
 returns-clause-safe g c = record {

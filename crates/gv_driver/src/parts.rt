@@ -1,0 +1,128 @@
+//! What a load reads, as slices of what holds it, so that nothing is copied to look it up.
+ghost use Rattle.std.specs.Prelude.{◌≡◌, ◌++◌, ◌∷◌, [], IfOk, OnOk, map, option_map, slice_get};
+ghost use Rattle.action_graph.specs.Nodes.{load_texts, pairs};
+ghost use Rattle.fact_cache.specs.Caches.{lookup};
+ghost use Rattle.gv_driver.specs.Loads.{load_input};
+ghost use Rattle.gv_driver.specs.Tables.{export_in, load_from, pair_at, path_in};
+
+use crate::answer::export_of;
+use crate::node::Node;
+use crate::tree::PackageTexts;
+use fact_cache::Cache;
+use gv_base::{Bytes, NoMemory, Text};
+use std::alloc::Global;
+
+pub(crate) fn path_at(tree: &[PackageTexts], at: usize) -> &str
+    ensures { result.now ≡ path_in (slice_get tree.now at) }
+{
+    match tree.get(at) {
+        None => "",
+        Some(pack) => pack.path.as_str(),
+    }
+}
+
+pub(crate) fn export_at(table: &[Option<Node>], at: usize) -> &[u8]
+    ensures { result.now ≡ export_in (slice_get table.now at) }
+{
+    match table.get(at) {
+        None => b"",
+        Some(None) => b"",
+        Some(Some(node)) => export_of(&node.answer),
+    }
+}
+
+fn push_part<'a>(parts: &mut Vec<&'a [u8]>, part: &'a [u8]) -> Result<(), NoMemory>
+    ensures { OnOk result (map (λ t. t.now) parts.new.items ≡ map (λ t. t.now) parts.old.items ++ part.now ∷ []) }
+{
+    parts.push(part)?;
+    Ok(())
+}
+
+fn push_pair<'a>(parts: &mut Vec<&'a [u8]>, path: &'a str, bytes: &'a [u8]) -> Result<(), NoMemory>
+    ensures { OnOk result (map (λ t. t.now) parts.new.items ≡ (map (λ t. t.now) parts.old.items ++ path.now ∷ []) ++ bytes.now ∷ []) }
+{
+    push_part(parts, path.as_bytes())?;
+    push_part(parts, bytes)?;
+    Ok(())
+}
+
+fn push_file<'a>(parts: &mut Vec<&'a [u8]>, file: &'a (Text, Bytes)) -> Result<(), NoMemory>
+    ensures { OnOk result (map (λ t. t.now) parts.new.items ≡ (map (λ t. t.now) parts.old.items ++ file.now.0 ∷ []) ++ file.now.1 ∷ []) }
+{
+    push_pair(parts, file.0.as_str(), file.1.as_slice())?;
+    Ok(())
+}
+
+fn push_files<'a>(parts: &mut Vec<&'a [u8]>, files: &'a [(Text, Bytes)]) -> Result<(), NoMemory>
+    ensures { OnOk result (map (λ t. t.now) parts.new.items ≡ map (λ t. t.now) parts.old.items ++ pairs files.now) }
+{
+    for file in files {
+        push_file(parts, file)?;
+    }
+    Ok(())
+}
+
+fn push_export<'a>(
+    parts: &mut Vec<&'a [u8]>,
+    tree: &'a [PackageTexts],
+    table: &'a [Option<Node>],
+    number: u32,
+) -> Result<(), NoMemory>
+    ensures { OnOk result (map (λ t. t.now) parts.new.items ≡ (map (λ t. t.now) parts.old.items ++ (pair_at tree.now table.now number).0 ∷ []) ++ (pair_at tree.now table.now number).1 ∷ []) }
+{
+    let at = number as usize;
+    push_pair(parts, path_at(tree, at), export_at(table, at))?;
+    Ok(())
+}
+
+fn push_exports<'a>(
+    parts: &mut Vec<&'a [u8]>,
+    tree: &'a [PackageTexts],
+    table: &'a [Option<Node>],
+    numbers: &[u32],
+) -> Result<(), NoMemory>
+    ensures { OnOk result (map (λ t. t.now) parts.new.items ≡ map (λ t. t.now) parts.old.items ++ pairs (map (pair_at tree.now table.now) numbers.now)) }
+{
+    for number in numbers {
+        push_export(parts, tree, table, *number)?;
+    }
+    Ok(())
+}
+
+/// The texts of what a package's load reads.
+pub(crate) fn parts_of<'a>(
+    alloc: Global,
+    tree: &'a [PackageTexts],
+    table: &'a [Option<Node>],
+    pack: &'a PackageTexts,
+) -> Result<Vec<&'a [u8]>, NoMemory>
+    ensures { IfOk result (λ parts. map (λ t. t.now) parts.items ≡ load_texts (load_from tree.now table.now pack.now)) }
+{
+    let mut parts = Vec::new(alloc);
+    push_part(&mut parts, pack.path.as_str().as_bytes())?;
+    push_files(&mut parts, pack.files.as_slice())?;
+    push_part(&mut parts, b"")?;
+    push_exports(&mut parts, tree, table, pack.imports.as_slice())?;
+    Ok(parts)
+}
+
+fn find<'a>(cache: &'a Cache, parts: &[&[u8]]) -> Option<&'a [u8]>
+    ensures { option_map (λ o. o.now) result ≡ lookup cache.now (record { node = 0; texts = map (λ t. t.now) parts.now }) }
+{
+    cache.find_slices(0, parts)
+}
+
+/// The outcome that the cache has of a package's load.
+pub(crate) fn cached<'a>(
+    alloc: Global,
+    tree: &[PackageTexts],
+    cache: &'a Cache,
+    table: &[Option<Node>],
+    pack: &PackageTexts,
+) -> Result<Option<&'a [u8]>, NoMemory>
+    ensures { IfOk result (λ found. option_map (λ o. o.now) found ≡ lookup cache.now (load_input (load_from tree.now table.now pack.now))) }
+{
+    let parts = parts_of(alloc, tree, table, pack)?;
+    let found = find(cache, &parts);
+    Ok(found)
+}
