@@ -29,6 +29,7 @@ use Rattle.rule_words.specs.Asking.{Rule, mark_ask, part_ask, under_ask}
 use Rattle.rule_words.specs.Answers.{typed}
 use Rattle.rule_words.specs.Words.{need_type}
 use Rattle.decl_rules.specs.Good.{given}
+use Rattle.decl_rules.specs.Held.{held_names, names_ask}
 use Rattle.decl_rules.specs.Types.{gives_type}
 use Rattle.decl_rules.specs.Signatures.{results_node}
 
@@ -126,9 +127,13 @@ kind_rule u name p k.Defined node = defined_rule u name
 kind_rule u name p k.Alias node = placed_ask u name.file (part node 1) alias_mark
 kind_rule u name p _ node = done Quiet
 
-abbrev pub is_method : NodeKind → Bool
-is_method k.MethodDecl = true
-is_method _ = false
+-- a method, or an import, whose name is one of its file
+abbrev pub is_elsewhere : NodeKind → Bool
+is_elsewhere k.MethodDecl = true
+is_elsewhere k.Import = true
+is_elsewhere k.ImportGroup = true
+is_elsewhere k.ImportNamed = true
+is_elsewhere _ = false
 
 abbrev pub is_function : NodeKind → Bool
 is_function k.FuncDecl = true
@@ -150,9 +155,9 @@ abbrev pub refusal_of : Unit → NodeRef → Bool → Option RuleNumber
 refusal_of u name exempt =
     if u.redeclared name then Some REDECLARED else (if is_bad_init u name exempt then Some BAD_INIT else (if u.cyclic name then Some DECLARATION_CYCLE else None))
 
--- what a declaration of `init` may be: a function without parameters and results, or a method
+-- what a declaration of `init` may be: a function without parameters and results; a method or an import declares no name of the package
 abbrev pub is_exempt : List Node → NodeKind → Node → Bool
-is_exempt nodes kind node = is_method kind || is_plain_function nodes kind node (results_node nodes node 2)
+is_exempt nodes kind node = is_elsewhere kind || is_plain_function nodes kind node (results_node nodes node 2)
 
 abbrev pub unless_refused : Option RuleNumber → Rule → Rule
 unless_refused None rest = rest
@@ -177,15 +182,16 @@ written_in u file p = option_and_then (λ (node : Node). part node 1) (node_at u
 abbrev pub written_type : Unit → NodeRef → Option ℕ
 written_type u name = option_and_then (written_in u name.file) (place_at u name)
 
-abbrev pub declared_with : GoType → Rule
-declared_with of = done (Declares (record { under = of; methods = [] }))
+-- "A type .. may not contain itself": what it holds by value is declared before
+abbrev pub declared_with : Unit → GoType → Rule
+declared_with u of = names_ask u (held_names of) (done (Declares (record { under = of; methods = [] })))
 
-abbrev pub declaring : Option GoType → Rule
-declaring under = need_type under declared_with
+abbrev pub declaring : Unit → Option GoType → Rule
+declaring u under = need_type under (declared_with u)
 
 -- "Types": the underlying type is that of the type to which it refers in its declaration
 abbrev pub underlying_rule : Unit → Known → Rule
-underlying_rule u x = bind (under_ask u x.of) (λ under. declaring under)
+underlying_rule u x = bind (under_ask u x.of) (λ under. declaring u under)
 
 abbrev pub named_rule : Unit → Meaning → Rule
 named_rule u m = given m (λ x. underlying_rule u x)

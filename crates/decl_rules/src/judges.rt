@@ -1,50 +1,59 @@
-//! The rule of each type expression and declaration, by its kind.
+//! The rule of each type expression and declaration, by what it is.
 ghost use Rattle.std.specs.Prelude.{◌≡◌, IfOk};
 ghost use Rattle.mark_walk.specs.Telling.{tell};
+ghost use Rattle.typed_tree.specs.Basics.{HasBasics};
 ghost use Rattle.typed_marks.specs.States.{so_far};
 ghost use Rattle.unit_read.specs.Subjects.{unit_of};
-ghost use Rattle.unit_read.specs.Units.{nodes_at};
-ghost use Rattle.decl_rules.specs.Types.{same_rule, pointing_rule};
 ghost use Rattle.rule_words.specs.Scenes.{IsScene, part_in, IsSeenOf, parts_in, AreSeenOf};
 ghost use Rattle.rule_words.specs.Steps.{step_in, IsStepOf};
 ghost use Rattle.rule_words.specs.Wanting.{wanted_of, IsWantedOf};
 ghost use Rattle.decl_rules.specs.Specifications.{member_rule};
-ghost use Rattle.decl_rules.specs.Signatures.{signature_rule};
-ghost use Rattle.decl_rules.specs.Rules.{decl_rule, kind_rule};
+ghost use Rattle.decl_rules.specs.Types.{same_rule, pointing_rule};
+ghost use Rattle.decl_rules.specs.Rules.{decl_rule, simple_rule, simple_of, member_of, in_member, method_rule, whole_rule, limited, import_rule, line_rule, line_of, or_line, or_member, or_whole};
 
 use crate::declared::{constants, is_fit, nothing, variables};
-use crate::good::{broken, part_at, silent};
-use crate::params::params;
+use crate::fields::field;
+use crate::forms::{Line, Member, Simple, Whole, line_form, member_form, simple_form, whole_form};
+use crate::good::{beyond, broken, part_at, silent};
+use crate::interfaces::interface;
+use crate::receivers::list;
 use crate::rules::DUPLICATE_MEMBER;
 use crate::signatures::judge_signature;
+use crate::structs::structure;
 use crate::types::{array, chan, map, pointing, same, slice, star};
-use go_tree::{Node, NodeKind, NodeRef};
+use go_tree::{Node, NodeRef};
 use gv_base::NoMemory;
 use package_objects::part_of;
 use rule_words::{Seen, Step, Wanted};
 use std::alloc::Global;
-use type_model::Dir;
 use typed_marks::State;
+use typed_tree::Limit;
 use unit_read::Subject;
 
-/// A method of an interface: E14, then its signature.
-fn method(
-    alloc: Global,
-    u: &Subject,
-    s: &State,
-    block: usize,
-    at: NodeRef,
-    node: &Node,
-) -> Result<Step, NoMemory>
-    requires { IsScene u.now s.now }
-    ensures is { IfOk result (λ step. step_in s.now step ≡ tell (so_far s.now) (member_rule (unit_of u.now) at (signature_rule (unit_of u.now) block (nodes_at (unit_of u.now) at.file) node.now 1))) }
-    ensures over { IfOk result (IsStepOf s.now) }
+fn judge_simple(s: &State, form: Simple, a: Seen, b: Seen) -> Step
+    requires a { IsSeenOf s.now a }
+    requires b { IsSeenOf s.now b }
+    ensures is { step_in s.now result ≡ tell (so_far s.now) (simple_rule form (part_in s.now a) (part_in s.now b)) }
+    ensures over { IsStepOf s.now result }
 {
-    if u.is_repeat(at) {
-        return Ok(broken(DUPLICATE_MEMBER));
+    match form {
+        Simple::Star => star(s, a),
+        Simple::Slice => slice(s, a),
+        Simple::Array => array(s, a, b),
+        Simple::Map => map(s, a, b),
+        Simple::Chan(direction) => chan(s, direction, a),
+        Simple::Same => same(s, a),
     }
-    let step = judge_signature(alloc, u, s, block, u.nodes_at(at.file), node, 1)?;
-    Ok(step)
+}
+
+fn of_simple(s: &State, form: Simple, parts: &[Seen]) -> Step
+    requires { AreSeenOf s.now parts.now }
+    ensures is { step_in s.now result ≡ tell (so_far s.now) (simple_of (parts_in s.now parts.now) form) }
+    ensures over { IsStepOf s.now result }
+{
+    let first = part_at(s, parts, 0);
+    let second = part_at(s, parts, 1);
+    judge_simple(s, form, first, second)
 }
 
 fn embedded(u: &Subject, s: &State, at: NodeRef, p: Seen) -> Step
@@ -71,8 +80,149 @@ fn embedded_pointer(u: &Subject, s: &State, at: NodeRef, p: Seen) -> Step
     pointing(s, p)
 }
 
-/// The mark of a node by its kind, or what it waits for.
-fn judge_kind(
+fn judge_member(u: &Subject, s: &State, at: NodeRef, node: &Node, p: Seen, form: Member) -> Step
+    requires scene { IsScene u.now s.now }
+    requires part { IsSeenOf s.now p }
+    ensures is { step_in s.now result ≡ tell (so_far s.now) (member_of (unit_of u.now) at node.now (part_in s.now p) form) }
+    ensures over { IsStepOf s.now result }
+{
+    match form {
+        Member::Field => field(u, s, at.file, u.nodes_at(at.file), node, p),
+        Member::Embedded => embedded(u, s, at, p),
+        Member::EmbeddedPointer => embedded_pointer(u, s, at, p),
+    }
+}
+
+fn of_member(u: &Subject, s: &State, at: NodeRef, node: &Node, parts: &[Seen], form: Member) -> Step
+    requires scene { IsScene u.now s.now }
+    requires parts { AreSeenOf s.now parts.now }
+    ensures is { step_in s.now result ≡ tell (so_far s.now) (in_member (unit_of u.now) at node.now (parts_in s.now parts.now) form) }
+    ensures over { IsStepOf s.now result }
+{
+    let first = part_at(s, parts, 0);
+    judge_member(u, s, at, node, first, form)
+}
+
+/// A method of an interface: E14, then its signature.
+fn method(
+    alloc: Global,
+    u: &Subject,
+    s: &State,
+    block: usize,
+    at: NodeRef,
+    node: &Node,
+) -> Result<Step, NoMemory>
+    requires { IsScene u.now s.now }
+    ensures is { IfOk result (λ step. step_in s.now step ≡ tell (so_far s.now) (method_rule (unit_of u.now) block at node.now)) }
+    ensures over { IfOk result (IsStepOf s.now) }
+{
+    if u.is_repeat(at) {
+        return Ok(broken(DUPLICATE_MEMBER));
+    }
+    let step = judge_signature(alloc, u, s, block, u.nodes_at(at.file), node, 1)?;
+    Ok(step)
+}
+
+fn of_whole(
+    alloc: Global,
+    u: &Subject,
+    s: &State,
+    block: usize,
+    at: NodeRef,
+    node: &Node,
+    parts: &[Seen],
+    form: Whole,
+) -> Result<Step, NoMemory>
+    requires scene { IsScene u.now s.now }
+    requires parts { AreSeenOf s.now parts.now }
+    ensures is { IfOk result (λ step. step_in s.now step ≡ tell (so_far s.now) (whole_rule (unit_of u.now) block at node.now (parts_in s.now parts.now) form)) }
+    ensures over { IfOk result (IsStepOf s.now) }
+{
+    let nodes = u.nodes_at(at.file);
+    let step = match form {
+        Whole::FuncType => judge_signature(alloc, u, s, block, nodes, node, 0)?,
+        Whole::FuncDecl => judge_signature(alloc, u, s, block, nodes, node, 1)?,
+        Whole::MethodDecl => judge_signature(alloc, u, s, block, nodes, node, 2)?,
+        Whole::Method => method(alloc, u, s, block, at, node)?,
+        Whole::Params => list(alloc, u, s, at, node, parts)?,
+        Whole::Struct => structure(alloc, u, s, at.file, node, parts)?,
+        Whole::Interface => interface(alloc, u, s, at.file, node, parts)?,
+    };
+    Ok(step)
+}
+
+fn limited(s: &State, limit: Option<Limit>) -> Step
+    requires { HasBasics s.now.table }
+    ensures is { step_in s.now result ≡ tell (so_far s.now) (limited limit) }
+    ensures over { IsStepOf s.now result }
+{
+    match limit {
+        Some(limit) => beyond(limit),
+        None => nothing(s),
+    }
+}
+
+fn import(u: &Subject, s: &State, at: NodeRef) -> Step
+    requires { IsScene u.now s.now }
+    ensures is { step_in s.now result ≡ tell (so_far s.now) (import_rule (unit_of u.now) at) }
+    ensures over { IsStepOf s.now result }
+{
+    match u.lead_at(at) {
+        Some(lead) => limited(s, lead.limit),
+        None => nothing(s),
+    }
+}
+
+fn judge_line(u: &Subject, s: &State, at: NodeRef, node: &Node, p: Seen, form: Line) -> Step
+    requires scene { IsScene u.now s.now }
+    requires part { IsSeenOf s.now p }
+    ensures is { step_in s.now result ≡ tell (so_far s.now) (line_rule (unit_of u.now) at node.now (part_in s.now p) form) }
+    ensures over { IsStepOf s.now result }
+{
+    match form {
+        Line::Constants => constants(u, s, at, true),
+        Line::Typed => constants(u, s, at, is_fit(s, p.under)),
+        Line::Variables(i) => variables(s, u.nodes_at(at.file), part_of(node, 0), part_of(node, i)),
+        Line::Import => import(u, s, at),
+        Line::Plain => nothing(s),
+    }
+}
+
+fn of_line(u: &Subject, s: &State, at: NodeRef, node: &Node, parts: &[Seen], form: Line) -> Step
+    requires scene { IsScene u.now s.now }
+    requires parts { AreSeenOf s.now parts.now }
+    ensures is { step_in s.now result ≡ tell (so_far s.now) (line_of (unit_of u.now) at node.now (parts_in s.now parts.now) form) }
+    ensures over { IsStepOf s.now result }
+{
+    let first = part_at(s, parts, 0);
+    judge_line(u, s, at, node, first, form)
+}
+
+fn or_line(u: &Subject, s: &State, at: NodeRef, node: &Node, parts: &[Seen]) -> Step
+    requires scene { IsScene u.now s.now }
+    requires parts { AreSeenOf s.now parts.now }
+    ensures is { step_in s.now result ≡ tell (so_far s.now) (or_line (unit_of u.now) at node.now (parts_in s.now parts.now)) }
+    ensures over { IsStepOf s.now result }
+{
+    match line_form(node.kind) {
+        Some(form) => of_line(u, s, at, node, parts, form),
+        None => silent(),
+    }
+}
+
+fn or_member(u: &Subject, s: &State, at: NodeRef, node: &Node, parts: &[Seen]) -> Step
+    requires scene { IsScene u.now s.now }
+    requires parts { AreSeenOf s.now parts.now }
+    ensures is { step_in s.now result ≡ tell (so_far s.now) (or_member (unit_of u.now) at node.now (parts_in s.now parts.now)) }
+    ensures over { IsStepOf s.now result }
+{
+    match member_form(node.kind) {
+        Some(form) => of_member(u, s, at, node, parts, form),
+        None => or_line(u, s, at, node, parts),
+    }
+}
+
+fn or_whole(
     alloc: Global,
     u: &Subject,
     s: &State,
@@ -83,62 +233,15 @@ fn judge_kind(
 ) -> Result<Step, NoMemory>
     requires scene { IsScene u.now s.now }
     requires parts { AreSeenOf s.now parts.now }
-    ensures is { IfOk result (λ step. step_in s.now step ≡ tell (so_far s.now) (kind_rule node.now.kind (unit_of u.now) block at node.now (parts_in s.now parts.now))) }
+    ensures is { IfOk result (λ step. step_in s.now step ≡ tell (so_far s.now) (or_whole (unit_of u.now) block at node.now (parts_in s.now parts.now))) }
     ensures over { IfOk result (IsStepOf s.now) }
 {
-    let first = part_at(s, parts, 0);
-    let nodes = u.nodes_at(at.file);
-    match node.kind {
-        NodeKind::Star => Ok(star(s, first)),
-        NodeKind::SliceType => Ok(slice(s, first)),
-        NodeKind::ArrayType => Ok(array(s, first, part_at(s, parts, 1))),
-        NodeKind::MapType => Ok(map(s, first, part_at(s, parts, 1))),
-        NodeKind::ChanType => Ok(chan(s, Dir::Both, first)),
-        NodeKind::SendChan => Ok(chan(s, Dir::Send, first)),
-        NodeKind::RecvChan => Ok(chan(s, Dir::Receive, first)),
-        NodeKind::FuncType => {
-            let step = judge_signature(alloc, u, s, block, nodes, node, 0)?;
+    match whole_form(node.kind) {
+        Some(form) => {
+            let step = of_whole(alloc, u, s, block, at, node, parts, form)?;
             Ok(step)
         }
-        NodeKind::FuncDecl => {
-            let step = judge_signature(alloc, u, s, block, nodes, node, 1)?;
-            Ok(step)
-        }
-        NodeKind::MethodDecl => {
-            let step = judge_signature(alloc, u, s, block, nodes, node, 2)?;
-            Ok(step)
-        }
-        NodeKind::Method => {
-            let step = method(alloc, u, s, block, at, node)?;
-            Ok(step)
-        }
-        NodeKind::Params => {
-            let step = params(alloc, s, nodes, node, parts)?;
-            Ok(step)
-        }
-        NodeKind::Param => Ok(same(s, first)),
-        NodeKind::SpreadParam => Ok(slice(s, first)),
-        NodeKind::Variadic => Ok(slice(s, first)),
-        NodeKind::Field => Ok(same(s, first)),
-        NodeKind::Embedded => Ok(embedded(u, s, at, first)),
-        NodeKind::EmbeddedPointer => Ok(embedded_pointer(u, s, at, first)),
-        NodeKind::ConstNames => Ok(constants(u, s, at, true)),
-        NodeKind::ConstValues => Ok(constants(u, s, at, true)),
-        NodeKind::ConstTyped => Ok(constants(u, s, at, is_fit(s, first.under))),
-        NodeKind::VarValues => Ok(variables(s, nodes, part_of(node, 0), part_of(node, 1))),
-        NodeKind::VarTypedValues => Ok(variables(s, nodes, part_of(node, 0), part_of(node, 2))),
-        NodeKind::VarTyped => Ok(nothing(s)),
-        NodeKind::Defined => Ok(nothing(s)),
-        NodeKind::Alias => Ok(nothing(s)),
-        NodeKind::Const => Ok(nothing(s)),
-        NodeKind::ConstGroup => Ok(nothing(s)),
-        NodeKind::Var => Ok(nothing(s)),
-        NodeKind::VarGroup => Ok(nothing(s)),
-        NodeKind::TypeDecl => Ok(nothing(s)),
-        NodeKind::TypeGroup => Ok(nothing(s)),
-        NodeKind::Import => Ok(nothing(s)),
-        NodeKind::ImportGroup => Ok(nothing(s)),
-        _ => Ok(silent()),
+        None => Ok(or_member(u, s, at, node, parts)),
     }
 }
 
@@ -160,6 +263,11 @@ pub fn judge_decl(
     ensures over { IfOk result (IsStepOf s.now) }
 {
     let _ = wanted;
-    let step = judge_kind(alloc, u, s, block, at, node, parts)?;
-    Ok(step)
+    match simple_form(node.kind) {
+        Some(form) => Ok(of_simple(s, form, parts)),
+        None => {
+            let step = or_whole(alloc, u, s, block, at, node, parts)?;
+            Ok(step)
+        }
+    }
 }

@@ -10,13 +10,14 @@ ghost use Rattle.typed_marks.specs.States.{so_far};
 ghost use Rattle.unit_read.specs.Subjects.{unit_of, IsRead};
 ghost use Rattle.rule_words.specs.Scenes.{IsScene, told_by, IfFound, said, IsMarkOf};
 ghost use Rattle.decl_rules.specs.Good.{known_of, AreFactsOf};
-ghost use Rattle.decl_rules.specs.Wants.{is_type_slot, assigned_to, wish_by, file_of, wants, written_wants, star_demand, star_wants, value_wants, decl_wants};
+ghost use Rattle.decl_rules.specs.Wants.{is_type_slot, assigned_to, wish_by, file_of, wants, stands_for_several, value_demand, nodes_of_block, declares_names, written_wants, star_demand, star_wants, value_wants, decl_wants};
 
+use crate::declared::is_several;
 use crate::good::{basic_type, known};
 use crate::types::is_type;
 use go_tree::{Node, NodeKind};
 use gv_base::Kind;
-use package_objects::part_of;
+use package_objects::{count, part_of};
 use rule_words::{look, wanted_by};
 use type_questions::Found;
 use typed_marks::{Facts, Item, Mark, Stage, State, Want};
@@ -142,6 +143,30 @@ fn star(u: &Subject, s: &State, block: usize, whole: u32) -> Found<Mark, Item>
     }
 }
 
+fn stands_for_several(nodes: &[Node], around: &Node, i: usize) -> bool
+    ensures { result ≡ stands_for_several nodes.now around.now i }
+{
+    let values = part_of(around, i);
+    count(nodes, part_of(around, 0)) != count(nodes, values) && is_several(nodes, values)
+}
+
+fn value_demand(nodes: &[Node], around: &Node, i: usize) -> Demand
+    ensures { result ≡ value_demand nodes.now around.now i }
+{
+    if stands_for_several(nodes, around, i) {
+        Demand::Nothing
+    } else {
+        Demand::Operand
+    }
+}
+
+fn block_demand(u: &Subject, block: usize, around: &Node, i: usize) -> Demand
+    requires { IsRead u.now }
+    ensures { result ≡ value_demand (nodes_of_block (unit_of u.now) block) around.now i }
+{
+    value_demand(u.nodes_at(file_of(u, block) as u32), around, i)
+}
+
 fn assigned(
     u: &Subject,
     s: &State,
@@ -182,8 +207,10 @@ fn value(u: &Subject, s: &State, block: usize, p: Place, around: &Node) -> Found
         NodeKind::ArrayType => wants(Demand::Operand, Want::Takes(basic_type(s, Kind::Int))),
         NodeKind::ConstValues => freely(s, p, Demand::Constant),
         NodeKind::ConstTyped => assigned(u, s, block, p, Demand::Constant, around),
-        NodeKind::VarValues => freely(s, p, Demand::Count),
-        NodeKind::VarTypedValues => assigned(u, s, block, p, Demand::Operand, around),
+        NodeKind::VarValues => freely(s, p, block_demand(u, block, around, 1)),
+        NodeKind::VarTypedValues => {
+            assigned(u, s, block, p, block_demand(u, block, around, 2), around)
+        }
         _ => wants(Demand::Nothing, Want::Free),
     }
 }
@@ -198,5 +225,30 @@ pub fn want_decl(u: &Subject, s: &State, block: usize, p: Place, around: &Node) 
         wants(Demand::Type, Want::Free)
     } else {
         value(u, s, block, p, around)
+    }
+}
+
+/// Whether the names in a slot are declared there.
+pub fn declares_names(kind: NodeKind, slot: usize) -> bool
+    ensures { result ≡ declares_names kind slot }
+{
+    match kind {
+        NodeKind::Package => true,
+        NodeKind::ImportNamed => true,
+        NodeKind::ConstNames => true,
+        NodeKind::ConstValues => slot == 0,
+        NodeKind::ConstTyped => slot == 0,
+        NodeKind::VarValues => slot == 0,
+        NodeKind::VarTyped => slot == 0,
+        NodeKind::VarTypedValues => slot == 0,
+        NodeKind::Defined => slot == 0,
+        NodeKind::Alias => slot == 0,
+        NodeKind::FuncDecl => slot == 0,
+        NodeKind::MethodDecl => slot == 1,
+        NodeKind::Method => slot == 0,
+        NodeKind::Param => slot == 0,
+        NodeKind::SpreadParam => slot == 0,
+        NodeKind::Field => slot == 0,
+        _ => false,
     }
 }
