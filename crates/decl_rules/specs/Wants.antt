@@ -1,5 +1,5 @@
 -- What the places in type expressions and declarations want (Go 1.17, "Types", "Declarations and scope").
-use Rattle.std.specs.Prelude.{ℕ, ◌==◌, ◌&&◌, nat_le, not, Bool, true, false, if◌then◌else◌, List, length, Option, Some, None}
+use Rattle.std.specs.Prelude.{ℕ, ◌==◌, ◌&&◌, nat_le, not, Bool, true, false, if◌then◌else◌, List, [], length, Option, Some, None}
 use Rattle.std.specs.Option.{option_map_or}
 use Rattle.gv_base.specs.declared.constant.Kind.TheVariants as kind
 use Rattle.go_tree.specs.declared.tree.Node.{Node}
@@ -83,7 +83,7 @@ abbrev pub value_demand : List Node → Node → ℕ → Demand
 value_demand nodes around i = if stands_for_several nodes around i then demand.Nothing else demand.Operand
 
 abbrev pub nodes_of_block : Unit → ℕ → List Node
-nodes_of_block u block = nodes_at u (file_of u block)
+nodes_of_block u block = option_map_or (λ (p : Passage). nodes_at u p.file) (passage_at u block) []
 
 -- the wish of a value: a length takes `int`, whose range the array type tests; the value of a variable without a type is a single one that takes
 -- its default type

@@ -1,5 +1,5 @@
 //! Copies of signatures and methods.
-ghost use Rattle.std.specs.Prelude.{◌≡◌, IfOk};
+ghost use Rattle.std.specs.Prelude.{◌≡◌, ◌<◌, Some, IfOk, length, slice_get};
 
 use gv_base::{NoMemory, Row};
 use std::alloc::Global;
@@ -36,4 +36,11 @@ pub fn method_copied(alloc: Global, of: &Method) -> Result<Method, NoMemory>
         pointer: of.pointer,
         of: signature,
     })
+}
+
+pub fn nth_method(methods: &[Method], i: usize) -> &Method
+    requires { i < length methods.now }
+    ensures { slice_get methods.now i ≡ Some result.now }
+{
+    &methods[i]
 }

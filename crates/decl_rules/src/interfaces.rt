@@ -1,5 +1,5 @@
 //! Interface types (Go 1.17, "Interface types").
-ghost use Rattle.std.specs.Prelude.{◌≡◌, ◌++◌, ◌∷◌, [], ◌<◌, Some, IfOk, IfSome, OnOk, map, option_map, slice_get, length};
+ghost use Rattle.std.specs.Prelude.{◌≡◌, ◌++◌, ◌∷◌, [], IfOk, IfSome, OnOk, map, option_map};
 ghost use Rattle.std.specs.Option.{option_copied};
 ghost use Rattle.mark_walk.specs.Telling.{tell};
 ghost use Rattle.type_model.specs.GoTypes.{SignatureBelow, MethodsBelow, methods_of, signature_of};
@@ -14,7 +14,7 @@ ghost use Rattle.rule_words.specs.Steps.{step_in, IsStepOf};
 ghost use Rattle.decl_rules.specs.Interfaces.{signature_told, methods_told, method_with, written_method, embedded_methods, is_method, elem_methods, elem_at, nth_methods, all_methods, in_order, interface_rule};
 ghost use Rattle.decl_rules.specs.Elements.{method_in};
 
-use crate::copies::{method_copied, signature_copied};
+use crate::copies::{method_copied, nth_method, signature_copied};
 use crate::fields::{owner_of, utf8};
 use crate::good::{gives_type, part_at, silent};
 use crate::ordering::methods_in_order;
@@ -126,13 +126,6 @@ fn methods_told(s: &State, of: TypeId) -> &[Method]
     }
 }
 
-fn nth<'a>(methods: &'a [Method], i: usize) -> &'a Method
-    requires { i < length methods.now }
-    ensures { slice_get methods.now i ≡ Some result.now }
-{
-    &methods[i]
-}
-
 fn add_copy(alloc: Global, s: &State, m: &Method, out: &mut Vec<Method>) -> Result<(), NoMemory>
     requires of { SignatureBelow (count s.now.table) m.now.of }
     requires below { MethodsBelow (count s.now.table) out.old.items }
@@ -156,7 +149,7 @@ fn add_all(
     ensures below { OnOk result (MethodsBelow (count s.now.table) out.new.items) }
 {
     for i in 0..methods.len() {
-        let m = nth(methods, i);
+        let m = nth_method(methods, i);
         add_copy(alloc, s, m, out)?;
     }
     Ok(())

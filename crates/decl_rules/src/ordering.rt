@@ -1,5 +1,5 @@
 //! Methods in order of name and package.
-ghost use Rattle.std.specs.Prelude.{◌≡◌, ◌++◌, ◌∷◌, ◌<◌, [], Some, IfOk, OnOk, map, slice_get, length};
+ghost use Rattle.std.specs.Prelude.{◌≡◌, ◌++◌, ◌∷◌, [], IfOk, OnOk, map};
 ghost use Rattle.std.specs.BTreeMap.{IsOrdered, insert_entry};
 ghost use Rattle.method_sets.specs.Notes.{key_cmp};
 ghost use Rattle.type_model.specs.GoTypes.{SignatureBelow, MethodsBelow};
@@ -8,19 +8,12 @@ ghost use Rattle.type_model.specs.Tables.{count};
 ghost use Rattle.decl_rules.specs.Interfaces.{name_cmp, entered, in_order};
 ghost use Rattle.decl_rules.specs.Elements.{method_in, entries_in, listed_methods, AreEntries};
 
-use crate::copies::method_copied;
+use crate::copies::{method_copied, nth_method};
 use gv_base::NoMemory;
 use std::alloc::Global;
 use std::collections::BTreeMap;
 use type_model::Method;
 use typed_marks::State;
-
-fn nth<'a>(methods: &'a [Method], i: usize) -> &'a Method
-    requires { i < length methods.now }
-    ensures { slice_get methods.now i ≡ Some result.now }
-{
-    &methods[i]
-}
 
 /// Enters a method under its name and package.
 fn enter<'a>(
@@ -48,7 +41,7 @@ fn all_entered<'a>(
 {
     let mut names = BTreeMap::new(alloc);
     for i in 0..methods.len() {
-        let m = nth(methods, i);
+        let m = nth_method(methods, i);
         enter(s, &mut names, m)?;
     }
     Ok(names)

@@ -160,11 +160,21 @@ fn value_demand(nodes: &[Node], around: &Node, i: usize) -> Demand
     }
 }
 
+fn nodes_of_block<'a>(u: &Subject<'a>, block: usize) -> &'a [Node]
+    requires { IsRead u.now }
+    ensures { result.now ≡ nodes_of_block (unit_of u.now) block }
+{
+    match u.passage_at(block) {
+        Some(passage) => u.nodes_at(passage.file),
+        None => &[],
+    }
+}
+
 fn block_demand(u: &Subject, block: usize, around: &Node, i: usize) -> Demand
     requires { IsRead u.now }
     ensures { result ≡ value_demand (nodes_of_block (unit_of u.now) block) around.now i }
 {
-    value_demand(u.nodes_at(file_of(u, block) as u32), around, i)
+    value_demand(nodes_of_block(u, block), around, i)
 }
 
 fn assigned(

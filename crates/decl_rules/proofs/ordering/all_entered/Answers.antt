@@ -17,11 +17,11 @@ loop-i-init c =
     }
 
 pub enter-requires-clause-of : goal.enter-requires-clause-of
-enter-requires-clause-of c = all_at (λ (m : Method). SignatureBelow (count c.args.s.now.table) m.of) c.args.methods.now c.loop-i.i c.nth-m.result.now c.nth-m.ensures c.requires
+enter-requires-clause-of c = all_at (λ (m : Method). SignatureBelow (count c.args.s.now.table) m.of) c.args.methods.now c.loop-i.i c.nth_method-m.result.now c.nth_method-m.ensures c.requires
 
 pub loop-i-preserved : goal.loop-i-preserved
 loop-i-preserved c = record {
-  «is» = entered_on c.args.s.now c.args.methods.now c.loop-i.i c.nth-m.result.now c.loop-i.names.entries c.enter.new.names.entries c.nth-m.ensures c.loop-i.invariant.is c.in_ok-enter.ensures.is;
+  «is» = entered_on c.args.s.now c.args.methods.now c.loop-i.i c.nth_method-m.result.now c.loop-i.names.entries c.enter.new.names.entries c.nth_method-m.ensures c.loop-i.invariant.is c.in_ok-enter.ensures.is;
   entries = c.in_ok-enter.ensures.entries;
 }
 
