@@ -28,6 +28,9 @@ use Rattle.rule_words.specs.Parts.{Part, read_as}
 use Rattle.rule_words.specs.Asking.{Rule, mark_ask, part_ask, under_ask}
 use Rattle.rule_words.specs.Answers.{typed}
 use Rattle.rule_words.specs.Words.{need_type}
+use Rattle.decl_rules.specs.declared.forms.Named.{Named}
+use Rattle.decl_rules.specs.declared.forms.Named.TheVariants as named
+use Rattle.decl_rules.specs.Forms.{named_form}
 use Rattle.decl_rules.specs.Good.{given}
 use Rattle.decl_rules.specs.Held.{held_names, names_ask}
 use Rattle.decl_rules.specs.Types.{gives_type}
@@ -112,20 +115,17 @@ defined_rule u name = option_map_or (λ n. gives_type (DefinedType n)) (type_nam
 
 -- ---- objects
 
-abbrev pub kind_rule : Unit → NodeRef → Place → NodeKind → Node → Rule
-kind_rule u name p k.ConstNames node = constant_rule u name p.index
-kind_rule u name p k.ConstValues node = constant_rule u name p.index
-kind_rule u name p k.ConstTyped node = constant_rule u name p.index
-kind_rule u name p k.VarTyped node = placed_ask u name.file (part node 1) variable_mark
-kind_rule u name p k.VarTypedValues node = placed_ask u name.file (part node 1) variable_mark
-kind_rule u name p k.VarValues node = placed_ask u name.file (value_node (nodes_at u name.file) node p.index) valued_mark
-kind_rule u name p k.Param node = placed_ask u name.file (Some p.around) variable_mark
-kind_rule u name p k.SpreadParam node = placed_ask u name.file (Some p.around) variable_mark
-kind_rule u name p k.FuncDecl node = placed_ask u name.file (Some p.around) function_mark
-kind_rule u name p k.MethodDecl node = placed_ask u name.file (Some p.around) function_mark
-kind_rule u name p k.Defined node = defined_rule u name
-kind_rule u name p k.Alias node = placed_ask u name.file (part node 1) alias_mark
-kind_rule u name p _ node = done Quiet
+abbrev pub form_rule : Unit → NodeRef → Place → Node → Named → Rule
+form_rule u name p node named.Constant = constant_rule u name p.index
+form_rule u name p node named.Typed = placed_ask u name.file (part node 1) variable_mark
+form_rule u name p node named.Valued = placed_ask u name.file (value_node (nodes_at u name.file) node p.index) valued_mark
+form_rule u name p node named.Param = placed_ask u name.file (Some p.around) variable_mark
+form_rule u name p node named.Function = placed_ask u name.file (Some p.around) function_mark
+form_rule u name p node named.Defined = defined_rule u name
+form_rule u name p node named.Alias = placed_ask u name.file (part node 1) alias_mark
+
+abbrev pub kind_rule : Unit → NodeRef → Place → Node → Rule
+kind_rule u name p node = option_map_or (form_rule u name p node) (named_form node.kind) (done Quiet)
 
 -- a method, or an import, whose name is one of its file
 abbrev pub is_elsewhere : NodeKind → Bool
@@ -164,7 +164,7 @@ unless_refused None rest = rest
 unless_refused (Some rule) rest = done (Wrong rule)
 
 abbrev pub object_in : Unit → NodeRef → Place → Node → Rule
-object_in u name p node = unless_refused (refusal_of u name (is_exempt (nodes_at u name.file) node.kind node)) (kind_rule u name p node.kind node)
+object_in u name p node = unless_refused (refusal_of u name (is_exempt (nodes_at u name.file) node.kind node)) (kind_rule u name p node)
 
 abbrev pub placed_object : Unit → NodeRef → Place → Rule
 placed_object u name p = option_map_or (object_in u name p) (node_at u (place name.file p.around)) (done Quiet)

@@ -21,11 +21,13 @@ use Rattle.decl_rules.specs.declared.forms.Simple.{Simple}
 use Rattle.decl_rules.specs.declared.forms.Simple.TheVariants as simple
 use Rattle.decl_rules.specs.declared.forms.Member.{Member}
 use Rattle.decl_rules.specs.declared.forms.Member.TheVariants as member
-use Rattle.decl_rules.specs.declared.forms.Whole.{Whole}
-use Rattle.decl_rules.specs.declared.forms.Whole.TheVariants as whole
+use Rattle.decl_rules.specs.declared.forms.Signed.{Signed}
+use Rattle.decl_rules.specs.declared.forms.Signed.TheVariants as signed
+use Rattle.decl_rules.specs.declared.forms.Listed.{Listed}
+use Rattle.decl_rules.specs.declared.forms.Listed.TheVariants as listed
 use Rattle.decl_rules.specs.declared.forms.Line.{Line}
 use Rattle.decl_rules.specs.declared.forms.Line.TheVariants as line
-use Rattle.decl_rules.specs.Forms.{simple_form, member_form, whole_form, line_form}
+use Rattle.decl_rules.specs.Forms.{simple_form, member_form, signed_form, listed_form, line_form}
 use Rattle.decl_rules.specs.Types.{star_rule, pointing_rule, slice_rule, chan_rule, map_rule, array_rule, same_rule}
 use Rattle.decl_rules.specs.Signatures.{signature_rule}
 use Rattle.decl_rules.specs.Receivers.{list_rule}
@@ -80,14 +82,16 @@ member_of u at node p member.EmbeddedPointer = member_rule u at (pointing_rule p
 abbrev pub method_rule : Unit → ℕ → NodeRef → Node → Rule
 method_rule u block at node = member_rule u at (signature_rule u block (nodes_at u at.file) node 1)
 
-abbrev pub whole_rule : Unit → ℕ → NodeRef → Node → List Part → Whole → Rule
-whole_rule u block at node ps whole.FuncType = signature_rule u block (nodes_at u at.file) node 0
-whole_rule u block at node ps whole.FuncDecl = signature_rule u block (nodes_at u at.file) node 1
-whole_rule u block at node ps whole.MethodDecl = signature_rule u block (nodes_at u at.file) node 2
-whole_rule u block at node ps whole.Method = method_rule u block at node
-whole_rule u block at node ps whole.Params = list_rule u at node ps
-whole_rule u block at node ps whole.Struct = struct_rule u at.file node ps
-whole_rule u block at node ps whole.Interface = interface_rule u at.file node ps
+abbrev pub signed_rule : Unit → ℕ → NodeRef → Node → Signed → Rule
+signed_rule u block at node signed.FuncType = signature_rule u block (nodes_at u at.file) node 0
+signed_rule u block at node signed.FuncDecl = signature_rule u block (nodes_at u at.file) node 1
+signed_rule u block at node signed.MethodDecl = signature_rule u block (nodes_at u at.file) node 2
+signed_rule u block at node signed.Method = method_rule u block at node
+
+abbrev pub listed_rule : Unit → NodeRef → Node → List Part → Listed → Rule
+listed_rule u at node ps listed.Params = list_rule u at node ps
+listed_rule u at node ps listed.Struct = struct_rule u at.file node ps
+listed_rule u at node ps listed.Interface = interface_rule u at.file node ps
 
 -- ---- declarations
 
@@ -123,9 +127,12 @@ or_line u at node ps = option_map_or (line_of u at node ps) (line_form node.kind
 abbrev pub or_member : Unit → NodeRef → Node → List Part → Rule
 or_member u at node ps = option_map_or (in_member u at node ps) (member_form node.kind) (or_line u at node ps)
 
-abbrev pub or_whole : Unit → ℕ → NodeRef → Node → List Part → Rule
-or_whole u block at node ps = option_map_or (whole_rule u block at node ps) (whole_form node.kind) (or_member u at node ps)
+abbrev pub or_listed : Unit → NodeRef → Node → List Part → Rule
+or_listed u at node ps = option_map_or (listed_rule u at node ps) (listed_form node.kind) (or_member u at node ps)
+
+abbrev pub or_signed : Unit → ℕ → NodeRef → Node → List Part → Rule
+or_signed u block at node ps = option_map_or (signed_rule u block at node) (signed_form node.kind) (or_listed u at node ps)
 
 -- The rule of a type expression or a declaration, from its parts.
 abbrev pub decl_rule : Unit → ℕ → NodeRef → Node → List Part → Wanted → Rule
-decl_rule u block at node ps w = option_map_or (simple_of ps) (simple_form node.kind) (or_whole u block at node ps)
+decl_rule u block at node ps w = option_map_or (simple_of ps) (simple_form node.kind) (or_signed u block at node ps)

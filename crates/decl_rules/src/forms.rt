@@ -1,6 +1,6 @@
 //! What nodes are to the rules of type expressions and declarations.
 ghost use Rattle.std.specs.Prelude.{◌≡◌};
-ghost use Rattle.decl_rules.specs.Forms.{simple_form, member_form, whole_form, line_form};
+ghost use Rattle.decl_rules.specs.Forms.{simple_form, member_form, signed_form, listed_form, line_form, named_form, valuing_form};
 
 use go_tree::NodeKind;
 use type_model::Dir;
@@ -27,14 +27,19 @@ pub enum Member {
     EmbeddedPointer,
 }
 
-/// What lists its parts, or has a signature.
+/// What has a signature.
 #[derive(Clone, Copy, PartialEq, Eq, Drop)]
-pub enum Whole {
+pub enum Signed {
     FuncType,
     FuncDecl,
     MethodDecl,
     /// A method of an interface.
     Method,
+}
+
+/// What makes a list of its parts.
+#[derive(Clone, Copy, PartialEq, Eq, Drop)]
+pub enum Listed {
     Params,
     Struct,
     Interface,
@@ -51,6 +56,33 @@ pub enum Line {
     Import,
     /// One that has no test of its own.
     Plain,
+}
+
+/// Around a name: what its object is.
+#[derive(Clone, Copy, PartialEq, Eq, Drop)]
+pub enum Named {
+    Constant,
+    /// A variable whose type is written.
+    Typed,
+    /// A variable that has the type of its value.
+    Valued,
+    Param,
+    Function,
+    Defined,
+    Alias,
+}
+
+/// Around a value: what wants it.
+#[derive(Clone, Copy, PartialEq, Eq, Drop)]
+pub enum Valuing {
+    Star,
+    Array,
+    Constants,
+    /// Constants of a type that is written.
+    TypedConstants,
+    Variables,
+    /// Variables of a type that is written.
+    TypedVariables,
 }
 
 pub fn simple_form(kind: NodeKind) -> Option<Simple>
@@ -82,17 +114,25 @@ pub fn member_form(kind: NodeKind) -> Option<Member>
     }
 }
 
-pub fn whole_form(kind: NodeKind) -> Option<Whole>
-    ensures { result ≡ whole_form kind }
+pub fn signed_form(kind: NodeKind) -> Option<Signed>
+    ensures { result ≡ signed_form kind }
 {
     match kind {
-        NodeKind::FuncType => Some(Whole::FuncType),
-        NodeKind::FuncDecl => Some(Whole::FuncDecl),
-        NodeKind::MethodDecl => Some(Whole::MethodDecl),
-        NodeKind::Method => Some(Whole::Method),
-        NodeKind::Params => Some(Whole::Params),
-        NodeKind::StructType => Some(Whole::Struct),
-        NodeKind::InterfaceType => Some(Whole::Interface),
+        NodeKind::FuncType => Some(Signed::FuncType),
+        NodeKind::FuncDecl => Some(Signed::FuncDecl),
+        NodeKind::MethodDecl => Some(Signed::MethodDecl),
+        NodeKind::Method => Some(Signed::Method),
+        _ => None,
+    }
+}
+
+pub fn listed_form(kind: NodeKind) -> Option<Listed>
+    ensures { result ≡ listed_form kind }
+{
+    match kind {
+        NodeKind::Params => Some(Listed::Params),
+        NodeKind::StructType => Some(Listed::Struct),
+        NodeKind::InterfaceType => Some(Listed::Interface),
         _ => None,
     }
 }
@@ -120,6 +160,40 @@ pub fn line_form(kind: NodeKind) -> Option<Line>
         NodeKind::TypeGroup => Some(Line::Plain),
         NodeKind::Import => Some(Line::Plain),
         NodeKind::ImportGroup => Some(Line::Plain),
+        _ => None,
+    }
+}
+
+pub fn named_form(kind: NodeKind) -> Option<Named>
+    ensures { result ≡ named_form kind }
+{
+    match kind {
+        NodeKind::ConstNames => Some(Named::Constant),
+        NodeKind::ConstValues => Some(Named::Constant),
+        NodeKind::ConstTyped => Some(Named::Constant),
+        NodeKind::VarTyped => Some(Named::Typed),
+        NodeKind::VarTypedValues => Some(Named::Typed),
+        NodeKind::VarValues => Some(Named::Valued),
+        NodeKind::Param => Some(Named::Param),
+        NodeKind::SpreadParam => Some(Named::Param),
+        NodeKind::FuncDecl => Some(Named::Function),
+        NodeKind::MethodDecl => Some(Named::Function),
+        NodeKind::Defined => Some(Named::Defined),
+        NodeKind::Alias => Some(Named::Alias),
+        _ => None,
+    }
+}
+
+pub fn valuing_form(kind: NodeKind) -> Option<Valuing>
+    ensures { result ≡ valuing_form kind }
+{
+    match kind {
+        NodeKind::Star => Some(Valuing::Star),
+        NodeKind::ArrayType => Some(Valuing::Array),
+        NodeKind::ConstValues => Some(Valuing::Constants),
+        NodeKind::ConstTyped => Some(Valuing::TypedConstants),
+        NodeKind::VarValues => Some(Valuing::Variables),
+        NodeKind::VarTypedValues => Some(Valuing::TypedVariables),
         _ => None,
     }
 }

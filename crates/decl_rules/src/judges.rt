@@ -9,11 +9,14 @@ ghost use Rattle.rule_words.specs.Steps.{step_in, IsStepOf};
 ghost use Rattle.rule_words.specs.Wanting.{wanted_of, IsWantedOf};
 ghost use Rattle.decl_rules.specs.Specifications.{member_rule};
 ghost use Rattle.decl_rules.specs.Types.{same_rule, pointing_rule};
-ghost use Rattle.decl_rules.specs.Rules.{decl_rule, simple_rule, simple_of, member_of, in_member, method_rule, whole_rule, limited, import_rule, line_rule, line_of, or_line, or_member, or_whole};
+ghost use Rattle.decl_rules.specs.Rules.{decl_rule, simple_rule, simple_of, member_of, in_member, method_rule, signed_rule, listed_rule, limited, import_rule, line_rule, line_of, or_line, or_member, or_listed, or_signed};
 
 use crate::declared::{constants, is_fit, nothing, variables};
 use crate::fields::field;
-use crate::forms::{Line, Member, Simple, Whole, line_form, member_form, simple_form, whole_form};
+use crate::forms::{
+    Line, Listed, Member, Signed, Simple, line_form, listed_form, member_form, signed_form,
+    simple_form,
+};
 use crate::good::{beyond, broken, part_at, silent};
 use crate::interfaces::interface;
 use crate::receivers::list;
@@ -123,32 +126,68 @@ fn method(
     Ok(step)
 }
 
-fn of_whole(
+fn of_signed(
     alloc: Global,
     u: &Subject,
     s: &State,
     block: usize,
     at: NodeRef,
     node: &Node,
-    parts: &[Seen],
-    form: Whole,
+    form: Signed,
 ) -> Result<Step, NoMemory>
-    requires scene { IsScene u.now s.now }
-    requires parts { AreSeenOf s.now parts.now }
-    ensures is { IfOk result (λ step. step_in s.now step ≡ tell (so_far s.now) (whole_rule (unit_of u.now) block at node.now (parts_in s.now parts.now) form)) }
+    requires { IsScene u.now s.now }
+    ensures is { IfOk result (λ step. step_in s.now step ≡ tell (so_far s.now) (signed_rule (unit_of u.now) block at node.now form)) }
     ensures over { IfOk result (IsStepOf s.now) }
 {
     let nodes = u.nodes_at(at.file);
-    let step = match form {
-        Whole::FuncType => judge_signature(alloc, u, s, block, nodes, node, 0)?,
-        Whole::FuncDecl => judge_signature(alloc, u, s, block, nodes, node, 1)?,
-        Whole::MethodDecl => judge_signature(alloc, u, s, block, nodes, node, 2)?,
-        Whole::Method => method(alloc, u, s, block, at, node)?,
-        Whole::Params => list(alloc, u, s, at, node, parts)?,
-        Whole::Struct => structure(alloc, u, s, at.file, node, parts)?,
-        Whole::Interface => interface(alloc, u, s, at.file, node, parts)?,
-    };
-    Ok(step)
+    match form {
+        Signed::FuncType => {
+            let step = judge_signature(alloc, u, s, block, nodes, node, 0)?;
+            Ok(step)
+        }
+        Signed::FuncDecl => {
+            let step = judge_signature(alloc, u, s, block, nodes, node, 1)?;
+            Ok(step)
+        }
+        Signed::MethodDecl => {
+            let step = judge_signature(alloc, u, s, block, nodes, node, 2)?;
+            Ok(step)
+        }
+        Signed::Method => {
+            let step = method(alloc, u, s, block, at, node)?;
+            Ok(step)
+        }
+    }
+}
+
+fn of_listed(
+    alloc: Global,
+    u: &Subject,
+    s: &State,
+    at: NodeRef,
+    node: &Node,
+    parts: &[Seen],
+    form: Listed,
+) -> Result<Step, NoMemory>
+    requires scene { IsScene u.now s.now }
+    requires parts { AreSeenOf s.now parts.now }
+    ensures is { IfOk result (λ step. step_in s.now step ≡ tell (so_far s.now) (listed_rule (unit_of u.now) at node.now (parts_in s.now parts.now) form)) }
+    ensures over { IfOk result (IsStepOf s.now) }
+{
+    match form {
+        Listed::Params => {
+            let step = list(alloc, u, s, at, node, parts)?;
+            Ok(step)
+        }
+        Listed::Struct => {
+            let step = structure(alloc, u, s, at.file, node, parts)?;
+            Ok(step)
+        }
+        Listed::Interface => {
+            let step = interface(alloc, u, s, at.file, node, parts)?;
+            Ok(step)
+        }
+    }
 }
 
 fn limited(s: &State, limit: Option<Limit>) -> Step
@@ -222,7 +261,29 @@ fn or_member(u: &Subject, s: &State, at: NodeRef, node: &Node, parts: &[Seen]) -
     }
 }
 
-fn or_whole(
+fn or_listed(
+    alloc: Global,
+    u: &Subject,
+    s: &State,
+    at: NodeRef,
+    node: &Node,
+    parts: &[Seen],
+) -> Result<Step, NoMemory>
+    requires scene { IsScene u.now s.now }
+    requires parts { AreSeenOf s.now parts.now }
+    ensures is { IfOk result (λ step. step_in s.now step ≡ tell (so_far s.now) (or_listed (unit_of u.now) at node.now (parts_in s.now parts.now))) }
+    ensures over { IfOk result (IsStepOf s.now) }
+{
+    match listed_form(node.kind) {
+        Some(form) => {
+            let step = of_listed(alloc, u, s, at, node, parts, form)?;
+            Ok(step)
+        }
+        None => Ok(or_member(u, s, at, node, parts)),
+    }
+}
+
+fn or_signed(
     alloc: Global,
     u: &Subject,
     s: &State,
@@ -233,15 +294,18 @@ fn or_whole(
 ) -> Result<Step, NoMemory>
     requires scene { IsScene u.now s.now }
     requires parts { AreSeenOf s.now parts.now }
-    ensures is { IfOk result (λ step. step_in s.now step ≡ tell (so_far s.now) (or_whole (unit_of u.now) block at node.now (parts_in s.now parts.now))) }
+    ensures is { IfOk result (λ step. step_in s.now step ≡ tell (so_far s.now) (or_signed (unit_of u.now) block at node.now (parts_in s.now parts.now))) }
     ensures over { IfOk result (IsStepOf s.now) }
 {
-    match whole_form(node.kind) {
+    match signed_form(node.kind) {
         Some(form) => {
-            let step = of_whole(alloc, u, s, block, at, node, parts, form)?;
+            let step = of_signed(alloc, u, s, block, at, node, form)?;
             Ok(step)
         }
-        None => Ok(or_member(u, s, at, node, parts)),
+        None => {
+            let step = or_listed(alloc, u, s, at, node, parts)?;
+            Ok(step)
+        }
     }
 }
 
@@ -266,7 +330,7 @@ pub fn judge_decl(
     match simple_form(node.kind) {
         Some(form) => Ok(of_simple(s, form, parts)),
         None => {
-            let step = or_whole(alloc, u, s, block, at, node, parts)?;
+            let step = or_signed(alloc, u, s, block, at, node, parts)?;
             Ok(step)
         }
     }

@@ -10,9 +10,10 @@ ghost use Rattle.typed_marks.specs.States.{so_far};
 ghost use Rattle.unit_read.specs.Subjects.{unit_of, IsRead};
 ghost use Rattle.rule_words.specs.Scenes.{IsScene, told_by, IfFound, said, IsMarkOf};
 ghost use Rattle.decl_rules.specs.Good.{known_of, AreFactsOf};
-ghost use Rattle.decl_rules.specs.Wants.{is_type_slot, assigned_to, wish_by, file_of, wants, stands_for_several, value_demand, nodes_of_block, declares_names, written_wants, star_demand, star_wants, value_wants, decl_wants};
+ghost use Rattle.decl_rules.specs.Wants.{is_type_slot, assigned_to, wish_by, file_of, wants, stands_for_several, value_demand, nodes_of_block, declares_names, written_wants, star_demand, star_wants, value_wants, or_value, decl_wants};
 
 use crate::declared::is_several;
+use crate::forms::{Valuing, valuing_form};
 use crate::good::{basic_type, known};
 use crate::types::is_type;
 use go_tree::{Node, NodeKind};
@@ -128,7 +129,12 @@ fn star_demand(demand: Demand) -> Demand
 {
     match demand {
         Demand::Type => Demand::Type,
-        _ => Demand::Operand,
+        Demand::Inside => Demand::Inside,
+        Demand::Nothing => Demand::Operand,
+        Demand::Owner => Demand::Operand,
+        Demand::Operand => Demand::Operand,
+        Demand::Count => Demand::Operand,
+        Demand::Constant => Demand::Operand,
     }
 }
 
@@ -207,21 +213,38 @@ fn freely(s: &State, p: Place, demand: Demand) -> Found<Mark, Item>
     }
 }
 
-fn value(u: &Subject, s: &State, block: usize, p: Place, around: &Node) -> Found<Mark, Item>
+fn value(
+    u: &Subject,
+    s: &State,
+    block: usize,
+    p: Place,
+    around: &Node,
+    form: Valuing,
+) -> Found<Mark, Item>
     requires { IsScene u.now s.now }
-    ensures is { told_by (said s.now) result ≡ tell (so_far s.now) (value_wants (unit_of u.now) block p around.now.kind around.now) }
+    ensures is { told_by (said s.now) result ≡ tell (so_far s.now) (value_wants (unit_of u.now) block p around.now form) }
     ensures over { IfFound result (IsMarkOf s.now) }
 {
-    match around.kind {
-        NodeKind::Star => star(u, s, block, p.around),
-        NodeKind::ArrayType => wants(Demand::Operand, Want::Takes(basic_type(s, Kind::Int))),
-        NodeKind::ConstValues => freely(s, p, Demand::Constant),
-        NodeKind::ConstTyped => assigned(u, s, block, p, Demand::Constant, around),
-        NodeKind::VarValues => freely(s, p, block_demand(u, block, around, 1)),
-        NodeKind::VarTypedValues => {
+    match form {
+        Valuing::Star => star(u, s, block, p.around),
+        Valuing::Array => wants(Demand::Operand, Want::Takes(basic_type(s, Kind::Int))),
+        Valuing::Constants => freely(s, p, Demand::Constant),
+        Valuing::TypedConstants => assigned(u, s, block, p, Demand::Constant, around),
+        Valuing::Variables => freely(s, p, block_demand(u, block, around, 1)),
+        Valuing::TypedVariables => {
             assigned(u, s, block, p, block_demand(u, block, around, 2), around)
         }
-        _ => wants(Demand::Nothing, Want::Free),
+    }
+}
+
+fn or_value(u: &Subject, s: &State, block: usize, p: Place, around: &Node) -> Found<Mark, Item>
+    requires { IsScene u.now s.now }
+    ensures is { told_by (said s.now) result ≡ tell (so_far s.now) (or_value (unit_of u.now) block p around.now) }
+    ensures over { IfFound result (IsMarkOf s.now) }
+{
+    match valuing_form(around.kind) {
+        Some(form) => value(u, s, block, p, around, form),
+        None => wants(Demand::Nothing, Want::Free),
     }
 }
 
@@ -234,7 +257,7 @@ pub fn want_decl(u: &Subject, s: &State, block: usize, p: Place, around: &Node) 
     if is_type_slot(around.kind, p.slot) {
         wants(Demand::Type, Want::Free)
     } else {
-        value(u, s, block, p, around)
+        or_value(u, s, block, p, around)
     }
 }
 
