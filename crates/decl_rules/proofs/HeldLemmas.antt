@@ -1,14 +1,15 @@
 -- Types that wait to be taken apart.
 use Rattle.std.proofs.Common.{◌≡◌, ℕ, ◌+◌, ◌<◌, ◌≤◌, List, [], ◌∷◌, ◌++◌, map, Option, Some, None, refl, sym, ap, ◌∙◌, subst, append_assoc, arith}
-use Rattle.std.specs.List.{All}
-use Rattle.std.proofs.lemmas.List.Elements.{All-append, All-map, All-weaker}
+use Rattle.std.proofs.lemmas.List.Elements.{All-nil, All-cons, All-head, All-tail, All-append, All-weaker}
 use Rattle.mark_walk.specs.Asks.{bind}
 use Rattle.mark_walk.specs.Telling.{Outcome, Says, Waits, tell}
 use Rattle.mark_walk.proofs.TellLaws.{told_bind}
 use Rattle.type_model.specs.declared.term.TypeId.{TypeId}
 use Rattle.type_model.specs.declared.term.TypeName.{TypeName}
 use Rattle.type_model.specs.declared.term.Field.{Field}
-use Rattle.type_model.specs.GoTypes.{GoType, GoSignature, GoFields, BasicType, DefinedType, PointerTo, SliceOf, ArrayOf, MapOf, ChanOf, FuncOf, StructOf, InterfaceOf, From, NoField, AndField, type_at, fields_of, nodes, signature_nodes, field_nodes, AreBelow, FieldsBelow}
+use Rattle.type_model.specs.declared.term.Term.{Term}
+use Rattle.type_model.specs.declared.term.Term.TheVariants.{Array, Struct}
+use Rattle.type_model.specs.GoTypes.{GoType, GoSignature, GoFields, BasicType, DefinedType, PointerTo, SliceOf, ArrayOf, MapOf, ChanOf, FuncOf, StructOf, InterfaceOf, From, NoField, AndField, type_at, fields_of, nodes, signature_nodes, field_nodes, IsOver, AreBelow, FieldsBelow}
 use Rattle.type_questions.specs.Questions.{Question, Told}
 use Rattle.typed_marks.specs.declared.item.Item.{Item}
 use Rattle.typed_marks.specs.Meanings.{Meaning}
@@ -139,3 +140,23 @@ popped types ids rest id is = ap stack_names (types_push types rest ids id is) �
 pub popped_weight : (types : List GoType) (ids rest : List TypeId) (id : TypeId) → ids ≡ rest ++ id ∷ []
     → weight (map (λ (i : TypeId). type_at types i) ids) ≡ nodes (type_at types id) + weight (map (λ (i : TypeId). type_at types i) rest)
 popped_weight types ids rest id is = ap weight (types_push types rest ids id is) ∙ weight_push (map (λ (i : TypeId). type_at types i) rest) (type_at types id)
+
+-- ---- numbers below
+
+pub element_below : (u n : ℕ) (term : Term) (size : ℕ) (part : TypeId) → IsOver u term → u < n → term ≡ Array size part → part.0 < n
+element_below u n term size part over low is = let there : part.0 < u = subst (λ (x : Term). IsOver u x) is over in omega arith
+
+pub fields_below : (u n : ℕ) (term : Term) (fields list : List Field) → IsOver u term → u < n → term ≡ Struct fields → list ≡ fields → FieldsBelow n list
+fields_below u n term fields list over low is same =
+    let there : FieldsBelow u fields = subst (λ (x : Term). IsOver u x) is over in
+    subst (λ (l : List Field). FieldsBelow n l) (sym same) (All-weaker (λ (f : Field). f.of.0 < u) (λ (f : Field). f.of.0 < n) (λ f less. omega arith) fields there)
+
+field_ids : (n : ℕ) (fields : List Field) → FieldsBelow n fields → AreBelow n (map (λ (f : Field). f.of) fields)
+field_ids n [] all = All-nil (λ (x : TypeId). x.0 < n)
+field_ids n (f ∷ fields) all =
+    All-cons (λ (x : TypeId). x.0 < n) f.of (map (λ (g : Field). g.of) fields) (All-head (λ (g : Field). g.of.0 < n) f fields all)
+    (field_ids n fields (All-tail (λ (g : Field). g.of.0 < n) f fields all))
+
+pub fields_over : (n : ℕ) (fields : List Field) (ids new : List TypeId) → FieldsBelow n fields → AreBelow n ids → new ≡ ids ++ map (λ (f : Field). f.of) fields → AreBelow n new
+fields_over n fields ids new low below more =
+    subst (λ (l : List TypeId). AreBelow n l) (sym more) (All-append (λ (x : TypeId). x.0 < n) ids (map (λ (f : Field). f.of) fields) below (field_ids n fields low))

@@ -37,7 +37,7 @@ inserted s (e ∷ es) k v = by (key_cmp k e.0) (inserted s es k v) where
   by : (c : Ordering) → entries_in s (insert_entry key_cmp es k v) ≡ insert_entry name_cmp (entries_in s es) (k.0.now, k.1.now) (method_in s v.now)
       → entries_in s (match_ordering c ((k, v) ∷ e ∷ es) ((e.0, v) ∷ es) (e ∷ insert_entry key_cmp es k v))
       ≡ match_ordering c (((k.0.now, k.1.now), method_in s v.now) ∷ entry_in s e ∷ entries_in s es) (((e.0.0.now, e.0.1.now), method_in s v.now) ∷ entries_in s es)
-          (entry_in s e ∷ insert_entry name_cmp (entries_in s es) (k.0.now, k.1.now) (method_in s v.now))
+      (entry_in s e ∷ insert_entry name_cmp (entries_in s es) (k.0.now, k.1.now) (method_in s v.now))
   by Less rest = refl
   by Equal rest = refl
   by Greater rest = ap (λ (l : List (Named × GoMethod)). entry_in s e ∷ l) rest

@@ -3,6 +3,7 @@ pub mod Elements
 pub mod Forms
 pub mod Good
 pub mod Held
+pub mod Holdings
 pub mod Interfaces
 pub mod Members
 pub mod Objects

@@ -3,11 +3,12 @@ ghost use Rattle.std.specs.Prelude.{◌≡◌, ◌<◌, ◌+◌, ◌++◌, ◌�
 ghost use Rattle.type_model.specs.declared.term.Field.{Field};
 ghost use Rattle.type_model.specs.declared.term.TypeName.{TypeName};
 ghost use Rattle.type_model.specs.GoTypes.{AreBelow, DefinedType, nodes};
-ghost use Rattle.type_model.specs.Tables.{count};
+ghost use Rattle.type_model.specs.Tables.{IsTable, count};
 ghost use Rattle.typed_marks.specs.States.{so_far};
 ghost use Rattle.unit_read.specs.Subjects.{unit_of};
 ghost use Rattle.rule_words.specs.Scenes.{IsScene, type_in, IsTypeOf};
 ghost use Rattle.decl_rules.specs.Held.{held_names, stack_names, weight, ComesTo};
+ghost use Rattle.decl_rules.specs.Holdings.{IsHeldBy};
 
 use gv_base::NoMemory;
 use rule_words::under_of;
@@ -45,11 +46,40 @@ fn push_fields(list: &mut Vec<TypeId>, fields: &[Field]) -> Result<(), NoMemory>
 fn pending(u: &Subject, s: &State, of: TypeId) -> Option<Item>
     requires scene { IsScene u.now s.now }
     requires within { IsTypeOf s.now of }
-    ensures { (name : TypeName) (names : List TypeName) → type_in s.now of ≡ DefinedType name → ComesTo (unit_of u.now) (so_far s.now) (name ∷ names) names result }
+    ensures comes { (name : TypeName) (names : List TypeName) → type_in s.now of ≡ DefinedType name → ComesTo (unit_of u.now) (so_far s.now) (name ∷ names) names result }
 {
     match under_of(u, s, of) {
         Found::Is(_) => None,
         Found::Wait(item) => Some(item),
+    }
+}
+
+/// What a type holds at once.
+#[derive(Clone, Copy, Drop)]
+pub enum Holds<'a> {
+    /// It is a defined type.
+    Name,
+    Element(TypeId),
+    Fields(&'a [Field]),
+    Nothing,
+}
+
+fn holds(s: &State, of: TypeId) -> Holds<'_>
+    requires table { IsTable s.now.table }
+    requires within { IsTypeOf s.now of }
+    ensures { IsHeldBy s.now of result }
+{
+    match s.table.term(of) {
+        Term::Defined(_) => Holds::Name,
+        Term::Array(_, part) => Holds::Element(*part),
+        Term::Struct(fields) => Holds::Fields(fields.as_slice()),
+        Term::Basic(_) => Holds::Nothing,
+        Term::Pointer(_) => Holds::Nothing,
+        Term::Slice(_) => Holds::Nothing,
+        Term::Map(_, _) => Holds::Nothing,
+        Term::Chan(_, _) => Holds::Nothing,
+        Term::Func(_) => Holds::Nothing,
+        Term::Interface(_) => Holds::Nothing,
     }
 }
 
@@ -67,23 +97,17 @@ fn take_apart(
     ensures below { OnOk result (AreBelow (count s.now.table) list.new.items) }
     ensures less { OnOk result (weight (map (type_in s.now) list.new.items) < nodes (type_in s.now of) + weight (map (type_in s.now) list.old.items)) }
 {
-    match s.table.term(of) {
-        Term::Defined(_) => Ok(pending(u, s, of)),
-        Term::Array(_, part) => {
-            push(list, *part)?;
+    match holds(s, of) {
+        Holds::Name => Ok(pending(u, s, of)),
+        Holds::Element(part) => {
+            push(list, part)?;
             Ok(None)
         }
-        Term::Struct(fields) => {
-            push_fields(list, fields.as_slice())?;
+        Holds::Fields(fields) => {
+            push_fields(list, fields)?;
             Ok(None)
         }
-        Term::Basic(_) => Ok(None),
-        Term::Pointer(_) => Ok(None),
-        Term::Slice(_) => Ok(None),
-        Term::Map(_, _) => Ok(None),
-        Term::Chan(_, _) => Ok(None),
-        Term::Func(_) => Ok(None),
-        Term::Interface(_) => Ok(None),
+        Holds::Nothing => Ok(None),
     }
 }
 

@@ -55,10 +55,7 @@ fn push_copy(alloc: Global, m: &Method, out: &mut Vec<Method>) -> Result<(), NoM
     Ok(())
 }
 
-fn listed(
-    alloc: Global,
-    names: &BTreeMap<(&str, &str), &Method>,
-) -> Result<Vec<Method>, NoMemory>
+fn listed(alloc: Global, names: &BTreeMap<(&str, &str), &Method>) -> Result<Vec<Method>, NoMemory>
     ensures are { IfOk result (λ v. v.items ≡ listed_methods names.now.entries) }
     ensures ordered { IsOrdered key_cmp names.now }
 {

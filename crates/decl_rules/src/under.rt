@@ -104,13 +104,7 @@ fn underlying(
     }
 }
 
-fn named(
-    alloc: Global,
-    u: &Subject,
-    s: &State,
-    of: TypeId,
-    m: Mark,
-) -> Result<Declaring, NoMemory>
+fn named(alloc: Global, u: &Subject, s: &State, of: TypeId, m: Mark) -> Result<Declaring, NoMemory>
     requires scene { IsScene u.now s.now }
     requires own { IsTypeOf s.now of }
     requires mark { IsMarkOf s.now m }
@@ -192,13 +186,7 @@ fn written_at(
     }
 }
 
-fn own(
-    alloc: Global,
-    u: &Subject,
-    s: &State,
-    name: NodeRef,
-    m: Mark,
-) -> Result<Declaring, NoMemory>
+fn own(alloc: Global, u: &Subject, s: &State, name: NodeRef, m: Mark) -> Result<Declaring, NoMemory>
     requires scene { IsScene u.now s.now }
     requires mark { IsMarkOf s.now m }
     ensures is { IfOk result (λ o. declaring_in s.now o ≡ tell (so_far s.now) (own_rule (unit_of u.now) name (said s.now m))) }
