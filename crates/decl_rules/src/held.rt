@@ -56,7 +56,7 @@ fn pending(u: &Subject, s: &State, of: TypeId) -> Option<Item>
 
 /// What a type holds at once.
 #[derive(Clone, Copy, Drop)]
-pub enum Holds<'a> {
+pub enum Holding<'a> {
     /// It is a defined type.
     Name,
     Element(TypeId),
@@ -64,22 +64,22 @@ pub enum Holds<'a> {
     Nothing,
 }
 
-fn holds(s: &State, of: TypeId) -> Holds<'_>
+fn holds(s: &State, of: TypeId) -> Holding<'_>
     requires table { IsTable s.now.table }
     requires within { IsTypeOf s.now of }
     ensures { IsHeldBy s.now of result }
 {
     match s.table.term(of) {
-        Term::Defined(_) => Holds::Name,
-        Term::Array(_, part) => Holds::Element(*part),
-        Term::Struct(fields) => Holds::Fields(fields.as_slice()),
-        Term::Basic(_) => Holds::Nothing,
-        Term::Pointer(_) => Holds::Nothing,
-        Term::Slice(_) => Holds::Nothing,
-        Term::Map(_, _) => Holds::Nothing,
-        Term::Chan(_, _) => Holds::Nothing,
-        Term::Func(_) => Holds::Nothing,
-        Term::Interface(_) => Holds::Nothing,
+        Term::Defined(_) => Holding::Name,
+        Term::Array(_, part) => Holding::Element(*part),
+        Term::Struct(fields) => Holding::Fields(fields.as_slice()),
+        Term::Basic(_) => Holding::Nothing,
+        Term::Pointer(_) => Holding::Nothing,
+        Term::Slice(_) => Holding::Nothing,
+        Term::Map(_, _) => Holding::Nothing,
+        Term::Chan(_, _) => Holding::Nothing,
+        Term::Func(_) => Holding::Nothing,
+        Term::Interface(_) => Holding::Nothing,
     }
 }
 
@@ -98,16 +98,16 @@ fn take_apart(
     ensures less { OnOk result (weight (map (type_in s.now) list.new.items) < nodes (type_in s.now of) + weight (map (type_in s.now) list.old.items)) }
 {
     match holds(s, of) {
-        Holds::Name => Ok(pending(u, s, of)),
-        Holds::Element(part) => {
+        Holding::Name => Ok(pending(u, s, of)),
+        Holding::Element(part) => {
             push(list, part)?;
             Ok(None)
         }
-        Holds::Fields(fields) => {
+        Holding::Fields(fields) => {
             push_fields(list, fields)?;
             Ok(None)
         }
-        Holds::Nothing => Ok(None),
+        Holding::Nothing => Ok(None),
     }
 }
 

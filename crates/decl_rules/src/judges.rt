@@ -201,7 +201,7 @@ fn limited(s: &State, limit: Option<Limit>) -> Step
     }
 }
 
-fn import(u: &Subject, s: &State, at: NodeRef) -> Step
+fn judge_import(u: &Subject, s: &State, at: NodeRef) -> Step
     requires { IsScene u.now s.now }
     ensures is { step_in s.now result ≡ tell (so_far s.now) (import_rule (unit_of u.now) at) }
     ensures over { IsStepOf s.now result }
@@ -222,7 +222,7 @@ fn judge_line(u: &Subject, s: &State, at: NodeRef, node: &Node, p: Seen, form: L
         Line::Constants => constants(u, s, at, true),
         Line::Typed => constants(u, s, at, is_fit(s, p.under)),
         Line::Variables(i) => variables(s, u.nodes_at(at.file), part_of(node, 0), part_of(node, i)),
-        Line::Import => import(u, s, at),
+        Line::Import => judge_import(u, s, at),
         Line::Plain => nothing(s),
     }
 }
