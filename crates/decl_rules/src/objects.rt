@@ -88,17 +88,25 @@ fn alias(s: &State, m: Mark) -> Step
     }
 }
 
+fn variable_by(u: &Subject, s: &State, file: u32, n: u32) -> Step
+    requires { IsScene u.now s.now }
+    ensures is { step_in s.now result ≡ tell (so_far s.now) (placed_ask (unit_of u.now) file (Some n) variable_mark) }
+    ensures over { IsStepOf s.now result }
+{
+    match look(u, s, Stage::Placed, file as usize, n) {
+        Found::Is(m) => variable(s, m),
+        Found::Wait(item) => Step::Waits(item),
+    }
+}
+
 fn variable_at(u: &Subject, s: &State, file: u32, n: Option<u32>) -> Step
     requires { IsScene u.now s.now }
     ensures is { step_in s.now result ≡ tell (so_far s.now) (placed_ask (unit_of u.now) file n variable_mark) }
     ensures over { IsStepOf s.now result }
 {
-    let Some(n) = n else {
-        return silent();
-    };
-    match look(u, s, Stage::Placed, file as usize, n) {
-        Found::Is(m) => variable(s, m),
-        Found::Wait(item) => Step::Waits(item),
+    match n {
+        Some(n) => variable_by(u, s, file, n),
+        None => silent(),
     }
 }
 
@@ -113,16 +121,35 @@ fn function_at(u: &Subject, s: &State, file: u32, n: u32) -> Step
     }
 }
 
+fn valued_by(u: &Subject, s: &State, file: u32, n: u32) -> Step
+    requires { IsScene u.now s.now }
+    ensures is { step_in s.now result ≡ tell (so_far s.now) (placed_ask (unit_of u.now) file (Some n) valued_mark) }
+    ensures over { IsStepOf s.now result }
+{
+    match look(u, s, Stage::Placed, file as usize, n) {
+        Found::Is(m) => valued(s, m),
+        Found::Wait(item) => Step::Waits(item),
+    }
+}
+
 fn valued_at(u: &Subject, s: &State, file: u32, n: Option<u32>) -> Step
     requires { IsScene u.now s.now }
     ensures is { step_in s.now result ≡ tell (so_far s.now) (placed_ask (unit_of u.now) file n valued_mark) }
     ensures over { IsStepOf s.now result }
 {
-    let Some(n) = n else {
-        return silent();
-    };
+    match n {
+        Some(n) => valued_by(u, s, file, n),
+        None => silent(),
+    }
+}
+
+fn alias_by(u: &Subject, s: &State, file: u32, n: u32) -> Step
+    requires { IsScene u.now s.now }
+    ensures is { step_in s.now result ≡ tell (so_far s.now) (placed_ask (unit_of u.now) file (Some n) alias_mark) }
+    ensures over { IsStepOf s.now result }
+{
     match look(u, s, Stage::Placed, file as usize, n) {
-        Found::Is(m) => valued(s, m),
+        Found::Is(m) => alias(s, m),
         Found::Wait(item) => Step::Waits(item),
     }
 }
@@ -132,12 +159,9 @@ fn alias_at(u: &Subject, s: &State, file: u32, n: Option<u32>) -> Step
     ensures is { step_in s.now result ≡ tell (so_far s.now) (placed_ask (unit_of u.now) file n alias_mark) }
     ensures over { IsStepOf s.now result }
 {
-    let Some(n) = n else {
-        return silent();
-    };
-    match look(u, s, Stage::Placed, file as usize, n) {
-        Found::Is(m) => alias(s, m),
-        Found::Wait(item) => Step::Waits(item),
+    match n {
+        Some(n) => alias_by(u, s, file, n),
+        None => silent(),
     }
 }
 
