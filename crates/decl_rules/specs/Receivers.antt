@@ -88,6 +88,9 @@ is_receiver nodes p = p.slot == 0 && is_method_decl (kind_at nodes p.around)
 abbrev pub list_in : Unit → List Node → Node → List Part → Place → Rule
 list_in u nodes node ps p = if is_receiver nodes p then receiver_rule u nodes node ps else params_rule nodes node ps
 
+abbrev pub list_of : Unit → List Node → Node → List Part → Option Place → Rule
+list_of u nodes node ps place = option_map_or (list_in u nodes node ps) place (params_rule nodes node ps)
+
 -- A list of parameters. That of a receiver bears the mark of what is wrong with it; the parameter itself keeps its type.
 abbrev pub list_rule : Unit → NodeRef → Node → List Part → Rule
-list_rule u at node ps = option_map_or (list_in u (nodes_at u at.file) node ps) (place_at u at) (params_rule (nodes_at u at.file) node ps)
+list_rule u at node ps = list_of u (nodes_at u at.file) node ps (place_at u at)

@@ -11,7 +11,7 @@ ghost use Rattle.rule_words.specs.Asking.{under_ask};
 ghost use Rattle.rule_words.specs.Scenes.{IsScene, part_in, IsSeenOf, parts_in, AreSeenOf, type_in, IsTypeOf, MayBeTypeOf};
 ghost use Rattle.rule_words.specs.Steps.{step_in, IsStepOf};
 ghost use Rattle.decl_rules.specs.Good.{given, known_of, AreFactsOf};
-ghost use Rattle.decl_rules.specs.Receivers.{receiver_base, is_own, may_have_methods, is_single, based_on, with_base, base_ask, receiver_of, receiver_rule, is_method_decl, is_receiver, list_in, list_rule};
+ghost use Rattle.decl_rules.specs.Receivers.{receiver_base, is_own, may_have_methods, is_single, based_on, with_base, base_ask, receiver_of, receiver_rule, is_method_decl, is_receiver, list_in, list_of, list_rule};
 
 use crate::good::{broken, known, part_at, silent};
 use crate::params::{entry_count_at, params};
@@ -295,6 +295,32 @@ fn list_in(
     Ok(step)
 }
 
+fn list_of(
+    alloc: Global,
+    u: &Subject,
+    s: &State,
+    nodes: &[Node],
+    node: &Node,
+    parts: &[Seen],
+    place: Option<Place>,
+) -> Result<Step, NoMemory>
+    requires scene { IsScene u.now s.now }
+    requires parts { AreSeenOf s.now parts.now }
+    ensures is { IfOk result (λ step. step_in s.now step ≡ tell (so_far s.now) (list_of (unit_of u.now) nodes.now node.now (parts_in s.now parts.now) place)) }
+    ensures over { IfOk result (IsStepOf s.now) }
+{
+    match place {
+        Some(p) => {
+            let step = list_in(alloc, u, s, nodes, node, parts, p)?;
+            Ok(step)
+        }
+        None => {
+            let step = params(alloc, s, nodes, node, parts)?;
+            Ok(step)
+        }
+    }
+}
+
 /// A list of parameters.
 pub fn list(
     alloc: Global,
@@ -310,14 +336,7 @@ pub fn list(
     ensures over { IfOk result (IsStepOf s.now) }
 {
     let nodes = u.nodes_at(at.file);
-    match u.place_at(at) {
-        Some(p) => {
-            let step = list_in(alloc, u, s, nodes, node, parts, p)?;
-            Ok(step)
-        }
-        None => {
-            let step = params(alloc, s, nodes, node, parts)?;
-            Ok(step)
-        }
-    }
+    let place = u.place_at(at);
+    let step = list_of(alloc, u, s, nodes, node, parts, place)?;
+    Ok(step)
 }
