@@ -1,5 +1,5 @@
 -- Types that wait to be taken apart.
-use Rattle.std.proofs.Common.{◌≡◌, ℕ, ◌+◌, ◌<◌, ◌≤◌, List, [], ◌∷◌, ◌++◌, map, Option, Some, None, refl, sym, ap, ◌∙◌, subst, append_assoc, arith}
+use Rattle.std.proofs.Common.{◌≡◌, ℕ, ◌+◌, ◌<◌, ◌≤◌, List, [], ◌∷◌, ◌++◌, map, Option, Some, None, refl, sym, ap, ◌∙◌, subst, append_assoc, zero-add, arith}
 use Rattle.std.proofs.lemmas.List.Elements.{All-nil, All-cons, All-head, All-tail, All-append, All-weaker}
 use Rattle.mark_walk.specs.Asks.{bind}
 use Rattle.mark_walk.specs.Telling.{Outcome, Says, Waits, tell}
@@ -46,7 +46,7 @@ weight_push (x ∷ list) of = let e = weight_push list of in omega arith
 
 pub weight_fields : (types : List GoType) (list : List GoType) (fields : List Field)
     → weight (list ++ map (λ (f : Field). type_at types f.of) fields) ≡ field_nodes (fields_of types fields) + weight list
-weight_fields types list [] = ap weight (nil_last list)
+weight_fields types list [] = ap weight (nil_last list) ∙ sym (zero-add (weight list))
 weight_fields types list (f ∷ fields) =
     let a : weight (list ++ type_at types f.of ∷ map (λ (g : Field). type_at types g.of) fields) ≡ weight ((list ++ type_at types f.of ∷ []) ++ map (λ (g : Field). type_at types g.of) fields) =
     ap weight (sym (append_assoc list (type_at types f.of ∷ []) (map (λ (g : Field). type_at types g.of) fields))) in

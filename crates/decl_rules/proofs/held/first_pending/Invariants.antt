@@ -9,7 +9,7 @@ use Rattle.decl_rules.proofs.held.first_pending.Given as goal
 
 abbrev pub invariant-loop-top : goal.invariant-loop-top
 invariant-loop-top l = record {
-  comes : ComesTo (unit_of l.u) (so_far l.s) (held_names (type_in l.s l.of)) (stack_names (map (type_in l.s) l.list.items)) None;
+  comes : ComesTo (unit_of l.u) (so_far l.s) (held_names (type_in l.s l.fn.of)) (stack_names (map (type_in l.s) l.list.items)) None;
   below : AreBelow (count l.s.table) l.list.items;
 }
 
