@@ -1,6 +1,4 @@
 pub mod ListLemmas
 pub mod PartLemmas
 pub mod FieldLemmas
-pub mod MethodLemmas
-pub mod OrderLemmas
 pub mod HeldLemmas

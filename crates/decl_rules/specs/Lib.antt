@@ -1,5 +1,4 @@
 pub mod Declarings
-pub mod Elements
 pub mod Forms
 pub mod Good
 pub mod Held
