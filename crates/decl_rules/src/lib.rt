@@ -9,7 +9,6 @@ mod fields;
 mod forms;
 mod good;
 mod held;
-mod judges;
 mod objects;
 mod outcome;
 mod params;
@@ -26,7 +25,6 @@ mod wants;
 
 pub use declared::declared_name;
 pub use embedding::judge_embedding;
-pub use judges::judge_decl;
 pub use objects::judge_object;
 pub use outcome::Declaring;
 pub use reads::decl_reads;
