@@ -28,7 +28,11 @@ use Rattle.rule_words.specs.Parts.{Part, read_as}
 use Rattle.rule_words.specs.Asking.{Rule, mark_ask, part_ask, under_ask}
 use Rattle.rule_words.specs.Answers.{typed}
 use Rattle.rule_words.specs.Words.{need_type}
+use Rattle.decl_rules.specs.declared.forms.Named.{Named}
+use Rattle.decl_rules.specs.declared.forms.Named.TheVariants as named
+use Rattle.decl_rules.specs.Forms.{named_form}
 use Rattle.decl_rules.specs.Good.{given}
+use Rattle.decl_rules.specs.Held.{held_names, names_ask}
 use Rattle.decl_rules.specs.Types.{gives_type}
 use Rattle.decl_rules.specs.Signatures.{results_node}
 
@@ -111,24 +115,25 @@ defined_rule u name = option_map_or (λ n. gives_type (DefinedType n)) (type_nam
 
 -- ---- objects
 
-abbrev pub kind_rule : Unit → NodeRef → Place → NodeKind → Node → Rule
-kind_rule u name p k.ConstNames node = constant_rule u name p.index
-kind_rule u name p k.ConstValues node = constant_rule u name p.index
-kind_rule u name p k.ConstTyped node = constant_rule u name p.index
-kind_rule u name p k.VarTyped node = placed_ask u name.file (part node 1) variable_mark
-kind_rule u name p k.VarTypedValues node = placed_ask u name.file (part node 1) variable_mark
-kind_rule u name p k.VarValues node = placed_ask u name.file (value_node (nodes_at u name.file) node p.index) valued_mark
-kind_rule u name p k.Param node = placed_ask u name.file (Some p.around) variable_mark
-kind_rule u name p k.SpreadParam node = placed_ask u name.file (Some p.around) variable_mark
-kind_rule u name p k.FuncDecl node = placed_ask u name.file (Some p.around) function_mark
-kind_rule u name p k.MethodDecl node = placed_ask u name.file (Some p.around) function_mark
-kind_rule u name p k.Defined node = defined_rule u name
-kind_rule u name p k.Alias node = placed_ask u name.file (part node 1) alias_mark
-kind_rule u name p _ node = done Quiet
+abbrev pub form_rule : Unit → NodeRef → Place → Node → Named → Rule
+form_rule u name p node named.Constant = constant_rule u name p.index
+form_rule u name p node named.Typed = placed_ask u name.file (part node 1) variable_mark
+form_rule u name p node named.Valued = placed_ask u name.file (value_node (nodes_at u name.file) node p.index) valued_mark
+form_rule u name p node named.Param = placed_ask u name.file (Some p.around) variable_mark
+form_rule u name p node named.Function = placed_ask u name.file (Some p.around) function_mark
+form_rule u name p node named.Defined = defined_rule u name
+form_rule u name p node named.Alias = placed_ask u name.file (part node 1) alias_mark
 
-abbrev pub is_method : NodeKind → Bool
-is_method k.MethodDecl = true
-is_method _ = false
+abbrev pub kind_rule : Unit → NodeRef → Place → Node → Rule
+kind_rule u name p node = option_map_or (form_rule u name p node) (named_form node.kind) (done Quiet)
+
+-- a method, or an import, whose name is one of its file
+abbrev pub is_elsewhere : NodeKind → Bool
+is_elsewhere k.MethodDecl = true
+is_elsewhere k.Import = true
+is_elsewhere k.ImportGroup = true
+is_elsewhere k.ImportNamed = true
+is_elsewhere _ = false
 
 abbrev pub is_function : NodeKind → Bool
 is_function k.FuncDecl = true
@@ -150,16 +155,16 @@ abbrev pub refusal_of : Unit → NodeRef → Bool → Option RuleNumber
 refusal_of u name exempt =
     if u.redeclared name then Some REDECLARED else (if is_bad_init u name exempt then Some BAD_INIT else (if u.cyclic name then Some DECLARATION_CYCLE else None))
 
--- what a declaration of `init` may be: a function without parameters and results, or a method
+-- what a declaration of `init` may be: a function without parameters and results; a method or an import declares no name of the package
 abbrev pub is_exempt : List Node → NodeKind → Node → Bool
-is_exempt nodes kind node = is_method kind || is_plain_function nodes kind node (results_node nodes node 2)
+is_exempt nodes kind node = is_elsewhere kind || is_plain_function nodes kind node (results_node nodes node 2)
 
 abbrev pub unless_refused : Option RuleNumber → Rule → Rule
 unless_refused None rest = rest
 unless_refused (Some rule) rest = done (Wrong rule)
 
 abbrev pub object_in : Unit → NodeRef → Place → Node → Rule
-object_in u name p node = unless_refused (refusal_of u name (is_exempt (nodes_at u name.file) node.kind node)) (kind_rule u name p node.kind node)
+object_in u name p node = unless_refused (refusal_of u name (is_exempt (nodes_at u name.file) node.kind node)) (kind_rule u name p node)
 
 abbrev pub placed_object : Unit → NodeRef → Place → Rule
 placed_object u name p = option_map_or (object_in u name p) (node_at u (place name.file p.around)) (done Quiet)
@@ -177,15 +182,16 @@ written_in u file p = option_and_then (λ (node : Node). part node 1) (node_at u
 abbrev pub written_type : Unit → NodeRef → Option ℕ
 written_type u name = option_and_then (written_in u name.file) (place_at u name)
 
-abbrev pub declared_with : GoType → Rule
-declared_with of = done (Declares (record { under = of; methods = [] }))
+-- "A type .. may not contain itself": what it holds by value is declared before
+abbrev pub declared_with : Unit → GoType → Rule
+declared_with u of = names_ask u (held_names of) (done (Declares (record { under = of; methods = [] })))
 
-abbrev pub declaring : Option GoType → Rule
-declaring under = need_type under declared_with
+abbrev pub declaring : Unit → Option GoType → Rule
+declaring u under = need_type under (declared_with u)
 
 -- "Types": the underlying type is that of the type to which it refers in its declaration
 abbrev pub underlying_rule : Unit → Known → Rule
-underlying_rule u x = bind (under_ask u x.of) (λ under. declaring under)
+underlying_rule u x = bind (under_ask u x.of) (λ under. declaring u under)
 
 abbrev pub named_rule : Unit → Meaning → Rule
 named_rule u m = given m (λ x. underlying_rule u x)

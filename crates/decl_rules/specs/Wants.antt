@@ -1,11 +1,11 @@
 -- What the places in type expressions and declarations want (Go 1.17, "Types", "Declarations and scope").
-use Rattle.std.specs.Prelude.{ℕ, ◌==◌, nat_le, not, Bool, true, false, if◌then◌else◌, Option, Some, None}
+use Rattle.std.specs.Prelude.{ℕ, ◌==◌, ◌&&◌, nat_le, not, Bool, true, false, if◌then◌else◌, List, [], length, Option, Some, None}
 use Rattle.std.specs.Option.{option_map_or}
 use Rattle.gv_base.specs.declared.constant.Kind.TheVariants as kind
 use Rattle.go_tree.specs.declared.tree.Node.{Node}
 use Rattle.go_tree.specs.declared.tree.NodeKind.{NodeKind}
 use Rattle.go_tree.specs.declared.tree.NodeKind.TheVariants as k
-use Rattle.package_objects.specs.Declares.{part}
+use Rattle.package_objects.specs.Declares.{items, part}
 use Rattle.type_model.specs.GoTypes.{BasicType}
 use Rattle.mark_walk.specs.Asks.{done, bind}
 use Rattle.typed_tree.specs.Places.{is_type}
@@ -15,10 +15,14 @@ use Rattle.typed_marks.specs.declared.item.Stage.TheVariants as s
 use Rattle.typed_marks.specs.Meanings.{Known, Wish, Free, Takes, Assigned, Meaning, Wishes}
 use Rattle.unit_read.specs.declared.passage.Passage.{Passage}
 use Rattle.unit_read.specs.declared.place.Place.{Place}
-use Rattle.unit_read.specs.Units.{Unit, passage_at}
+use Rattle.unit_read.specs.Units.{Unit, passage_at, nodes_at}
 use Rattle.rule_words.specs.Asking.{Rule, mark_ask}
 use Rattle.rule_words.specs.Words.{wanted_in}
+use Rattle.decl_rules.specs.declared.forms.Valuing.{Valuing}
+use Rattle.decl_rules.specs.declared.forms.Valuing.TheVariants as valuing
+use Rattle.decl_rules.specs.Forms.{valuing_form}
 use Rattle.decl_rules.specs.Good.{known_told}
+use Rattle.decl_rules.specs.Specifications.{is_several}
 
 -- whether the parts in a slot are types
 abbrev pub is_type_slot : NodeKind → ℕ → Bool
@@ -66,25 +70,68 @@ abbrev pub written_wants : Unit → ℕ → Demand → Option ℕ → Rule
 written_wants u block demand None = wants demand Free
 written_wants u block demand (Some n) = bind (mark_ask u s.Placed (file_of u block) n) (λ m. wants demand (wish_by m))
 
--- what stands behind `*` is a type where the whole has to be one
+-- what stands behind `*` is a type where the whole has to be one; between parentheses it may be a type or a value
 abbrev pub star_demand : Demand → Demand
 star_demand demand.Type = demand.Type
-star_demand _ = demand.Operand
+star_demand demand.Inside = demand.Inside
+star_demand demand.Nothing = demand.Operand
+star_demand demand.Owner = demand.Operand
+star_demand demand.Operand = demand.Operand
+star_demand demand.Count = demand.Operand
+star_demand demand.Constant = demand.Operand
 
 abbrev pub star_wants : Unit → ℕ → ℕ → Rule
 star_wants u block whole = bind (mark_ask u s.Wanted block whole) (λ m. wants (star_demand (wanted_in m).demand) Free)
 
--- the wish of a value: a length takes `int`, whose range the array type tests; the value of a variable without a type is a single one, and not nil
-abbrev pub value_wants : Unit → ℕ → Place → NodeKind → Node → Rule
-value_wants u block p k.Star around = star_wants u block p.around
-value_wants u block p k.ArrayType around = wants demand.Operand (Takes (BasicType kind.Int))
-value_wants u block p k.ConstValues around = if p.slot == 1 then wants demand.Constant Free else wants demand.Nothing Free
-value_wants u block p k.ConstTyped around = if p.slot == 2 then written_wants u block demand.Constant (part around 1) else wants demand.Nothing Free
-value_wants u block p k.VarValues around = if p.slot == 1 then wants demand.Count Free else wants demand.Nothing Free
-value_wants u block p k.VarTypedValues around = if p.slot == 2 then written_wants u block demand.Operand (part around 1) else wants demand.Nothing Free
-value_wants u block p _ around = wants demand.Nothing Free
+-- One value may stand for several names; what it gives is then looked at by the specification.
+abbrev pub stands_for_several : List Node → Node → ℕ → Bool
+stands_for_several nodes around i = not (length (items nodes (part around 0)) == length (items nodes (part around i))) && is_several nodes (part around i)
+
+abbrev pub value_demand : List Node → Node → ℕ → Demand
+value_demand nodes around i = if stands_for_several nodes around i then demand.Nothing else demand.Operand
+
+abbrev pub nodes_of_block : Unit → ℕ → List Node
+nodes_of_block u block = option_map_or (λ (p : Passage). nodes_at u p.file) (passage_at u block) []
+
+-- the wish of a value: a length takes `int`, whose range the array type tests; the value of a variable without a type is a single one that takes
+-- its default type
+abbrev pub value_wants : Unit → ℕ → Place → Node → Valuing → Rule
+value_wants u block p around valuing.Star = star_wants u block p.around
+value_wants u block p around valuing.Array = wants demand.Operand (Takes (BasicType kind.Int))
+value_wants u block p around valuing.Constants = if p.slot == 1 then wants demand.Constant Free else wants demand.Nothing Free
+value_wants u block p around valuing.TypedConstants =
+    if p.slot == 2 then written_wants u block demand.Constant (part around 1) else wants demand.Nothing Free
+value_wants u block p around valuing.Variables =
+    if p.slot == 1 then wants (value_demand (nodes_of_block u block) around 1) Free else wants demand.Nothing Free
+value_wants u block p around valuing.TypedVariables =
+    if p.slot == 2 then written_wants u block (value_demand (nodes_of_block u block) around 2) (part around 1) else wants demand.Nothing Free
+
+abbrev pub or_value : Unit → ℕ → Place → Node → Rule
+or_value u block p around = option_map_or (value_wants u block p around) (valuing_form around.kind) (wants demand.Nothing Free)
 
 -- What the node around wants of what stands at a place in it.
 abbrev pub decl_wants : Unit → ℕ → Place → Node → Rule
 decl_wants u block p around =
-    if is_type_slot around.kind p.slot then wants demand.Type Free else value_wants u block p around.kind around
+    if is_type_slot around.kind p.slot then wants demand.Type Free else or_value u block p around
+
+-- ---- names that are declared
+
+-- whether the names in a slot are declared there: they are no uses
+abbrev pub declares_names : NodeKind → ℕ → Bool
+declares_names k.Package slot = true
+declares_names k.ImportNamed slot = true
+declares_names k.ConstNames slot = true
+declares_names k.ConstValues slot = slot == 0
+declares_names k.ConstTyped slot = slot == 0
+declares_names k.VarValues slot = slot == 0
+declares_names k.VarTyped slot = slot == 0
+declares_names k.VarTypedValues slot = slot == 0
+declares_names k.Defined slot = slot == 0
+declares_names k.Alias slot = slot == 0
+declares_names k.FuncDecl slot = slot == 0
+declares_names k.MethodDecl slot = slot == 1
+declares_names k.Method slot = slot == 0
+declares_names k.Param slot = slot == 0
+declares_names k.SpreadParam slot = slot == 0
+declares_names k.Field slot = slot == 0
+declares_names _ slot = false

@@ -1,5 +1,5 @@
 //! Constants (Go 1.17, "Constant declarations").
-ghost use Rattle.std.specs.Prelude.{◌≡◌, option_map};
+ghost use Rattle.std.specs.Prelude.{◌≡◌, Some, option_map};
 ghost use Rattle.mark_walk.specs.Telling.{tell};
 ghost use Rattle.typed_marks.specs.States.{so_far};
 ghost use Rattle.unit_read.specs.Subjects.{unit_of, IsRead};
@@ -54,17 +54,25 @@ fn typed(s: &State, t: Facts, m: Mark) -> Step
     }
 }
 
+fn untyped_by(u: &Subject, s: &State, block: usize, n: u32) -> Step
+    requires { IsScene u.now s.now }
+    ensures is { step_in s.now result ≡ tell (so_far s.now) (placed_ask (unit_of u.now) block (Some n) untyped_constant) }
+    ensures over { IsStepOf s.now result }
+{
+    match look(u, s, Stage::Placed, block, n) {
+        Found::Is(m) => untyped(s, m),
+        Found::Wait(item) => Step::Waits(item),
+    }
+}
+
 fn untyped_at(u: &Subject, s: &State, block: usize, value: Option<u32>) -> Step
     requires { IsScene u.now s.now }
     ensures is { step_in s.now result ≡ tell (so_far s.now) (placed_ask (unit_of u.now) block value untyped_constant) }
     ensures over { IsStepOf s.now result }
 {
-    let Some(n) = value else {
-        return silent();
-    };
-    match look(u, s, Stage::Placed, block, n) {
-        Found::Is(m) => untyped(s, m),
-        Found::Wait(item) => Step::Waits(item),
+    match value {
+        Some(n) => untyped_by(u, s, block, n),
+        None => silent(),
     }
 }
 

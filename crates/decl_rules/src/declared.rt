@@ -114,7 +114,7 @@ fn may_be_several(kind: NodeKind) -> bool
     }
 }
 
-fn is_several(nodes: &[Node], values: Option<u32>) -> bool
+pub fn is_several(nodes: &[Node], values: Option<u32>) -> bool
     ensures { result ≡ is_several nodes.now values }
 {
     match values {

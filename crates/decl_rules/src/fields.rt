@@ -41,7 +41,7 @@ fn is_exported(name: &str) -> bool
     }
 }
 
-fn utf8(bytes: &[u8]) -> Result<&str, NoMemory>
+pub fn utf8(bytes: &[u8]) -> Result<&str, NoMemory>
     ensures { IfOk result (λ text. text.now ≡ bytes.now) }
 {
     match std::str::from_utf8(bytes) {
@@ -51,7 +51,7 @@ fn utf8(bytes: &[u8]) -> Result<&str, NoMemory>
 }
 
 /// The package of a name: empty for an exported one.
-fn owner_of(alloc: Global, u: &Subject, name: &str) -> Result<Text, NoMemory>
+pub fn owner_of(alloc: Global, u: &Subject, name: &str) -> Result<Text, NoMemory>
     ensures { IfOk result (λ owner. owner ≡ owner_of (unit_of u.now) name.now) }
 {
     if is_exported(name) {

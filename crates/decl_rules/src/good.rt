@@ -14,7 +14,7 @@ use gv_base::Kind;
 use rule_words::{Answer, Seen, Step};
 use type_model::{Term, TypeId};
 use typed_marks::{Facts, Mark, State};
-use typed_tree::{Mode, Rule, basic};
+use typed_tree::{Limit, Mode, Rule, basic};
 
 /// What is known of what is good.
 pub fn known(s: &State, m: Mark) -> Option<Facts>
@@ -42,6 +42,12 @@ pub fn broken(rule: Rule) -> Step
     ensures { result ≡ step.Says (answer.Mark (mark.Bad rule)) }
 {
     Step::Says(Answer::Mark(Mark::Bad(rule)))
+}
+
+pub fn beyond(limit: Limit) -> Step
+    ensures { result ≡ step.Says (answer.Mark (mark.Outside limit)) }
+{
+    Step::Says(Answer::Mark(Mark::Outside(limit)))
 }
 
 pub fn gives_type(term: Term) -> Step

@@ -2,14 +2,18 @@
 #![tactic(auto)]
 
 mod constant;
+mod copies;
 mod declared;
+mod embedding;
 mod fields;
+mod forms;
 mod good;
-mod judges;
+mod held;
 mod objects;
 mod outcome;
 mod params;
 mod reads;
+mod receivers;
 mod refusal;
 mod rules;
 mod signatures;
@@ -20,13 +24,13 @@ mod under;
 mod wants;
 
 pub use declared::declared_name;
-pub use fields::field;
-pub use judges::judge_decl;
+pub use embedding::judge_embedding;
 pub use objects::judge_object;
 pub use outcome::Declaring;
 pub use reads::decl_reads;
-pub use rules::{BAD_ARRAY_LENGTH, BAD_CONSTANT_TYPE, DUPLICATE_MEMBER, WRONG_NUMBER_OF_VALUES};
-pub use signatures::judge_signature;
-pub use structs::structure;
+pub use rules::{
+    BAD_ARRAY_LENGTH, BAD_CONSTANT_TYPE, BAD_RECEIVER, DUPLICATE_MEMBER, EMBEDS_NO_INTERFACE,
+    WRONG_NUMBER_OF_VALUES,
+};
 pub use under::judge_under;
-pub use wants::want_decl;
+pub use wants::{declares_names, want_decl};

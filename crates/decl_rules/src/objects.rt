@@ -6,12 +6,13 @@ ghost use Rattle.unit_read.specs.Subjects.{unit_of, IsRead};
 ghost use Rattle.unit_read.specs.Units.{type_name_at};
 ghost use Rattle.rule_words.specs.Scenes.{IsScene, said, IsMarkOf};
 ghost use Rattle.rule_words.specs.Steps.{step_in, IsStepOf};
-ghost use Rattle.decl_rules.specs.Objects.{variable_mark, function_mark, valued_mark, alias_mark, placed_ask, value_node, defined_rule, kind_rule, object_in, placed_object, object_rule};
+ghost use Rattle.decl_rules.specs.Objects.{variable_mark, function_mark, valued_mark, alias_mark, placed_ask, value_node, defined_rule, form_rule, kind_rule, object_in, placed_object, object_rule};
 
 use crate::constant::judge_constant;
+use crate::forms::{Named, named_form};
 use crate::good::{broken, gives_type, good, known, silent};
 use crate::refusal::{is_exempt, refusal_of};
-use go_tree::{Node, NodeKind, NodeRef};
+use go_tree::{Node, NodeRef};
 use gv_base::{NoMemory, Text};
 use package_objects::{count, item, part_of};
 use rule_words::{Step, look};
@@ -87,17 +88,25 @@ fn alias(s: &State, m: Mark) -> Step
     }
 }
 
+fn variable_by(u: &Subject, s: &State, file: u32, n: u32) -> Step
+    requires { IsScene u.now s.now }
+    ensures is { step_in s.now result ≡ tell (so_far s.now) (placed_ask (unit_of u.now) file (Some n) variable_mark) }
+    ensures over { IsStepOf s.now result }
+{
+    match look(u, s, Stage::Placed, file as usize, n) {
+        Found::Is(m) => variable(s, m),
+        Found::Wait(item) => Step::Waits(item),
+    }
+}
+
 fn variable_at(u: &Subject, s: &State, file: u32, n: Option<u32>) -> Step
     requires { IsScene u.now s.now }
     ensures is { step_in s.now result ≡ tell (so_far s.now) (placed_ask (unit_of u.now) file n variable_mark) }
     ensures over { IsStepOf s.now result }
 {
-    let Some(n) = n else {
-        return silent();
-    };
-    match look(u, s, Stage::Placed, file as usize, n) {
-        Found::Is(m) => variable(s, m),
-        Found::Wait(item) => Step::Waits(item),
+    match n {
+        Some(n) => variable_by(u, s, file, n),
+        None => silent(),
     }
 }
 
@@ -112,16 +121,35 @@ fn function_at(u: &Subject, s: &State, file: u32, n: u32) -> Step
     }
 }
 
+fn valued_by(u: &Subject, s: &State, file: u32, n: u32) -> Step
+    requires { IsScene u.now s.now }
+    ensures is { step_in s.now result ≡ tell (so_far s.now) (placed_ask (unit_of u.now) file (Some n) valued_mark) }
+    ensures over { IsStepOf s.now result }
+{
+    match look(u, s, Stage::Placed, file as usize, n) {
+        Found::Is(m) => valued(s, m),
+        Found::Wait(item) => Step::Waits(item),
+    }
+}
+
 fn valued_at(u: &Subject, s: &State, file: u32, n: Option<u32>) -> Step
     requires { IsScene u.now s.now }
     ensures is { step_in s.now result ≡ tell (so_far s.now) (placed_ask (unit_of u.now) file n valued_mark) }
     ensures over { IsStepOf s.now result }
 {
-    let Some(n) = n else {
-        return silent();
-    };
+    match n {
+        Some(n) => valued_by(u, s, file, n),
+        None => silent(),
+    }
+}
+
+fn alias_by(u: &Subject, s: &State, file: u32, n: u32) -> Step
+    requires { IsScene u.now s.now }
+    ensures is { step_in s.now result ≡ tell (so_far s.now) (placed_ask (unit_of u.now) file (Some n) alias_mark) }
+    ensures over { IsStepOf s.now result }
+{
     match look(u, s, Stage::Placed, file as usize, n) {
-        Found::Is(m) => valued(s, m),
+        Found::Is(m) => alias(s, m),
         Found::Wait(item) => Step::Waits(item),
     }
 }
@@ -131,12 +159,9 @@ fn alias_at(u: &Subject, s: &State, file: u32, n: Option<u32>) -> Step
     ensures is { step_in s.now result ≡ tell (so_far s.now) (placed_ask (unit_of u.now) file n alias_mark) }
     ensures over { IsStepOf s.now result }
 {
-    let Some(n) = n else {
-        return silent();
-    };
-    match look(u, s, Stage::Placed, file as usize, n) {
-        Found::Is(m) => alias(s, m),
-        Found::Wait(item) => Step::Waits(item),
+    match n {
+        Some(n) => alias_by(u, s, file, n),
+        None => silent(),
     }
 }
 
@@ -191,6 +216,35 @@ fn defined(alloc: Global, u: &Subject, s: &State, at: NodeRef) -> Result<Step, N
     }
 }
 
+fn judge_form(
+    alloc: Global,
+    u: &Subject,
+    s: &State,
+    name: NodeRef,
+    p: Place,
+    node: &Node,
+    form: Named,
+) -> Result<Step, NoMemory>
+    requires { IsScene u.now s.now }
+    ensures is { IfOk result (λ step. step_in s.now step ≡ tell (so_far s.now) (form_rule (unit_of u.now) name p node.now form)) }
+    ensures over { IfOk result (IsStepOf s.now) }
+{
+    let file = name.file;
+    let nodes = u.nodes_at(file);
+    match form {
+        Named::Constant => Ok(judge_constant(u, s, name, p.index)),
+        Named::Typed => Ok(variable_at(u, s, file, part_of(node, 1))),
+        Named::Valued => Ok(valued_at(u, s, file, value_node(nodes, node, p.index))),
+        Named::Param => Ok(variable_at(u, s, file, Some(p.around))),
+        Named::Function => Ok(function_at(u, s, file, p.around)),
+        Named::Defined => {
+            let step = defined(alloc, u, s, name)?;
+            Ok(step)
+        }
+        Named::Alias => Ok(alias_at(u, s, file, part_of(node, 1))),
+    }
+}
+
 fn judge_kind(
     alloc: Global,
     u: &Subject,
@@ -200,32 +254,15 @@ fn judge_kind(
     node: &Node,
 ) -> Result<Step, NoMemory>
     requires { IsScene u.now s.now }
-    ensures is { IfOk result (λ step. step_in s.now step ≡ tell (so_far s.now) (kind_rule (unit_of u.now) name p node.now.kind node.now)) }
+    ensures is { IfOk result (λ step. step_in s.now step ≡ tell (so_far s.now) (kind_rule (unit_of u.now) name p node.now)) }
     ensures over { IfOk result (IsStepOf s.now) }
 {
-    let file = name.file;
-    match node.kind {
-        NodeKind::ConstNames => Ok(judge_constant(u, s, name, p.index)),
-        NodeKind::ConstValues => Ok(judge_constant(u, s, name, p.index)),
-        NodeKind::ConstTyped => Ok(judge_constant(u, s, name, p.index)),
-        NodeKind::VarTyped => Ok(variable_at(u, s, file, part_of(node, 1))),
-        NodeKind::VarTypedValues => Ok(variable_at(u, s, file, part_of(node, 1))),
-        NodeKind::VarValues => Ok(valued_at(
-            u,
-            s,
-            file,
-            value_node(u.nodes_at(file), node, p.index),
-        )),
-        NodeKind::Param => Ok(variable_at(u, s, file, Some(p.around))),
-        NodeKind::SpreadParam => Ok(variable_at(u, s, file, Some(p.around))),
-        NodeKind::FuncDecl => Ok(function_at(u, s, file, p.around)),
-        NodeKind::MethodDecl => Ok(function_at(u, s, file, p.around)),
-        NodeKind::Defined => {
-            let step = defined(alloc, u, s, name)?;
+    match named_form(node.kind) {
+        Some(form) => {
+            let step = judge_form(alloc, u, s, name, p, node, form)?;
             Ok(step)
         }
-        NodeKind::Alias => Ok(alias_at(u, s, file, part_of(node, 1))),
-        _ => Ok(silent()),
+        None => Ok(silent()),
     }
 }
 

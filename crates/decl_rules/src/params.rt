@@ -89,7 +89,7 @@ fn entry_count_in(nodes: &[Node], n: u32) -> usize
 }
 
 /// How many parameters an entry declares.
-fn entry_count_at(nodes: &[Node], n: Option<u32>) -> usize
+pub fn entry_count_at(nodes: &[Node], n: Option<u32>) -> usize
     ensures { result ≡ entry_count_at nodes.now n }
 {
     match n {

@@ -25,6 +25,8 @@ pub fn decl_reads(kind: NodeKind, slot: usize) -> Option<How>
         NodeKind::RecvChan => Some(How::Type),
         NodeKind::Params => Some(How::Type),
         NodeKind::Variadic => Some(How::Type),
+        NodeKind::StructType => Some(How::Type),
+        NodeKind::InterfaceType => Some(How::TypeAndUnder),
         NodeKind::Embedded => Some(How::Type),
         NodeKind::EmbeddedPointer => Some(How::Type),
         NodeKind::Param => at_slot(1, How::Type, slot),

@@ -2,7 +2,7 @@
 ghost use Rattle.std.specs.Prelude.{◌≡◌, not, Some, option_and_then};
 ghost use Rattle.unit_read.specs.Subjects.{unit_of, IsRead};
 ghost use Rattle.unit_read.specs.Units.{around, is_none, is_top};
-ghost use Rattle.decl_rules.specs.Objects.{is_method, is_function, part_size, is_bad_init, refusal_of, is_exempt};
+ghost use Rattle.decl_rules.specs.Objects.{is_elsewhere, is_function, part_size, is_bad_init, refusal_of, is_exempt};
 
 use crate::signatures::results_node;
 use go_tree::{Node, NodeKind, NodeRef};
@@ -51,11 +51,14 @@ fn is_top(u: &Subject, name: NodeRef) -> bool
     !is_around(u, twice_around(u, name))
 }
 
-fn is_method(kind: NodeKind) -> bool
-    ensures { result ≡ is_method kind }
+fn is_elsewhere(kind: NodeKind) -> bool
+    ensures { result ≡ is_elsewhere kind }
 {
     match kind {
         NodeKind::MethodDecl => true,
+        NodeKind::Import => true,
+        NodeKind::ImportGroup => true,
+        NodeKind::ImportNamed => true,
         _ => false,
     }
 }
@@ -90,7 +93,7 @@ fn part_size(nodes: &[Node], n: Option<u32>) -> usize
 pub fn is_exempt(nodes: &[Node], node: &Node) -> bool
     ensures { result ≡ is_exempt nodes.now node.now.kind node.now }
 {
-    if is_method(node.kind) {
+    if is_elsewhere(node.kind) {
         return true;
     }
     is_function(node.kind)

@@ -7,6 +7,12 @@ pub const BAD_ARRAY_LENGTH: Rule = Rule(11);
 /// E14 duplicate field or method
 pub const DUPLICATE_MEMBER: Rule = Rule(14);
 
+/// E15 embeds no interface
+pub const EMBEDS_NO_INTERFACE: Rule = Rule(15);
+
+/// E16 bad receiver
+pub const BAD_RECEIVER: Rule = Rule(16);
+
 /// E98 bad constant type
 pub const BAD_CONSTANT_TYPE: Rule = Rule(98);
 

@@ -16,6 +16,7 @@ ghost use Rattle.decl_rules.specs.Good.{known_of, AreFactsOf};
 ghost use Rattle.decl_rules.specs.Signatures.{params_told, results_of, signature_type, joined_rule, resulting_rule, unless_block, results_node, results_rule, taking_rule, from_params, params_ask, signature_rule};
 ghost use Rattle.decl_rules.specs.Taken.{taken_in, IsTakenOf};
 
+use crate::copies::types_copied;
 use crate::good::{gives_type, known, silent};
 use crate::taken::Taken;
 use go_tree::{Node, NodeKind};
@@ -28,18 +29,11 @@ use type_questions::Found;
 use typed_marks::{Facts, Mark, Stage, State};
 use unit_read::Subject;
 
-fn copied(alloc: Global, list: &[TypeId]) -> Result<Vec<TypeId>, NoMemory>
-    ensures { IfOk result (λ copy. copy.items ≡ list.now) }
-{
-    let copy = list.to_vec(alloc)?;
-    Ok(copy)
-}
-
 fn taken(alloc: Global, signature: &Signature) -> Result<Taken, NoMemory>
     ensures types { IfOk result (λ t. t.types.items ≡ signature.now.params) }
     ensures variadic { IfOk result (λ t. t.variadic ≡ signature.now.variadic) }
 {
-    let types = copied(alloc, signature.params.as_slice())?;
+    let types = types_copied(alloc, signature.params.as_slice())?;
     Ok(Taken {
         types,
         variadic: signature.variadic,

@@ -10,13 +10,15 @@ ghost use Rattle.typed_marks.specs.States.{so_far};
 ghost use Rattle.unit_read.specs.Subjects.{unit_of, IsRead};
 ghost use Rattle.rule_words.specs.Scenes.{IsScene, told_by, IfFound, said, IsMarkOf};
 ghost use Rattle.decl_rules.specs.Good.{known_of, AreFactsOf};
-ghost use Rattle.decl_rules.specs.Wants.{is_type_slot, assigned_to, wish_by, file_of, wants, written_wants, star_demand, star_wants, value_wants, decl_wants};
+ghost use Rattle.decl_rules.specs.Wants.{is_type_slot, assigned_to, wish_by, file_of, wants, stands_for_several, value_demand, nodes_of_block, declares_names, written_wants, star_demand, star_wants, value_wants, or_value, decl_wants};
 
+use crate::declared::is_several;
+use crate::forms::{Valuing, valuing_form};
 use crate::good::{basic_type, known};
 use crate::types::is_type;
 use go_tree::{Node, NodeKind};
 use gv_base::Kind;
-use package_objects::part_of;
+use package_objects::{count, part_of};
 use rule_words::{look, wanted_by};
 use type_questions::Found;
 use typed_marks::{Facts, Item, Mark, Stage, State, Want};
@@ -127,7 +129,12 @@ fn star_demand(demand: Demand) -> Demand
 {
     match demand {
         Demand::Type => Demand::Type,
-        _ => Demand::Operand,
+        Demand::Inside => Demand::Inside,
+        Demand::Nothing => Demand::Operand,
+        Demand::Owner => Demand::Operand,
+        Demand::Operand => Demand::Operand,
+        Demand::Count => Demand::Operand,
+        Demand::Constant => Demand::Operand,
     }
 }
 
@@ -140,6 +147,40 @@ fn star(u: &Subject, s: &State, block: usize, whole: u32) -> Found<Mark, Item>
         Found::Is(m) => wants(star_demand(wanted_by(s, m).demand), Want::Free),
         Found::Wait(item) => Found::Wait(item),
     }
+}
+
+fn stands_for_several(nodes: &[Node], around: &Node, i: usize) -> bool
+    ensures { result ≡ stands_for_several nodes.now around.now i }
+{
+    let values = part_of(around, i);
+    count(nodes, part_of(around, 0)) != count(nodes, values) && is_several(nodes, values)
+}
+
+fn value_demand(nodes: &[Node], around: &Node, i: usize) -> Demand
+    ensures { result ≡ value_demand nodes.now around.now i }
+{
+    if stands_for_several(nodes, around, i) {
+        Demand::Nothing
+    } else {
+        Demand::Operand
+    }
+}
+
+fn nodes_of_block<'a>(u: &Subject<'a>, block: usize) -> &'a [Node]
+    requires { IsRead u.now }
+    ensures { result.now ≡ nodes_of_block (unit_of u.now) block }
+{
+    match u.passage_at(block) {
+        Some(passage) => u.nodes_at(passage.file),
+        None => &[],
+    }
+}
+
+fn block_demand(u: &Subject, block: usize, around: &Node, i: usize) -> Demand
+    requires { IsRead u.now }
+    ensures { result ≡ value_demand (nodes_of_block (unit_of u.now) block) around.now i }
+{
+    value_demand(nodes_of_block(u, block), around, i)
 }
 
 fn assigned(
@@ -172,19 +213,38 @@ fn freely(s: &State, p: Place, demand: Demand) -> Found<Mark, Item>
     }
 }
 
-fn value(u: &Subject, s: &State, block: usize, p: Place, around: &Node) -> Found<Mark, Item>
+fn value(
+    u: &Subject,
+    s: &State,
+    block: usize,
+    p: Place,
+    around: &Node,
+    form: Valuing,
+) -> Found<Mark, Item>
     requires { IsScene u.now s.now }
-    ensures is { told_by (said s.now) result ≡ tell (so_far s.now) (value_wants (unit_of u.now) block p around.now.kind around.now) }
+    ensures is { told_by (said s.now) result ≡ tell (so_far s.now) (value_wants (unit_of u.now) block p around.now form) }
     ensures over { IfFound result (IsMarkOf s.now) }
 {
-    match around.kind {
-        NodeKind::Star => star(u, s, block, p.around),
-        NodeKind::ArrayType => wants(Demand::Operand, Want::Takes(basic_type(s, Kind::Int))),
-        NodeKind::ConstValues => freely(s, p, Demand::Constant),
-        NodeKind::ConstTyped => assigned(u, s, block, p, Demand::Constant, around),
-        NodeKind::VarValues => freely(s, p, Demand::Count),
-        NodeKind::VarTypedValues => assigned(u, s, block, p, Demand::Operand, around),
-        _ => wants(Demand::Nothing, Want::Free),
+    match form {
+        Valuing::Star => star(u, s, block, p.around),
+        Valuing::Array => wants(Demand::Operand, Want::Takes(basic_type(s, Kind::Int))),
+        Valuing::Constants => freely(s, p, Demand::Constant),
+        Valuing::TypedConstants => assigned(u, s, block, p, Demand::Constant, around),
+        Valuing::Variables => freely(s, p, block_demand(u, block, around, 1)),
+        Valuing::TypedVariables => {
+            assigned(u, s, block, p, block_demand(u, block, around, 2), around)
+        }
+    }
+}
+
+fn or_value(u: &Subject, s: &State, block: usize, p: Place, around: &Node) -> Found<Mark, Item>
+    requires { IsScene u.now s.now }
+    ensures is { told_by (said s.now) result ≡ tell (so_far s.now) (or_value (unit_of u.now) block p around.now) }
+    ensures over { IfFound result (IsMarkOf s.now) }
+{
+    match valuing_form(around.kind) {
+        Some(form) => value(u, s, block, p, around, form),
+        None => wants(Demand::Nothing, Want::Free),
     }
 }
 
@@ -197,6 +257,31 @@ pub fn want_decl(u: &Subject, s: &State, block: usize, p: Place, around: &Node) 
     if is_type_slot(around.kind, p.slot) {
         wants(Demand::Type, Want::Free)
     } else {
-        value(u, s, block, p, around)
+        or_value(u, s, block, p, around)
+    }
+}
+
+/// Whether the names in a slot are declared there.
+pub fn declares_names(kind: NodeKind, slot: usize) -> bool
+    ensures { result ≡ declares_names kind slot }
+{
+    match kind {
+        NodeKind::Package => true,
+        NodeKind::ImportNamed => true,
+        NodeKind::ConstNames => true,
+        NodeKind::ConstValues => slot == 0,
+        NodeKind::ConstTyped => slot == 0,
+        NodeKind::VarValues => slot == 0,
+        NodeKind::VarTyped => slot == 0,
+        NodeKind::VarTypedValues => slot == 0,
+        NodeKind::Defined => slot == 0,
+        NodeKind::Alias => slot == 0,
+        NodeKind::FuncDecl => slot == 0,
+        NodeKind::MethodDecl => slot == 1,
+        NodeKind::Method => slot == 0,
+        NodeKind::Param => slot == 0,
+        NodeKind::SpreadParam => slot == 0,
+        NodeKind::Field => slot == 0,
+        _ => false,
     }
 }

@@ -4,5 +4,5 @@ use Rattle.decl_rules.specs.Signatures.{types_from}
 use Rattle.decl_rules.proofs.PartLemmas.{types_from_all}
 use Rattle.decl_rules.proofs.params.param_row.Goals as goal
 
-pub returns-in_ok-list-clause-are : goal.returns-in_ok-list-clause-are
-returns-in_ok-list-clause-are c = types_from_all (types_in c.args.s.now.table) c.in_ok-list.list.items ∙ ap types_from c.in_ok-list.ensures.are
+pub returns-clause-are : goal.returns-clause-are
+returns-clause-are c = types_from_all (types_in c.args.s.now.table) c.in_ok-list.list.items ∙ ap types_from c.in_ok-list.ensures.are

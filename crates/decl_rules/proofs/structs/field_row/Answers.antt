@@ -3,5 +3,5 @@ use Rattle.decl_rules.specs.Structs.{fields_from}
 use Rattle.decl_rules.proofs.FieldLemmas.{fields_from_all}
 use Rattle.decl_rules.proofs.structs.field_row.Goals as goal
 
-pub returns-in_ok-list-clause-are : goal.returns-in_ok-list-clause-are
-returns-in_ok-list-clause-are c = fields_from_all c.args.s.now c.in_ok-list.list.items ∙ ap fields_from c.in_ok-list.ensures.are
+pub returns-clause-are : goal.returns-clause-are
+returns-clause-are c = fields_from_all c.args.s.now c.in_ok-list.list.items ∙ ap fields_from c.in_ok-list.ensures.are
