@@ -1,4 +1,4 @@
-use Rattle.std.proofs.Common.{sym, ◌∙◌, arith}
+use Rattle.std.proofs.Common.{sym, ◌∙◌}
 use Rattle.std.proofs.lemmas.Bool.{ltb-true}
 use Rattle.unit_blocks.proofs.BlockLemmas.{adds_past, adds_one}
 use Rattle.unit_blocks.proofs.blocks.push_within.Goals as goal
