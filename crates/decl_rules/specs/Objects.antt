@@ -92,10 +92,14 @@ of_part u block value under t = need_type under (of_type u block value t)
 abbrev pub with_typing : Unit → ℕ → Option ℕ → Part → Rule
 with_typing u block value p = given p.mark (λ t. of_part u block value p.under t)
 
--- the constant of this value, in the block in which that is read; its type is read where it is written
+-- the type is read where it is written
+abbrev pub typed_in : Unit → ℕ → ℕ → ℕ → Option ℕ → Rule
+typed_in u file block t value = bind (part_ask u s.Placed file (read_as h.TypeAndUnder t)) (with_typing u block value)
+
+-- the constant of this value, in the block in which that is read
 abbrev pub constant_in : Unit → ℕ → ℕ → Option ℕ → Option ℕ → Rule
 constant_in u file block None value = placed_ask u block value untyped_constant
-constant_in u file block (Some t) value = bind (part_ask u s.Placed file (read_as h.TypeAndUnder t)) (λ p. with_typing u block value p)
+constant_in u file block (Some t) value = typed_in u file block t value
 
 -- "Constant declarations": a list without values repeats the one before
 abbrev pub block_of : Unit → ℕ → List Node → Spec → Option ℕ

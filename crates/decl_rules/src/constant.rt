@@ -6,7 +6,7 @@ ghost use Rattle.unit_read.specs.Subjects.{unit_of, IsRead};
 ghost use Rattle.rule_words.specs.Scenes.{IsScene, said, IsMarkOf, part_in, IsSeenOf, type_in, IsTypeOf, MayBeTypeOf};
 ghost use Rattle.rule_words.specs.Steps.{step_in, IsStepOf};
 ghost use Rattle.decl_rules.specs.Good.{known_of, AreFactsOf};
-ghost use Rattle.decl_rules.specs.Objects.{placed_ask, untyped_constant, typed_constant, of_type, of_part, with_typing, constant_in, block_of, constant_by, constant_rule};
+ghost use Rattle.decl_rules.specs.Objects.{placed_ask, untyped_constant, typed_constant, of_type, of_part, with_typing, typed_in, constant_in, block_of, constant_by, constant_rule};
 
 use crate::declared::has_constants;
 use crate::good::{good, known, silent};
@@ -144,6 +144,29 @@ fn with_typing(u: &Subject, s: &State, block: usize, value: Option<u32>, p: Seen
     }
 }
 
+/// Its type is read where it is written.
+fn typed_in(
+    u: &Subject,
+    s: &State,
+    file: usize,
+    block: usize,
+    t: u32,
+    value: Option<u32>,
+) -> Step
+    requires { IsScene u.now s.now }
+    ensures is { step_in s.now result ≡ tell (so_far s.now) (typed_in (unit_of u.now) file block t value) }
+    ensures over { IsStepOf s.now result }
+{
+    let read = Read {
+        how: How::TypeAndUnder,
+        node: t,
+    };
+    match part(u, s, Stage::Placed, file, read) {
+        Found::Is(p) => with_typing(u, s, block, value, p),
+        Found::Wait(item) => Step::Waits(item),
+    }
+}
+
 fn constant_in(
     u: &Subject,
     s: &State,
@@ -156,16 +179,9 @@ fn constant_in(
     ensures is { step_in s.now result ≡ tell (so_far s.now) (constant_in (unit_of u.now) file block typing value) }
     ensures over { IsStepOf s.now result }
 {
-    let Some(t) = typing else {
-        return untyped_at(u, s, block, value);
-    };
-    let read = Read {
-        how: How::TypeAndUnder,
-        node: t,
-    };
-    match part(u, s, Stage::Placed, file, read) {
-        Found::Is(p) => with_typing(u, s, block, value, p),
-        Found::Wait(item) => Step::Waits(item),
+    match typing {
+        Some(t) => typed_in(u, s, file, block, t, value),
+        None => untyped_at(u, s, block, value),
     }
 }
 
