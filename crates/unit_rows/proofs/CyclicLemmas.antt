@@ -1,5 +1,5 @@
 -- What an order of need marks is what needs itself.
-use Rattle.std.proofs.Common.{◌≡◌, ◌⊎◌, ◌↔◌, ℕ, zero, suc, ◌+◌, ◌<◌, ◌≤◌, Bool, true, false, if◌then◌else◌, List, [], ◌∷◌, ◌++◌, length, slice_get, Option, Some, None, refl, sym, ap, ◌∙◌, subst, inl, inr, arith}
+use Rattle.std.proofs.Common.{◌≡◌, ◌⊎◌, ℕ, zero, suc, ◌+◌, ◌<◌, ◌≤◌, Bool, true, false, if◌then◌else◌, List, [], ◌∷◌, ◌++◌, length, slice_get, Option, Some, None, refl, sym, ap, ◌∙◌, subst, inl, inr, arith}
 use Rattle.std.specs.Option.{option_map_or}
 use Rattle.std.proofs.lemmas.Bool.{cases_lt}
 use Rattle.std.proofs.lemmas.Option.{slice_get_within}
@@ -13,7 +13,6 @@ use Rattle.object_order.specs.Names.{IsNamed}
 use Rattle.object_order.specs.Paths.{Leads}
 use Rattle.package_objects.specs.Declares.{gather, declared}
 use Rattle.const_tree.proofs.PlaceLaws.{gather_cases}
-use Rattle.package_needs.specs.Worlds.{IsOrderOf}
 use Rattle.unit_read.specs.Units.{is_among}
 use Rattle.unit_rows.specs.Cyclic.{if_cyclic, nth_cyclic, all_cyclic, is_cyclic, MarksCyclic}
 use Rattle.unit_rows.proofs.NumberLemmas.{among_is, among_there, none_there, only_there}

@@ -5,11 +5,10 @@ use Rattle.std.specs.List.{position_from}
 use Rattle.std.proofs.lemmas.Bool.{eqb-true, eqb-false, eq-eqb, ne_eqb}
 use Rattle.go_tree.specs.declared.tree.FileTree.{FileTree}
 use Rattle.go_tree.specs.declared.tree.NodeRef.{NodeRef}
-use Rattle.object_order.specs.Spots.{place}
 use Rattle.object_order.specs.Views.{same_key}
 use Rattle.unit_read.specs.Places.{put_at}
 use Rattle.unit_read.specs.Rows.{AreRows}
-use Rattle.unit_read.specs.Units.{Unit, is_this, is_top, first_place}
+use Rattle.unit_read.specs.Units.{Unit, is_this, first_place}
 use Rattle.unit_read.proofs.IndexLemmas.{position_more}
 use Rattle.unit_read.proofs.TypeLemmas.{same_node}
 use Rattle.unit_rows.specs.Rows.{first_in, local_by, local_among, local_in}

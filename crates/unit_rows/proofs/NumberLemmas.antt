@@ -1,5 +1,5 @@
 -- The defined types of a package, and their numbers.
-use Rattle.std.proofs.Common.{◌≡◌, ℕ, zero, suc, ◌+◌, ◌<◌, ◌||◌, Bool, true, false, cond, if◌then◌else◌, List, [], ◌∷◌, length, slice_get, Option, Some, None, option_and_then, option_map, refl, sym, ap, ◌∙◌, subst, arith}
+use Rattle.std.proofs.Common.{◌≡◌, ℕ, zero, suc, ◌+◌, ◌||◌, Bool, true, false, cond, if◌then◌else◌, List, [], ◌∷◌, length, slice_get, Option, Some, None, option_map, refl, sym, ap, ◌∙◌, arith}
 use Rattle.std.specs.List.{position_from}
 use Rattle.std.specs.Option.{option_map_or}
 use Rattle.go_tree.specs.declared.tree.Node.{Node}
@@ -9,7 +9,7 @@ use Rattle.object_order.specs.Spots.{place}
 use Rattle.object_order.specs.Views.{same_key}
 use Rattle.package_objects.specs.Declares.{part}
 use Rattle.const_tree.proofs.PlaceLaws.{gather_cases}
-use Rattle.unit_read.specs.Units.{Unit, nodes_at, node_at, is_this, is_top, is_among, place_in, is_defined_node, named_node, named, defined_by, defined_at, defined_in, defined, type_name, type_name_at}
+use Rattle.unit_read.specs.Units.{Unit, nodes_at, node_at, is_this, is_among, place_in, is_defined_node, named_node, named, defined_by, defined_at, defined_in, defined, type_name, type_name_at}
 use Rattle.unit_read.proofs.TypeLemmas.{key_itself, same_node}
 use Rattle.unit_rows.specs.Rows.{local_by, local_among}
 

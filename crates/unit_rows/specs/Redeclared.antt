@@ -57,6 +57,10 @@ package_names u = all_in_block u (declared u.trees [])
 abbrev pub named_again : Unit → List NodeRef → List NodeRef
 named_again u names = all_again (map (name_at u) names) names
 
--- E1: the name is declared before in the package block; the blank name never is
+-- the names that are declared before in the package block; the blank name never is
+abbrev pub redeclared : Unit → List NodeRef
+redeclared u = named_again u (package_names u)
+
+-- E1
 abbrev pub is_redeclared : Unit → NodeRef → Bool
-is_redeclared u at = is_listed u.trees (named_again u (package_names u)) at
+is_redeclared u at = is_listed u.trees (redeclared u) at

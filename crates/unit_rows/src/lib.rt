@@ -11,8 +11,8 @@ mod listing;
 mod locals;
 mod members;
 mod objects;
+mod package_block;
 mod reader;
-mod redeclared;
 mod repeats;
 mod rows;
 mod tables;
@@ -20,6 +20,7 @@ mod top;
 mod types;
 
 pub use cyclic::cyclic_rows;
+pub use flags::listed_rows;
 pub use laws::marked_names_need_themselves;
+pub use package_block::{named_again, redeclared, redeclared_rows};
 pub use reader::{read_unit, with_flags};
-pub use redeclared::redeclared_rows;

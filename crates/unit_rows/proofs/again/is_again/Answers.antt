@@ -1,4 +1,4 @@
-use Rattle.std.proofs.Common.{◌≡◌, ℕ, List, [], Option, false, if◌then◌else◌, slice_index_or, ap, ◌∙◌}
+use Rattle.std.proofs.Common.{ℕ, List, [], Option, false, if◌then◌else◌, slice_index_or, ap, ◌∙◌}
 use Rattle.unit_read.specs.Index.{texts_of, found}
 use Rattle.unit_read.specs.Members.{is_later}
 use Rattle.unit_read.specs.Units.{is_blank}

@@ -1,4 +1,4 @@
-use Rattle.std.proofs.Common.{◌≤◌, ◌^◌, ℕ, List, length, sym, subst}
+use Rattle.std.proofs.Common.{◌≤◌, ◌^◌, List, length, sym, subst}
 use Rattle.go_tree.specs.declared.tree.Node.{Node}
 use Rattle.unit_rows.proofs.ListLemmas.{small_at}
 use Rattle.unit_rows.proofs.listing.add_file.Goals as goal

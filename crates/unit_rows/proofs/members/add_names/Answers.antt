@@ -1,4 +1,4 @@
-use Rattle.std.proofs.Common.{◌++◌, [], ℕ, List, Option, ap, sym, ◌∙◌, arith}
+use Rattle.std.proofs.Common.{◌++◌, [], ℕ, List, Option, ap, ◌∙◌, arith}
 use Rattle.std.specs.List.{cons_option}
 use Rattle.std.proofs.lemmas.List.{take_all}
 use Rattle.package_objects.specs.Declares.{items}

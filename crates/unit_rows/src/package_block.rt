@@ -6,7 +6,7 @@ ghost use Rattle.unit_read.specs.Index.{texts_of};
 ghost use Rattle.unit_read.specs.Subjects.{flag, unit_of};
 ghost use Rattle.unit_read.specs.Units.{name_at};
 ghost use Rattle.unit_rows.specs.Drafts.{IsPlaced};
-ghost use Rattle.unit_rows.specs.Redeclared.{kind_of, kind_around, is_method, is_function, is_init, is_in_block, if_in_block, nth_name, nth_in_block, all_in_block, package_names, named_again, is_redeclared};
+ghost use Rattle.unit_rows.specs.Redeclared.{kind_of, kind_around, is_method, is_function, is_init, is_in_block, if_in_block, nth_name, nth_in_block, all_in_block, package_names, named_again, redeclared, is_redeclared};
 
 use crate::again::add_again;
 use crate::flags::listed_rows;
@@ -145,7 +145,7 @@ fn spelled<'a>(alloc: Global, s: &Subject<'a>, nodes: &[NodeRef]) -> Result<Vec<
 }
 
 /// Of some nodes those whose name an earlier one has.
-fn named_again(alloc: Global, s: &Subject, nodes: &[NodeRef]) -> Result<Vec<NodeRef>, NoMemory>
+pub fn named_again(alloc: Global, s: &Subject, nodes: &[NodeRef]) -> Result<Vec<NodeRef>, NoMemory>
     ensures { IfOk result (λ list. list.items ≡ named_again (unit_of s.now) nodes.now) }
 {
     let texts = spelled(alloc, s, nodes)?;
@@ -154,14 +154,22 @@ fn named_again(alloc: Global, s: &Subject, nodes: &[NodeRef]) -> Result<Vec<Node
     Ok(list)
 }
 
-/// For each node of each file whether it is a name that is declared before in the package block. More than 2^32 files or nodes are answered
-/// as want of memory.
+/// The names that are declared before in the package block. More than 2^32 files or nodes are answered as want of memory.
+pub fn redeclared(alloc: Global, s: &Subject) -> Result<Vec<NodeRef>, NoMemory>
+    requires { IsPlaced s.now }
+    ensures { IfOk result (λ list. list.items ≡ redeclared (unit_of s.now)) }
+{
+    let names = package_names(alloc, s)?;
+    let list = named_again(alloc, s, &names)?;
+    Ok(list)
+}
+
+/// For each node of each file whether it is a name that is declared before in the package block.
 pub fn redeclared_rows(alloc: Global, s: &Subject) -> Result<Vec<Vec<bool>>, NoMemory>
     requires { IsPlaced s.now }
     ensures { IfOk result (λ flags. (at : NodeRef) → flag flags.items at ≡ is_redeclared (unit_of s.now) at) }
 {
-    let names = package_names(alloc, s)?;
-    let list = named_again(alloc, s, &names)?;
+    let list = redeclared(alloc, s)?;
     let flags = listed_rows(alloc, s.trees, &list)?;
     Ok(flags)
 }

@@ -2,7 +2,7 @@ use Rattle.std.proofs.Common.{◌++◌, ℕ, List, ap, ◌∙◌}
 use Rattle.go_tree.specs.declared.tree.NodeRef.{NodeRef}
 use Rattle.unit_read.specs.Index.{texts_of}
 use Rattle.unit_read.specs.Members.{all_again}
-use Rattle.unit_rows.proofs.redeclared.named_again.Goals as goal
+use Rattle.unit_rows.proofs.package_block.named_again.Goals as goal
 
 pub returns : goal.returns
 returns c =

@@ -1,0 +1,152 @@
+//! Which names are declared before in their block.
+ghost use Rattle.std.specs.Prelude.{◌≡◌, ◌++◌, ◌≤◌, ◌^◌, length, IfOk, OnOk};
+ghost use Rattle.go_tree.specs.declared.tree.NodeRef.{NodeRef};
+ghost use Rattle.object_order.specs.Views.{group_in};
+ghost use Rattle.package_objects.specs.Declares.{gather};
+ghost use Rattle.unit_blocks.specs.Blocks.{again_in_file, again_by, inner_again, is_redeclared, again_at};
+ghost use Rattle.unit_read.specs.Subjects.{flag, unit_of};
+ghost use Rattle.unit_read.specs.Units.{nodes_at};
+ghost use Rattle.unit_rows.specs.Drafts.{IsPlaced};
+ghost use Rattle.unit_rows.specs.Redeclared.{named_again};
+ghost use Rattle.unit_rows.specs.Rows.{AreSmall};
+ghost use Rattle.unit_rows.specs.Tables.{row_in};
+
+use crate::blocks::blocks_of;
+use go_tree::NodeRef;
+use gv_base::NoMemory;
+use scopes::Named;
+use std::alloc::Global;
+use unit_read::Subject;
+use unit_rows::{listed_rows, named_again, redeclared};
+
+fn group(groups: &[Vec<NodeRef>], n: usize) -> &[NodeRef]
+    ensures { result.now ≡ group_in groups.now n }
+{
+    match groups.get(n) {
+        Some(group) => group.as_slice(),
+        None => &[],
+    }
+}
+
+fn add_named(
+    alloc: Global,
+    s: &Subject,
+    nodes: &[NodeRef],
+    out: &mut Vec<NodeRef>,
+) -> Result<(), NoMemory>
+    ensures { OnOk result (out.new.items ≡ out.old.items ++ named_again (unit_of s.now) nodes.now) }
+{
+    let list = named_again(alloc, s, nodes)?;
+    out.extend_from_slice(&list)?;
+    Ok(())
+}
+
+/// Adds those of a group that have the name of an earlier one.
+fn add_group(
+    alloc: Global,
+    s: &Subject,
+    groups: &[Vec<NodeRef>],
+    n: usize,
+    out: &mut Vec<NodeRef>,
+) -> Result<(), NoMemory>
+    ensures { OnOk result (out.new.items ≡ out.old.items ++ again_at (unit_of s.now) groups.now n) }
+{
+    add_named(alloc, s, group(groups, n), out)?;
+    Ok(())
+}
+
+fn add_groups(
+    alloc: Global,
+    s: &Subject,
+    groups: &[Vec<NodeRef>],
+    count: usize,
+    out: &mut Vec<NodeRef>,
+) -> Result<(), NoMemory>
+    ensures { OnOk result (out.new.items ≡ out.old.items ++ gather (again_at (unit_of s.now) groups.now) count) }
+{
+    for n in 0..count {
+        add_group(alloc, s, groups, n, out)?;
+    }
+    Ok(())
+}
+
+fn node_count(s: &Subject, file: u32) -> usize
+    ensures { result ≡ length (nodes_at (unit_of s.now) file) }
+{
+    s.nodes_at(file).len()
+}
+
+/// Adds the names that are declared before in a block of a file.
+fn add_file(
+    alloc: Global,
+    s: &Subject,
+    file: u32,
+    names: &[Named],
+    out: &mut Vec<NodeRef>,
+) -> Result<(), NoMemory>
+    requires { length (nodes_at (unit_of s.now) file) ≤ 2 ^ 32 }
+    ensures { OnOk result (out.new.items ≡ out.old.items ++ again_in_file (unit_of s.now) file names.now) }
+{
+    let count = node_count(s, file);
+    let groups = blocks_of(alloc, file, count, names)?;
+    add_groups(alloc, s, &groups, count, out)?;
+    Ok(())
+}
+
+fn row(names: &[Vec<Named>], file: u32) -> &[Named]
+    ensures { result.now ≡ row_in names.now file }
+{
+    match names.get(file as usize) {
+        Some(row) => row.as_slice(),
+        None => &[],
+    }
+}
+
+fn add_by(
+    alloc: Global,
+    s: &Subject,
+    names: &[Vec<Named>],
+    file: u32,
+    out: &mut Vec<NodeRef>,
+) -> Result<(), NoMemory>
+    requires { length (nodes_at (unit_of s.now) file) ≤ 2 ^ 32 }
+    ensures { OnOk result (out.new.items ≡ out.old.items ++ again_by (unit_of s.now) names.now file) }
+{
+    add_file(alloc, s, file, row(names, file), out)?;
+    Ok(())
+}
+
+/// Adds the names that are declared before in a block within a function.
+fn add_inner(
+    alloc: Global,
+    s: &Subject,
+    names: &[Vec<Named>],
+    out: &mut Vec<NodeRef>,
+) -> Result<(), NoMemory>
+    requires small { AreSmall s.now.trees.now }
+    requires few { length s.now.trees.now ≤ 2 ^ 32 }
+    ensures { OnOk result (out.new.items ≡ out.old.items ++ inner_again (unit_of s.now) names.now) }
+{
+    for file in 0..s.trees.len() {
+        add_by(alloc, s, names, file as u32, out)?;
+    }
+    Ok(())
+}
+
+/// For each node of each file whether it is a name that is declared before in its block. `names` has for each file the names that it declares,
+/// in the order in which their regions begin.
+pub fn block_rows(
+    alloc: Global,
+    s: &Subject,
+    names: &[Vec<Named>],
+) -> Result<Vec<Vec<bool>>, NoMemory>
+    requires placed { IsPlaced s.now }
+    requires small { AreSmall s.now.trees.now }
+    requires few { length s.now.trees.now ≤ 2 ^ 32 }
+    ensures { IfOk result (λ flags. (at : NodeRef) → flag flags.items at ≡ is_redeclared (unit_of s.now) names.now at) }
+{
+    let mut list = redeclared(alloc, s)?;
+    add_inner(alloc, s, names, &mut list)?;
+    let flags = listed_rows(alloc, s.trees, &list)?;
+    Ok(flags)
+}
