@@ -44,13 +44,16 @@ item_at s i none = unmarked_item s.table s.constants.items s.blocks.items s.cell
 pub steps_by : (rule : Unit → Item → Rule) (u : Subject) (s next : State) (i : Item) (waits : Option Item) → IsItemOf (unit_of u) i → IsAtWork u s
     → StepsBy u s next i (tell (so_far s) (rule (unit_of u) i)) waits
     → Steps (says_of (unit_of u)) (pends_of (unit_of u)) (IsItemOf (unit_of u)) (item_rule rule (unit_of u)) (so_far s) (so_far next) i waits
-steps_by rule u s next i None is work (m, yields, adds) =
-    (m, subst (λ (r : Rule). Gives (says_of (unit_of u)) (so_far s) r m) (sym (rule_of_item rule (unit_of u) i is))
-      (yields_gives (says_of (unit_of u)) (so_far s) (rule (unit_of u) i) (tell (so_far s) (rule (unit_of u) i)) m refl yields), adds)
+steps_by rule u s next i None is work (m, yields, adds) = (
+  m,
+  subst (λ (r : Rule). Gives (says_of (unit_of u)) (so_far s) r m) (sym (rule_of_item rule (unit_of u) i is))
+      (yields_gives (says_of (unit_of u)) (so_far s) (rule (unit_of u) i) (tell (so_far s) (rule (unit_of u) i)) m refl yields),
+  adds,
+)
 steps_by rule u s next i (Some j) is work (expects, stays) =
     let awaits : Awaits (says_of (unit_of u)) (pends_of (unit_of u)) (so_far s) (item_rule rule (unit_of u) i) j =
     subst (λ (r : Rule). Awaits (says_of (unit_of u)) (pends_of (unit_of u)) (so_far s) r j) (sym (rule_of_item rule (unit_of u) i is))
-      (expects_awaits (says_of (unit_of u)) (pends_of (unit_of u)) (so_far s) (rule (unit_of u) i) (tell (so_far s) (rule (unit_of u) i)) j refl expects) in
+    (expects_awaits (says_of (unit_of u)) (pends_of (unit_of u)) (so_far s) (rule (unit_of u) i) (tell (so_far s) (rule (unit_of u) i)) j refl expects) in
     let none = awaited_none (says_of (unit_of u)) (pends_of (unit_of u)) (answers_last (unit_of u)) (so_far s) (item_rule rule (unit_of u) i) j awaits in
     (subst (λ (blocks : List Block). IsItem blocks j) work.blocks (item_at s j none), awaits, stays)
 

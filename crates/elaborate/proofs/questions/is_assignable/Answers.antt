@@ -17,6 +17,6 @@ returns-in-Is c =
     let u = unit_of c.args.u.now in
     let x = c.in_ok-x.x in
     let says = of_operand s c.args.methods.now c.args.to x.of c.args.of x.value c.args.value
-      (λ (q : Question). IsFound (base_of u) (type_item u) declaration_told (so_far s) q Holds c.assignable_to.result)
-      c.in_ok-x.ensures.of c.in_ok-x.ensures.value c.assignable_to.ensures in
+    (λ (q : Question). IsFound (base_of u) (type_item u) declaration_told (so_far s) q Holds c.assignable_to.result)
+    c.in_ok-x.ensures.of c.in_ok-x.ensures.value c.assignable_to.ensures in
     (tt, subst (λ (found : Found (Reached Bool) Item). IsFound (base_of u) (type_item u) declaration_told (so_far s) (assign_by s c.args.of c.args.value c.args.methods.now c.args.to) Holds found) c.in-Is.is says)

@@ -33,7 +33,8 @@ pub returns-in_ok-keep-in-Is-clause-steps : goal.returns-in_ok-keep-in-Is-clause
 returns-in_ok-keep-in-Is-clause-steps g c =
     let u = c.args.u.now in
     let s = c.args.s.now in
-    let settled = subst (IsSettled u s c.in_ok-step.step) c.in-Is.is c.in_ok-found.ensures in
-    (answer_in s c.in-Is.answer,
+    let settled = subst (IsSettled u s c.in_ok-step.step) c.in-Is.is c.in_ok-found.ensures in (
+      answer_in s c.in-Is.answer,
       subst (λ (o : Outcome Item Meaning Question Told Meaning). Yields (says_of (unit_of u)) (so_far s) o (answer_in s c.in-Is.answer)) c.in_ok-step.ensures.is settled.1,
-      c.in_ok-keep-in-Is.ensures.adds)
+      c.in_ok-keep-in-Is.ensures.adds,
+    )

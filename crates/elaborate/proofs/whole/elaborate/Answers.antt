@@ -12,9 +12,10 @@ returns-in-Some g c =
     let s = c.in_ok-state.state in
     let next = c.mark_all.new.work in
     let made = c.in_ok-circle.ensures in
-    let sound = sound_first rule (unit_of u) s c.in_ok-state.ensures.work.blocks c.in_ok-state.ensures.unmarked in
-    (scene_for u next.subject.now next.state made.went.unit c.requires.read made.went.work.scene,
-      in_circle rule u next.subject.now s next.state made.went sound c.in-Some.item (subst (IsCircleAt rule (unit_of u) next.state) c.in-Some.is made.ended.waits))
+    let sound = sound_first rule (unit_of u) s c.in_ok-state.ensures.work.blocks c.in_ok-state.ensures.unmarked in (
+      scene_for u next.subject.now next.state made.went.unit c.requires.read made.went.work.scene,
+      in_circle rule u next.subject.now s next.state made.went sound c.in-Some.item (subst (IsCircleAt rule (unit_of u) next.state) c.in-Some.is made.ended.waits),
+    )
 
 pub returns : goal.returns
 returns g c =
@@ -23,6 +24,7 @@ returns g c =
     let s = c.in_ok-state.state in
     let next = c.mark_all.new.work in
     let made = c.in_ok-circle.ensures in
-    let sound = sound_first rule (unit_of u) s c.in_ok-state.ensures.work.blocks c.in_ok-state.ensures.unmarked in
-    (scene_for u next.subject.now next.state made.went.unit c.requires.read made.went.work.scene,
-      annotated rule u next.subject.now s next.state made.went sound (made.ended.marked c.in-None.is))
+    let sound = sound_first rule (unit_of u) s c.in_ok-state.ensures.work.blocks c.in_ok-state.ensures.unmarked in (
+      scene_for u next.subject.now next.state made.went.unit c.requires.read made.went.work.scene,
+      annotated rule u next.subject.now s next.state made.went sound (made.ended.marked c.in-None.is),
+    )
