@@ -1,4 +1,4 @@
 pub mod ListLemmas
 pub mod PartLemmas
 pub mod FieldLemmas
-pub mod HeldLemmas
+pub mod UnderLemmas

@@ -1,7 +1,7 @@
 -- Lists that are gone through item by item.
 use Rattle.std.proofs.Common.{◌≡◌, ℕ, ◌+◌, ◌<◌, ◌≤◌, zero, suc, List, [], ◌∷◌, ◌++◌, map, take, drop, length, slice_get, Some, refl, sym, ap, ◌∙◌, subst, append_assoc, arith}
 use Rattle.std.specs.List.{All}
-use Rattle.std.proofs.lemmas.List.Elements.{All-nil, All-cons, All-tail, All-weaker}
+use Rattle.std.proofs.lemmas.List.Elements.{All-tail, All-weaker}
 use Rattle.type_model.specs.declared.term.TypeId.{TypeId}
 use Rattle.type_model.specs.GoTypes.{AreBelow}
 
@@ -56,15 +56,3 @@ all_at P (y ∷ xs) (suc i) x is all = all_at P xs i x is (All-tail P y xs all)
 
 pub below_weaker : (n count : ℕ) (ids : List TypeId) → n ≤ count → AreBelow n ids → AreBelow count ids
 below_weaker n count ids more below = All-weaker (λ (x : TypeId). x.0 < n) (λ (x : TypeId). x.0 < count) (λ x low. omega arith) ids below
-
-pub nil_of : {X : Type 0} (xs : List X) → length xs ≡ 0 → xs ≡ []
-nil_of [] is = refl
-nil_of (x ∷ xs) is = absurd (omega arith)
-
-pub all_last : {X : Type 0} (P : X → Type 0) (xs : List X) (x : X) → All P (xs ++ x ∷ []) → P x
-all_last P [] x all = all 0 x (omega arith)
-all_last P (y ∷ xs) x all = all_last P xs x (All-tail P y (xs ++ x ∷ []) all)
-
-pub all_front : {X : Type 0} (P : X → Type 0) (xs : List X) (x : X) → All P (xs ++ x ∷ []) → All P xs
-all_front P [] x all = All-nil P
-all_front P (y ∷ xs) x all = All-cons P y xs (all 0 y (omega arith)) (all_front P xs x (All-tail P y (xs ++ x ∷ []) all))

@@ -1,8 +1,5 @@
-pub mod Declarings
 pub mod Forms
 pub mod Good
-pub mod Held
-pub mod Holdings
 pub mod Interfaces
 pub mod Members
 pub mod Objects
@@ -13,4 +10,5 @@ pub mod Specifications
 pub mod Structs
 pub mod Taken
 pub mod Types
+pub mod Under
 pub mod Wants

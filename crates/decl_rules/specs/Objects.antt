@@ -1,4 +1,4 @@
--- The mark of an object, by where its name stands (Go 1.17, "Declarations and scope"), and what its type is declared with.
+-- The mark of an object, by where its name stands (Go 1.17, "Declarations and scope").
 use Rattle.std.specs.Prelude.{ℕ, ◌==◌, ◌&&◌, ◌||◌, Bool, true, false, not, if◌then◌else◌, List, [], length, codes, Option, Some, None, slice_get, option_and_then}
 use Rattle.std.specs.Option.{option_map_or}
 use Rattle.std.specs.Str.{bytes_eq}
@@ -10,8 +10,6 @@ use Rattle.object_order.specs.Spots.{place}
 use Rattle.const_tree.specs.declared.constant.Spec.{Spec}
 use Rattle.const_tree.specs.Constants.{typing_of, values_of, is_repeated}
 use Rattle.package_objects.specs.Declares.{items, part}
-use Rattle.type_model.specs.declared.term.TypeName.{TypeName}
-use Rattle.type_model.specs.Declarations.{Declaration}
 use Rattle.type_model.specs.GoTypes.{GoType, DefinedType}
 use Rattle.mark_walk.specs.Asks.{done, bind}
 use Rattle.typed_tree.specs.Declarations.{has_constants}
@@ -19,20 +17,19 @@ use Rattle.typed_tree.specs.declared.mark.Mode.TheVariants as mode
 use Rattle.typed_tree.specs.declared.rule.Rule.{Rule as RuleNumber}
 use Rattle.typed_tree.specs.declared.rule.TheConstants.{REDECLARED, BAD_INIT, DECLARATION_CYCLE}
 use Rattle.typed_marks.specs.declared.item.Stage.TheVariants as s
-use Rattle.typed_marks.specs.Meanings.{Known, Meaning, Right, Wrong, Quiet, Declares}
+use Rattle.typed_marks.specs.Meanings.{Known, Meaning, Right, Wrong, Quiet}
 use Rattle.unit_read.specs.declared.place.Place.{Place}
 use Rattle.unit_read.specs.Units.{Unit, nodes_at, node_at, name_at, place_at, spec_at, is_top, type_name_at}
 use Rattle.unit_read.specs.Units.{copy_at}
 use Rattle.rule_words.specs.declared.read.How.TheVariants as h
 use Rattle.rule_words.specs.Parts.{Part, read_as}
-use Rattle.rule_words.specs.Asking.{Rule, mark_ask, part_ask, under_ask}
+use Rattle.rule_words.specs.Asking.{Rule, mark_ask, part_ask}
 use Rattle.rule_words.specs.Answers.{typed}
 use Rattle.rule_words.specs.Words.{need_type}
 use Rattle.decl_rules.specs.declared.forms.Named.{Named}
 use Rattle.decl_rules.specs.declared.forms.Named.TheVariants as named
 use Rattle.decl_rules.specs.Forms.{named_form}
 use Rattle.decl_rules.specs.Good.{given}
-use Rattle.decl_rules.specs.Held.{held_names, names_ask}
 use Rattle.decl_rules.specs.Types.{gives_type}
 use Rattle.decl_rules.specs.Signatures.{results_node}
 
@@ -176,37 +173,3 @@ placed_object u name p = option_map_or (object_in u name p) (node_at u (place na
 -- The mark of the object that is declared at a name.
 abbrev pub object_rule : Unit → NodeRef → Rule
 object_rule u name = option_map_or (placed_object u name) (place_at u name) (done Quiet)
-
--- ---- what a type is declared with
-
--- the type expression behind the name of a type
-abbrev pub written_in : Unit → ℕ → Place → Option ℕ
-written_in u file p = option_and_then (λ (node : Node). part node 1) (node_at u (place file p.around))
-
-abbrev pub written_type : Unit → NodeRef → Option ℕ
-written_type u name = option_and_then (written_in u name.file) (place_at u name)
-
--- "A type .. may not contain itself": what it holds by value is declared before
-abbrev pub declared_with : Unit → GoType → Rule
-declared_with u of = names_ask u (held_names of) (done (Declares (record { under = of; methods = [] })))
-
-abbrev pub declaring : Unit → Option GoType → Rule
-declaring u under = need_type under (declared_with u)
-
--- "Types": the underlying type is that of the type to which it refers in its declaration
-abbrev pub underlying_rule : Unit → Known → Rule
-underlying_rule u x = bind (under_ask u x.of) (λ under. declaring u under)
-
-abbrev pub named_rule : Unit → Meaning → Rule
-named_rule u m = given m (λ x. underlying_rule u x)
-
--- a type that is refused or cyclic is declared by nothing
-abbrev pub own_rule : Unit → NodeRef → Meaning → Rule
-own_rule u name m = given m (λ x. placed_ask u name.file (written_type u name) (named_rule u))
-
-abbrev pub type_rule : Unit → NodeRef → TypeName → Rule
-type_rule u name n = bind (mark_ask u s.Object name.file name.node) (λ m. own_rule u name m)
-
--- What the defined type is declared with whose name stands here. Its methods aren't told yet.
-abbrev pub under_rule : Unit → NodeRef → Rule
-under_rule u name = option_map_or (type_rule u name) (type_name_at u name) (done Quiet)

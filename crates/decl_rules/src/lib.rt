@@ -8,9 +8,7 @@ mod embedding;
 mod fields;
 mod forms;
 mod good;
-mod held;
 mod objects;
-mod outcome;
 mod params;
 mod reads;
 mod receivers;
@@ -26,11 +24,6 @@ mod wants;
 pub use declared::declared_name;
 pub use embedding::judge_embedding;
 pub use objects::judge_object;
-pub use outcome::Declaring;
 pub use reads::decl_reads;
-pub use rules::{
-    BAD_ARRAY_LENGTH, BAD_CONSTANT_TYPE, BAD_RECEIVER, DUPLICATE_MEMBER, EMBEDS_NO_INTERFACE,
-    WRONG_NUMBER_OF_VALUES,
-};
 pub use under::judge_under;
 pub use wants::{declares_names, want_decl};

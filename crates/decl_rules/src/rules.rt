@@ -1,20 +1,20 @@
-//! Numbers of rules.
+//! The numbers of the rules that are broken here.
 use typed_tree::Rule;
 
 /// E11 bad array length
-pub const BAD_ARRAY_LENGTH: Rule = Rule(11);
+pub(crate) const BAD_ARRAY_LENGTH: Rule = Rule(11);
 
 /// E14 duplicate field or method
-pub const DUPLICATE_MEMBER: Rule = Rule(14);
+pub(crate) const DUPLICATE_MEMBER: Rule = Rule(14);
 
 /// E15 embeds no interface
-pub const EMBEDS_NO_INTERFACE: Rule = Rule(15);
+pub(crate) const EMBEDS_NO_INTERFACE: Rule = Rule(15);
 
 /// E16 bad receiver
-pub const BAD_RECEIVER: Rule = Rule(16);
+pub(crate) const BAD_RECEIVER: Rule = Rule(16);
 
 /// E98 bad constant type
-pub const BAD_CONSTANT_TYPE: Rule = Rule(98);
+pub(crate) const BAD_CONSTANT_TYPE: Rule = Rule(98);
 
 /// E99 wrong number of values
-pub const WRONG_NUMBER_OF_VALUES: Rule = Rule(99);
+pub(crate) const WRONG_NUMBER_OF_VALUES: Rule = Rule(99);

@@ -1,29 +1,28 @@
 //! What defined types are declared with.
-ghost use Rattle.std.specs.Prelude.{◌≡◌, [], Some, IfOk, option_map};
+ghost use Rattle.std.specs.Prelude.{◌≡◌, true, Some, option_map};
 ghost use Rattle.mark_walk.specs.Telling.{Says, tell};
-ghost use Rattle.type_model.specs.declared.term.TypeName.{TypeName};
-ghost use Rattle.typed_marks.specs.Meanings.{Declares};
+ghost use Rattle.type_model.specs.GoTypes.{is_defined};
+ghost use Rattle.type_model.specs.Tables.{IsTable};
+ghost use Rattle.typed_marks.specs.declared.item.Stage.TheVariants as stage;
 ghost use Rattle.typed_marks.specs.States.{so_far};
-ghost use Rattle.typed_marks.specs.declared.state.State.{State};
 ghost use Rattle.unit_read.specs.Subjects.{unit_of, IsRead};
+ghost use Rattle.unit_read.specs.Units.{Unit, is_this, is_among, defined};
+ghost use Rattle.rule_words.specs.declared.declaring.Declaring.TheVariants as d;
+ghost use Rattle.rule_words.specs.Asking.{item, stands, mark_ask};
+ghost use Rattle.rule_words.specs.Declaring.{declaring_in, IsDeclaringAt};
 ghost use Rattle.rule_words.specs.Scenes.{IsScene, said, IsMarkOf, type_in, IsTypeOf, MayBeTypeOf};
-ghost use Rattle.decl_rules.specs.declared.outcome.Declaring.TheVariants as d;
-ghost use Rattle.decl_rules.specs.Declarings.{declaring_in, IsDeclaringOf};
 ghost use Rattle.decl_rules.specs.Good.{known_of, AreFactsOf};
-ghost use Rattle.decl_rules.specs.Held.{waiting};
-ghost use Rattle.decl_rules.specs.Objects.{placed_ask, written_in, written_type, declared_with, declaring, underlying_rule, named_rule, own_rule, type_rule, under_rule};
+ghost use Rattle.decl_rules.specs.Objects.{placed_ask};
+ghost use Rattle.decl_rules.specs.Under.{is_given, is_here, is_of_node, written_in, written_type, declared_with, declaring, underlying_rule, written_rule, named_rule, known_rule, own_rule, type_rule, under_rule, IsTypeAt, IsDeclaringOf};
 
 use crate::good::known;
-use crate::held::first_pending;
-use crate::outcome::Declaring;
 use go_tree::NodeRef;
-use gv_base::NoMemory;
 use package_objects::part_of;
-use rule_words::{look, under_of};
+use rule_words::{Declaring, look, under_of};
 use std::alloc::Global;
-use type_model::TypeId;
+use type_model::{Term, TypeId, TypeName};
 use type_questions::Found;
-use typed_marks::{Facts, Item, Mark, Stage, State};
+use typed_marks::{Facts, Mark, Stage, State};
 use unit_read::{Place, Subject};
 
 fn nothing() -> Declaring
@@ -32,106 +31,89 @@ fn nothing() -> Declaring
     Declaring::Nothing
 }
 
-fn waiting(of: TypeId, under: TypeId, item: Option<Item>) -> Declaring
-    ensures is { (s : State) → declaring_in s result ≡ waiting item (Says (Declares (record { under = type_in s under; methods = [] }))) }
-    ensures over { (s : State) → IsTypeOf s of → IsTypeOf s under → IsDeclaringOf s result }
+fn is_defined(s: &State, of: TypeId) -> bool
+    requires table { IsTable s.now.table }
+    requires within { IsTypeOf s.now of }
+    ensures { result ≡ is_defined (type_in s.now of) }
 {
-    match item {
-        Some(item) => Declaring::Waits(item),
-        None => Declaring::With(of, under),
+    match s.table.term(of) {
+        Term::Defined(_) => true,
+        Term::Basic(_) => false,
+        Term::Pointer(_) => false,
+        Term::Slice(_) => false,
+        Term::Array(_, _) => false,
+        Term::Map(_, _) => false,
+        Term::Chan(_, _) => false,
+        Term::Func(_) => false,
+        Term::Struct(_) => false,
+        Term::Interface(_) => false,
     }
 }
 
-/// What it holds by value is declared before.
-fn declared_with(
-    alloc: Global,
-    u: &Subject,
-    s: &State,
-    of: TypeId,
-    under: TypeId,
-) -> Result<Declaring, NoMemory>
-    requires scene { IsScene u.now s.now }
-    requires own { IsTypeOf s.now of }
+/// Once all that the underlying type holds is declared.
+fn declared_with(alloc: Global, s: &State, of: TypeId, under: TypeId) -> Declaring
+    requires table { IsTable s.now.table }
     requires under { IsTypeOf s.now under }
-    ensures is { IfOk result (λ o. declaring_in s.now o ≡ tell (so_far s.now) (declared_with (unit_of u.now) (type_in s.now under))) }
-    ensures over { IfOk result (IsDeclaringOf s.now) }
+    ensures is { declaring_in s.now result ≡ tell (so_far s.now) (declared_with (type_in s.now under)) }
+    ensures over { (u : Unit) → IsDeclaringOf u s.now of result }
 {
-    let item = first_pending(alloc, u, s, under)?;
-    Ok(waiting(of, under, item))
+    if is_defined(s, under) {
+        nothing()
+    } else {
+        Declaring::With(of, under, Vec::new(alloc))
+    }
 }
 
-fn declaring(
-    alloc: Global,
-    u: &Subject,
-    s: &State,
-    of: TypeId,
-    under: Option<TypeId>,
-) -> Result<Declaring, NoMemory>
-    requires scene { IsScene u.now s.now }
-    requires own { IsTypeOf s.now of }
+fn declaring(alloc: Global, s: &State, of: TypeId, under: Option<TypeId>) -> Declaring
+    requires table { IsTable s.now.table }
     requires under { MayBeTypeOf s.now under }
-    ensures is { IfOk result (λ o. declaring_in s.now o ≡ tell (so_far s.now) (declaring (unit_of u.now) (option_map (type_in s.now) under))) }
-    ensures over { IfOk result (IsDeclaringOf s.now) }
+    ensures is { declaring_in s.now result ≡ tell (so_far s.now) (declaring (option_map (type_in s.now) under)) }
+    ensures over { (u : Unit) → IsDeclaringOf u s.now of result }
 {
     match under {
-        Some(under) => {
-            let step = declared_with(alloc, u, s, of, under)?;
-            Ok(step)
-        }
-        None => Ok(nothing()),
+        Some(under) => declared_with(alloc, s, of, under),
+        None => nothing(),
     }
 }
 
-fn underlying(
-    alloc: Global,
-    u: &Subject,
-    s: &State,
-    of: TypeId,
-    x: Facts,
-) -> Result<Declaring, NoMemory>
+fn underlying(alloc: Global, u: &Subject, s: &State, of: TypeId, x: Facts) -> Declaring
     requires scene { IsScene u.now s.now }
-    requires own { IsTypeOf s.now of }
     requires facts { AreFactsOf s.now x }
-    ensures is { IfOk result (λ o. declaring_in s.now o ≡ tell (so_far s.now) (underlying_rule (unit_of u.now) (known_of s.now x))) }
-    ensures over { IfOk result (IsDeclaringOf s.now) }
+    ensures is { declaring_in s.now result ≡ tell (so_far s.now) (underlying_rule (unit_of u.now) (known_of s.now x)) }
+    ensures over { IsDeclaringOf (unit_of u.now) s.now of result }
 {
     match under_of(u, s, x.of) {
-        Found::Is(under) => {
-            let step = declaring(alloc, u, s, of, under)?;
-            Ok(step)
-        }
-        Found::Wait(item) => Ok(Declaring::Waits(item)),
+        Found::Is(under) => declaring(alloc, s, of, under),
+        Found::Wait(item) => Declaring::Waits(item),
     }
 }
 
-fn named(alloc: Global, u: &Subject, s: &State, of: TypeId, m: Mark) -> Result<Declaring, NoMemory>
+fn written(alloc: Global, u: &Subject, s: &State, of: TypeId, m: Mark) -> Declaring
     requires scene { IsScene u.now s.now }
-    requires own { IsTypeOf s.now of }
     requires mark { IsMarkOf s.now m }
-    ensures is { IfOk result (λ o. declaring_in s.now o ≡ tell (so_far s.now) (named_rule (unit_of u.now) (said s.now m))) }
-    ensures over { IfOk result (IsDeclaringOf s.now) }
+    ensures is { declaring_in s.now result ≡ tell (so_far s.now) (written_rule (unit_of u.now) (said s.now m)) }
+    ensures over { IsDeclaringOf (unit_of u.now) s.now of result }
 {
     match known(s, m) {
-        Some(x) => {
-            let step = underlying(alloc, u, s, of, x)?;
-            Ok(step)
-        }
-        None => Ok(nothing()),
+        Some(x) => underlying(alloc, u, s, of, x),
+        None => nothing(),
     }
 }
 
 fn written_in(u: &Subject, file: u32, p: Place) -> Option<u32>
     ensures { result ≡ written_in (unit_of u.now) file p }
 {
-    match u.node_at(NodeRef {
+    let at = NodeRef {
         file,
         node: p.around,
-    }) {
+    };
+    match u.node_at(at) {
         Some(node) => part_of(node, 1),
         None => None,
     }
 }
 
+/// The type expression behind the name of a type.
 fn written_type(u: &Subject, name: NodeRef) -> Option<u32>
     requires { IsRead u.now }
     ensures { result ≡ written_type (unit_of u.now) name }
@@ -142,95 +124,130 @@ fn written_type(u: &Subject, name: NodeRef) -> Option<u32>
     }
 }
 
-fn placed(
-    alloc: Global,
-    u: &Subject,
-    s: &State,
-    file: u32,
-    of: TypeId,
-    n: u32,
-) -> Result<Declaring, NoMemory>
-    requires scene { IsScene u.now s.now }
-    requires own { IsTypeOf s.now of }
-    ensures is { IfOk result (λ o. declaring_in s.now o ≡ tell (so_far s.now) (placed_ask (unit_of u.now) file (Some n) (named_rule (unit_of u.now)))) }
-    ensures over { IfOk result (IsDeclaringOf s.now) }
+fn placed(alloc: Global, u: &Subject, s: &State, file: u32, of: TypeId, n: u32) -> Declaring
+    requires { IsScene u.now s.now }
+    ensures is { declaring_in s.now result ≡ tell (so_far s.now) (placed_ask (unit_of u.now) file (Some n) (written_rule (unit_of u.now))) }
+    ensures over { IsDeclaringOf (unit_of u.now) s.now of result }
 {
     match look(u, s, Stage::Placed, file as usize, n) {
-        Found::Is(m) => {
-            let step = named(alloc, u, s, of, m)?;
-            Ok(step)
-        }
-        Found::Wait(item) => Ok(Declaring::Waits(item)),
+        Found::Is(m) => written(alloc, u, s, of, m),
+        Found::Wait(item) => Declaring::Waits(item),
     }
 }
 
-fn written_at(
-    alloc: Global,
-    u: &Subject,
-    s: &State,
-    file: u32,
-    of: TypeId,
-    n: Option<u32>,
-) -> Result<Declaring, NoMemory>
-    requires scene { IsScene u.now s.now }
-    requires own { IsTypeOf s.now of }
-    ensures is { IfOk result (λ o. declaring_in s.now o ≡ tell (so_far s.now) (placed_ask (unit_of u.now) file n (named_rule (unit_of u.now)))) }
-    ensures over { IfOk result (IsDeclaringOf s.now) }
+fn named(alloc: Global, u: &Subject, s: &State, name: NodeRef, of: TypeId) -> Declaring
+    requires { IsScene u.now s.now }
+    ensures is { declaring_in s.now result ≡ tell (so_far s.now) (named_rule (unit_of u.now) name) }
+    ensures over { IsDeclaringOf (unit_of u.now) s.now of result }
 {
-    match n {
-        Some(n) => {
-            let step = placed(alloc, u, s, file, of, n)?;
-            Ok(step)
-        }
-        None => Ok(nothing()),
+    match written_type(u, name) {
+        Some(n) => placed(alloc, u, s, name.file, of, n),
+        None => nothing(),
     }
 }
 
-fn own(alloc: Global, u: &Subject, s: &State, name: NodeRef, m: Mark) -> Result<Declaring, NoMemory>
+/// Whether a type is declared from the start.
+fn is_given(u: &Subject, name: &TypeName) -> bool
+    ensures { result ≡ is_given (unit_of u.now) name.now }
+{
+    let _ = u;
+    name.package.as_str().as_bytes() == b"".as_slice()
+        && (name.name.as_str().as_bytes() == b"error".as_slice() && name.local == 0)
+}
+
+fn is_this(at: NodeRef, other: Option<NodeRef>) -> bool
+    ensures { result ≡ is_this at other }
+{
+    match other {
+        Some(other) => at.file == other.file && at.node == other.node,
+        None => false,
+    }
+}
+
+/// Whether the type of a name is declared at a node.
+fn is_here(u: &Subject, at: NodeRef, name: &TypeName) -> bool
+    requires { IsRead u.now }
+    ensures { result ≡ is_here (unit_of u.now) at name.now }
+{
+    !is_given(u, name) && is_this(at, u.type_node(name))
+}
+
+fn is_of_node(u: &Subject, s: &State, at: NodeRef, of: TypeId) -> bool
+    requires read { IsRead u.now }
+    requires table { IsTable s.now.table }
+    requires within { IsTypeOf s.now of }
+    ensures { result ≡ is_of_node (unit_of u.now) at (type_in s.now of) }
+{
+    match s.table.term(of) {
+        Term::Defined(name) => is_here(u, at, name),
+        Term::Basic(_) => false,
+        Term::Pointer(_) => false,
+        Term::Slice(_) => false,
+        Term::Array(_, _) => false,
+        Term::Map(_, _) => false,
+        Term::Chan(_, _) => false,
+        Term::Func(_) => false,
+        Term::Struct(_) => false,
+        Term::Interface(_) => false,
+    }
+}
+
+fn known_type(alloc: Global, u: &Subject, s: &State, name: NodeRef, x: Facts) -> Declaring
+    requires scene { IsScene u.now s.now }
+    requires facts { AreFactsOf s.now x }
+    requires stands { stands (unit_of u.now) name.file name.node ≡ true }
+    ensures is { declaring_in s.now result ≡ tell (so_far s.now) (known_rule (unit_of u.now) name (known_of s.now x)) }
+    ensures over { IsDeclaringAt (unit_of u.now) s.now (item stage.Under name.file name.node) result }
+{
+    if is_of_node(u, s, name, x.of) {
+        named(alloc, u, s, name, x.of)
+    } else {
+        nothing()
+    }
+}
+
+/// A type that is refused or cyclic is declared by nothing.
+fn own(alloc: Global, u: &Subject, s: &State, name: NodeRef, m: Mark) -> Declaring
     requires scene { IsScene u.now s.now }
     requires mark { IsMarkOf s.now m }
-    ensures is { IfOk result (λ o. declaring_in s.now o ≡ tell (so_far s.now) (own_rule (unit_of u.now) name (said s.now m))) }
-    ensures over { IfOk result (IsDeclaringOf s.now) }
+    requires told { Says (said s.now m) ≡ tell (so_far s.now) (mark_ask (unit_of u.now) stage.Object name.file name.node) }
+    ensures is { declaring_in s.now result ≡ tell (so_far s.now) (own_rule (unit_of u.now) name (said s.now m)) }
+    ensures over { IsDeclaringAt (unit_of u.now) s.now (item stage.Under name.file name.node) result }
 {
     match known(s, m) {
-        Some(x) => {
-            let step = written_at(alloc, u, s, name.file, x.of, written_type(u, name))?;
-            Ok(step)
-        }
-        None => Ok(nothing()),
+        Some(x) => known_type(alloc, u, s, name, x),
+        None => nothing(),
     }
 }
 
-fn asked(alloc: Global, u: &Subject, s: &State, name: NodeRef) -> Result<Declaring, NoMemory>
+fn asked(alloc: Global, u: &Subject, s: &State, name: NodeRef) -> Declaring
     requires { IsScene u.now s.now }
-    ensures is { IfOk result (λ o. (n : TypeName) → declaring_in s.now o ≡ tell (so_far s.now) (type_rule (unit_of u.now) name n)) }
-    ensures over { IfOk result (IsDeclaringOf s.now) }
+    ensures is { declaring_in s.now result ≡ tell (so_far s.now) (type_rule (unit_of u.now) name) }
+    ensures over { IsDeclaringAt (unit_of u.now) s.now (item stage.Under name.file name.node) result }
 {
     match look(u, s, Stage::Object, name.file as usize, name.node) {
-        Found::Is(m) => {
-            let step = own(alloc, u, s, name, m)?;
-            Ok(step)
-        }
-        Found::Wait(item) => Ok(Declaring::Waits(item)),
+        Found::Is(m) => own(alloc, u, s, name, m),
+        Found::Wait(item) => Declaring::Waits(item),
     }
+}
+
+/// Whether the name of a defined type stands at a node.
+fn is_among(u: &Subject, at: NodeRef) -> bool
+    requires { IsRead u.now }
+    ensures { result ≡ is_among at (defined (unit_of u.now)) }
+{
+    u.local_at(at).is_some()
 }
 
 /// What the defined type is declared with whose name stands here, or what that waits for.
-pub fn judge_under(
-    alloc: Global,
-    u: &Subject,
-    s: &State,
-    name: NodeRef,
-) -> Result<Declaring, NoMemory>
+pub fn judge_under(alloc: Global, u: &Subject, s: &State, name: NodeRef) -> Declaring
     requires { IsScene u.now s.now }
-    ensures is { IfOk result (λ o. declaring_in s.now o ≡ tell (so_far s.now) (under_rule (unit_of u.now) name)) }
-    ensures over { IfOk result (IsDeclaringOf s.now) }
+    ensures is { declaring_in s.now result ≡ tell (so_far s.now) (under_rule (unit_of u.now) name) }
+    ensures over { IsDeclaringAt (unit_of u.now) s.now (item stage.Under name.file name.node) result }
 {
-    match u.local_at(name) {
-        Some(_) => {
-            let step = asked(alloc, u, s, name)?;
-            Ok(step)
-        }
-        None => Ok(nothing()),
+    if is_among(u, name) {
+        asked(alloc, u, s, name)
+    } else {
+        nothing()
     }
 }

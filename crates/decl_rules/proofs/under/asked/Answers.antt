@@ -6,12 +6,12 @@ use Rattle.typed_marks.specs.States.{so_far}
 use Rattle.unit_read.specs.Subjects.{unit_of}
 use Rattle.rule_words.specs.Asking.{mark_ask}
 use Rattle.rule_words.specs.Scenes.{said}
-use Rattle.decl_rules.specs.Objects.{own_rule}
+use Rattle.decl_rules.specs.Under.{own_rule}
 use Rattle.decl_rules.proofs.under.asked.Goals as goal
 
-pub returns-in_ok-step-in-Is-clause-is : goal.returns-in_ok-step-in-Is-clause-is
-returns-in_ok-step-in-Is-clause-is c = λ n.
+pub returns-in-Is-clause-is : goal.returns-in-Is-clause-is
+returns-in-Is-clause-is c =
     let s = c.args.s.now in
     let u = unit_of c.args.u.now in
-    c.in_ok-step-in-Is.ensures.is
+    c.own.ensures.is
     ∙ sym (told_bind (so_far s) (mark_ask u st.Object c.args.name.file c.args.name.node) (λ m. own_rule u c.args.name m) (Says (said s c.in-Is.m)) (sym c.in-Is.ensures.is))
