@@ -20,7 +20,7 @@ use Rattle.typed_marks.specs.declared.state.State.{State}
 use Rattle.typed_marks.specs.Meanings.{Known, Meaning, Quiet}
 use Rattle.unit_read.specs.Units.{Unit, type_name, named_by, defined, is_this, type_node, base_of, error_declaration}
 use Rattle.unit_read.proofs.TypeLemmas.{same_node}
-use Rattle.rule_words.specs.Asking.{item, stands, mark_ask, under_at, type_item}
+use Rattle.rule_words.specs.Asking.{Rule, item, stands, mark_ask, under_at, type_item}
 use Rattle.rule_words.specs.Scenes.{type_in, IsTypeOf}
 use Rattle.decl_rules.specs.Good.{known_told}
 use Rattle.decl_rules.specs.Under.{is_given, is_here, is_of_node, IsTypeAt}
@@ -72,8 +72,8 @@ item_node u at None is = absurd cc
 item_node u at (Some other) is = by (stands u other.file other.node) is where
   by : (b : Bool) → (if b then Some (item s.Under other.file other.node) else None) ≡ Some (item s.Under at.file at.node) → Some other ≡ Some at
   by true is =
-      let files : other.file ≡ at.file = cc in
-      let nodes : other.node ≡ at.node = cc in
+      let files : other.file ≡ at.file = ap (λ (o : Option Item). option_map_or (λ (i : Item). i.block) o 0) is in
+      let nodes : other.node ≡ at.node = ap (λ (o : Option Item). option_map_or (λ (i : Item). i.node) o 0) is in
       ap Some (ap (λ (f : ℕ). node_with f other.node) files ∙ ap (λ (n : ℕ). node_with at.file n) nodes)
   by false is = absurd cc
 
@@ -112,11 +112,14 @@ own_type u state at of low there is = by (type_in state of) refl is where
 
 -- ---- tests
 
+abbrev ask_if : Bool → Item → Rule
+ask_if b i = if b then ask i (λ m. done m) else done Quiet
+
 -- what is good is the mark of a node that stands there
 pub standing : (u : Unit) (marks : Item → Option Meaning) (stage : Stage) (block node : ℕ) (m : Meaning) (x : Known)
     → Says m ≡ tell marks (mark_ask u stage block node) → Some x ≡ known_told m → stands u block node ≡ true
 standing u marks stage block node m x told known = by (stands u block node) told where
-  by : (b : Bool) → Says m ≡ tell marks (if b then ask (item stage block node) (λ m. done m) else done Quiet) → b ≡ true
+  by : (b : Bool) → Says m ≡ tell marks (ask_if b (item stage block node)) → b ≡ true
   by true told = refl
   by false told =
       let quiet : m ≡ Quiet = cc in

@@ -2,7 +2,8 @@
 ghost use Rattle.std.specs.Prelude.{◌≡◌, true, Some, option_map};
 ghost use Rattle.mark_walk.specs.Telling.{Says, tell};
 ghost use Rattle.type_model.specs.GoTypes.{is_defined};
-ghost use Rattle.type_model.specs.Tables.{IsTable};
+ghost use Rattle.type_model.specs.Tables.{IsTable, is_same_name};
+ghost use Rattle.typed_tree.specs.Universe.{error_name};
 ghost use Rattle.typed_marks.specs.declared.item.Stage.TheVariants as stage;
 ghost use Rattle.typed_marks.specs.States.{so_far};
 ghost use Rattle.unit_read.specs.Subjects.{unit_of, IsRead};
@@ -146,13 +147,20 @@ fn named(alloc: Global, u: &Subject, s: &State, name: NodeRef, of: TypeId) -> De
     }
 }
 
+/// Whether this is the name of the predeclared type `error`.
+fn is_error(name: &TypeName) -> bool
+    ensures { result ≡ is_same_name name.now error_name }
+{
+    name.package.as_str().as_bytes() == b"".as_slice()
+        && (name.name.as_str().as_bytes() == b"error".as_slice() && name.local == 0)
+}
+
 /// Whether a type is declared from the start.
 fn is_given(u: &Subject, name: &TypeName) -> bool
     ensures { result ≡ is_given (unit_of u.now) name.now }
 {
     let _ = u;
-    name.package.as_str().as_bytes() == b"".as_slice()
-        && (name.name.as_str().as_bytes() == b"error".as_slice() && name.local == 0)
+    is_error(name)
 }
 
 fn is_this(at: NodeRef, other: Option<NodeRef>) -> bool

@@ -4,7 +4,8 @@ use Rattle.unit_read.specs.Units.{is_among, defined, type_name}
 use Rattle.decl_rules.proofs.UnderLemmas.{among_test}
 use Rattle.decl_rules.proofs.under.is_among.Goals as goal
 
-pub returns-clause : goal.returns-clause
-returns-clause c =
+pub returns : goal.returns
+returns c =
     let u = unit_of c.args.u.now in
-    ap (λ (o : Option ℕ). is_some o) (c.local_at.ensures ∙ c.requires.inside c.args.at) ∙ among_test (is_among c.args.at (defined u)) (type_name u c.args.at)
+    c.is_some.ensures
+    ∙ (ap (λ (o : Option ℕ). is_some o) (c.local_at.ensures ∙ c.requires.inside c.args.at) ∙ among_test (is_among c.args.at (defined u)) (type_name u c.args.at))

@@ -4,5 +4,5 @@ use Rattle.typed_tree.specs.Universe.{error_name}
 use Rattle.decl_rules.proofs.UnderLemmas.{given_test}
 use Rattle.decl_rules.proofs.under.is_given.Goals as goal
 
-pub returns-clause : goal.returns-clause
-returns-clause c = sym (given_test (is_same_name c.args.name.now error_name))
+pub returns : goal.returns
+returns c = c.is_error.ensures ∙ sym (given_test (is_same_name c.args.name.now error_name))
