@@ -145,14 +145,7 @@ fn with_typing(u: &Subject, s: &State, block: usize, value: Option<u32>, p: Seen
 }
 
 /// Its type is read where it is written.
-fn typed_in(
-    u: &Subject,
-    s: &State,
-    file: usize,
-    block: usize,
-    t: u32,
-    value: Option<u32>,
-) -> Step
+fn typed_in(u: &Subject, s: &State, file: usize, block: usize, t: u32, value: Option<u32>) -> Step
     requires { IsScene u.now s.now }
     ensures is { step_in s.now result ≡ tell (so_far s.now) (typed_in (unit_of u.now) file block t value) }
     ensures over { IsStepOf s.now result }

@@ -9,6 +9,7 @@ mod fields;
 mod forms;
 mod good;
 mod held;
+mod judges;
 mod objects;
 mod outcome;
 mod params;
@@ -25,6 +26,7 @@ mod wants;
 
 pub use declared::declared_name;
 pub use embedding::judge_embedding;
+pub use judges::judge_decl;
 pub use objects::judge_object;
 pub use outcome::Declaring;
 pub use reads::decl_reads;
