@@ -8,6 +8,7 @@ mod embedding;
 mod fields;
 mod forms;
 mod good;
+mod judges;
 mod objects;
 mod params;
 mod reads;
@@ -23,6 +24,7 @@ mod wants;
 
 pub use declared::declared_name;
 pub use embedding::judge_embedding;
+pub use judges::judge_decl;
 pub use objects::judge_object;
 pub use reads::decl_reads;
 pub use under::judge_under;
