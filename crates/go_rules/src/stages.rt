@@ -8,14 +8,16 @@ ghost use Rattle.rule_words.specs.Scenes.{IsScene, told_by, IfFound, said, IsMar
 ghost use Rattle.rule_words.specs.Steps.{step_in, IsStepOf};
 ghost use Rattle.rule_words.specs.Wanting.{wanted_of, IsWantedOf};
 ghost use Rattle.go_rules.specs.Families.{family, node_reads, rule_by, wants_by};
-ghost use Rattle.go_rules.specs.Stages.{from_parts, with_parts, before_by, judged_rule, placed_after, placed_in, wants_of, wants_at, wanted_rule, wished};
+ghost use Rattle.go_rules.specs.Stages.{from_parts, with_parts, nothing_wanted, before_by, before_in, before_as, judged_with, judged_in, judged_as, wants_of, wants_at, wanted_rule, wished};
 
+use crate::clause::judge_clause;
 use crate::family::{Family, family};
 use crate::reads::node_reads;
-use decl_rules::{judge_decl, want_decl};
+use crate::role::Role;
+use decl_rules::{declared_name, judge_decl, want_decl};
 use go_tree::{Node, NodeRef};
 use gv_base::NoMemory;
-use op_rules::{judge_op, judge_placed, want_op};
+use op_rules::{judge_op, want_op};
 use rule_words::{Answer, Seen, Step, Wanted, look, parts, wanted_by};
 use std::alloc::Global;
 use type_questions::Found;
@@ -59,6 +61,10 @@ fn judge_by(
             let step = judge_decl(alloc, u, s, block, at, node, list, w)?;
             Ok(step)
         }
+        Family::Clause => {
+            let step = judge_clause(alloc, u, s, at.file)?;
+            Ok(step)
+        }
         Family::Other => Ok(silent()),
     }
 }
@@ -90,24 +96,24 @@ fn with_parts(
     }
 }
 
-/// A node before a type is wanted of it.
-pub fn before(
+fn before_by(
     alloc: Global,
     u: &Subject,
     s: &State,
+    by: Family,
     block: usize,
     at: NodeRef,
     node: &Node,
 ) -> Result<Step, NoMemory>
     requires { IsScene u.now s.now }
-    ensures is { IfOk result (λ step. step_in s.now step ≡ tell (so_far s.now) (before_by (family node.now.kind) (unit_of u.now) block at node.now)) }
+    ensures is { IfOk result (λ step. step_in s.now step ≡ tell (so_far s.now) (before_by by (unit_of u.now) block at node.now)) }
     ensures over { IfOk result (IsStepOf s.now) }
 {
     let nothing = Wanted {
         demand: Demand::Nothing,
         want: Want::Free,
     };
-    match family(node.kind) {
+    match by {
         Family::Operand => {
             let step = with_parts(alloc, u, s, Stage::Before, block, at, node, nothing)?;
             Ok(step)
@@ -117,12 +123,40 @@ pub fn before(
             Ok(step)
         }
         Family::Declaration => Ok(silent()),
+        Family::Clause => Ok(silent()),
         Family::Other => Ok(silent()),
     }
 }
 
-/// A node of which that is wanted what its place wants.
-pub fn judged(
+/// A node before a type is wanted of it.
+pub fn before(
+    alloc: Global,
+    u: &Subject,
+    s: &State,
+    role: Role,
+    block: usize,
+    at: NodeRef,
+    node: &Node,
+) -> Result<Step, NoMemory>
+    requires { IsScene u.now s.now }
+    ensures is { IfOk result (λ step. step_in s.now step ≡ tell (so_far s.now) (before_as role (unit_of u.now) block at node.now)) }
+    ensures over { IfOk result (IsStepOf s.now) }
+{
+    match role {
+        Role::Part => {
+            let step = before_by(alloc, u, s, family(node.kind), block, at, node)?;
+            Ok(step)
+        }
+        Role::Embedded => {
+            let step = before_by(alloc, u, s, family(node.kind), block, at, node)?;
+            Ok(step)
+        }
+        Role::Declared => Ok(silent()),
+        Role::Untold => Ok(silent()),
+    }
+}
+
+fn judged_in(
     alloc: Global,
     u: &Subject,
     s: &State,
@@ -131,7 +165,7 @@ pub fn judged(
     node: &Node,
 ) -> Result<Step, NoMemory>
     requires { IsScene u.now s.now }
-    ensures is { IfOk result (λ step. step_in s.now step ≡ tell (so_far s.now) (judged_rule (unit_of u.now) block at node.now)) }
+    ensures is { IfOk result (λ step. step_in s.now step ≡ tell (so_far s.now) (judged_in (unit_of u.now) block at node.now)) }
     ensures over { IfOk result (IsStepOf s.now) }
 {
     match look(u, s, Stage::Wanted, block, at.node) {
@@ -144,27 +178,31 @@ pub fn judged(
     }
 }
 
-fn placed_after(u: &Subject, s: &State, block: usize, at: NodeRef, j: Mark) -> Step
-    requires scene { IsScene u.now s.now }
-    requires mark { IsMarkOf s.now j }
-    ensures is { step_in s.now result ≡ tell (so_far s.now) (placed_after (unit_of u.now) block at (said s.now j)) }
-    ensures over { IsStepOf s.now result }
-{
-    match look(u, s, Stage::Wanted, block, at.node) {
-        Found::Is(m) => judge_placed(u, s, wanted_by(s, m), j),
-        Found::Wait(item) => Step::Waits(item),
-    }
-}
-
-/// A node once its place has tested it.
-pub fn placed(u: &Subject, s: &State, block: usize, at: NodeRef) -> Step
+/// A node of which that is wanted what its place wants.
+pub fn judged(
+    alloc: Global,
+    u: &Subject,
+    s: &State,
+    role: Role,
+    block: usize,
+    at: NodeRef,
+    node: &Node,
+) -> Result<Step, NoMemory>
     requires { IsScene u.now s.now }
-    ensures is { step_in s.now result ≡ tell (so_far s.now) (placed_in (unit_of u.now) block at) }
-    ensures over { IsStepOf s.now result }
+    ensures is { IfOk result (λ step. step_in s.now step ≡ tell (so_far s.now) (judged_as role (unit_of u.now) block at node.now)) }
+    ensures over { IfOk result (IsStepOf s.now) }
 {
-    match look(u, s, Stage::Judged, block, at.node) {
-        Found::Is(m) => placed_after(u, s, block, at, m),
-        Found::Wait(item) => Step::Waits(item),
+    match role {
+        Role::Part => {
+            let step = judged_in(alloc, u, s, block, at, node)?;
+            Ok(step)
+        }
+        Role::Embedded => {
+            let step = judged_in(alloc, u, s, block, at, node)?;
+            Ok(step)
+        }
+        Role::Declared => Ok(declared_name(u, s, at)),
+        Role::Untold => Ok(silent()),
     }
 }
 
@@ -184,6 +222,7 @@ fn want_by(
         Family::Operand => want_op(u, s, block, p, around),
         Family::Type => want_decl(u, s, block, p, around),
         Family::Declaration => want_decl(u, s, block, p, around),
+        Family::Clause => Found::Is(Mark::Wants(Demand::Nothing, Want::Free)),
         Family::Other => Found::Is(Mark::Wants(Demand::Nothing, Want::Free)),
     }
 }
