@@ -14,7 +14,8 @@ use Rattle.rule_words.specs.declared.read.Read.{Read}
 use Rattle.rule_words.specs.Asking.{Rule}
 use Rattle.rule_words.specs.Parts.{Part, reads}
 use Rattle.rule_words.specs.Words.{Wanted}
-use Rattle.op_rules.specs.Rules.{op_reads, op_rule}
+use Rattle.op_rules.specs.Forms.{op_reads}
+use Rattle.op_rules.specs.Rules.{op_rule}
 use Rattle.op_rules.specs.Wants.{op_wants}
 use Rattle.decl_rules.specs.Rules.{decl_reads, decl_rule}
 use Rattle.decl_rules.specs.Wants.{decl_wants}

@@ -13,13 +13,14 @@ use Rattle.typed_marks.specs.Meanings.{Meaning, Free, Quiet, Wishes}
 use Rattle.unit_read.specs.declared.passage.Passage.{Passage}
 use Rattle.unit_read.specs.declared.place.Place.{Place}
 use Rattle.unit_read.specs.Units.{Unit, nodes_at, node_at, place_at, passage_at}
-use Rattle.rule_words.specs.Asking.{Rule, mark_ask, parts_ask}
+use Rattle.rule_words.specs.Asking.{Asks, Rule, mark_ask, parts_ask}
 use Rattle.rule_words.specs.Parts.{Part}
 use Rattle.rule_words.specs.Words.{Wanted, wanted_in}
 use Rattle.op_rules.specs.Placed.{placed_rule}
 use Rattle.decl_rules.specs.Interfaces.{embedding_rule}
-use Rattle.decl_rules.specs.Objects.{object_rule, under_rule}
+use Rattle.decl_rules.specs.Objects.{object_rule}
 use Rattle.decl_rules.specs.Specifications.{declared_name_rule}
+use Rattle.decl_rules.specs.Under.{under_rule}
 use Rattle.go_rules.specs.declared.family.Family.{Family}
 use Rattle.go_rules.specs.declared.family.Family.TheVariants as f
 use Rattle.go_rules.specs.declared.role.Role.{Role}
@@ -32,9 +33,12 @@ use Rattle.go_rules.specs.Roles.{role_at}
 abbrev pub from_parts : Unit → ℕ → NodeRef → Node → Wanted → List Part → Rule
 from_parts u block at node w ps = rule_by (family node.kind) u block at node ps w
 
--- the parts are read at this stage
+-- the parts, as they are read at this stage
+abbrev pub parts_read : Unit → Stage → ℕ → NodeRef → Node → Asks (List Part)
+parts_read u stage block at node = parts_ask u stage block (node_reads (nodes_at u at.file) node)
+
 abbrev pub with_parts : Unit → Stage → ℕ → NodeRef → Node → Wanted → Rule
-with_parts u stage block at node w = bind (parts_ask u stage block (node_reads (nodes_at u at.file) node)) (from_parts u block at node w)
+with_parts u stage block at node w = bind (parts_read u stage block at node) (from_parts u block at node w)
 
 -- ---- before anything is wanted of it
 
@@ -109,8 +113,11 @@ wish_of w = Wishes w.demand w.wish
 abbrev pub wished : Meaning → Rule
 wished m = done (wish_of (wanted_in m))
 
+abbrev pub wants_in : Unit → ℕ → Place → Node → Rule
+wants_in u block p around = wants_by (family around.kind) u block p around
+
 abbrev pub wants_of : Unit → ℕ → Place → Node → Rule
-wants_of u block p around = bind (wants_by (family around.kind) u block p around) wished
+wants_of u block p around = bind (wants_in u block p around) wished
 
 abbrev pub wants_at : Unit → ℕ → NodeRef → Place → Rule
 wants_at u block at p = option_map_or (wants_of u block p) (node_at u (place at.file p.around)) (done Quiet)

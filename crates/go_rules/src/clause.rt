@@ -2,7 +2,6 @@
 ghost use Rattle.std.specs.Prelude.{◌≡◌, IfOk};
 ghost use Rattle.go_tree.specs.Head.{head_of};
 ghost use Rattle.mark_walk.specs.Telling.{tell, Says};
-ghost use Rattle.gv_base.specs.declared.constant.Kind.TheVariants as kind;
 ghost use Rattle.type_model.specs.GoTypes.{BasicType};
 ghost use Rattle.typed_tree.specs.Basics.{HasBasics};
 ghost use Rattle.typed_marks.specs.States.{so_far};
@@ -60,13 +59,13 @@ fn clause_limit(alloc: Global, u: &Subject, file: u32) -> Result<Option<Limit>, 
     }
 }
 
-fn nil_type(s: &State) -> TypeId
+fn basic_type(s: &State, kind: Kind) -> TypeId
     requires { HasBasics s.now.table }
-    ensures is { type_in s.now result ≡ BasicType kind.UntypedNil }
+    ensures is { type_in s.now result ≡ BasicType kind }
     ensures within { IsTypeOf s.now result }
 {
     let _ = s;
-    basic(Kind::UntypedNil)
+    basic(kind)
 }
 
 /// What has no value.
@@ -75,7 +74,7 @@ fn nothing(s: &State) -> Step
     ensures is { step_in s.now result ≡ Says nothing }
     ensures over { IsStepOf s.now result }
 {
-    let of = nil_type(s);
+    let of = basic_type(s, Kind::UntypedNil);
     Step::Says(Answer::Mark(Mark::Good(Facts {
         mode: Mode::NoValue,
         of,

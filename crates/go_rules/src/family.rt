@@ -23,7 +23,7 @@ pub enum Family {
 }
 
 /// What judges the nodes of a kind.
-pub fn family(kind: NodeKind) -> Family
+pub fn family_of(kind: NodeKind) -> Family
     ensures { result ≡ family kind }
 {
     match kind {

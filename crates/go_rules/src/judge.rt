@@ -1,11 +1,9 @@
 //! The rule of each item.
-ghost use Rattle.std.specs.Prelude.{◌≡◌, true, false, IfOk};
+ghost use Rattle.std.specs.Prelude.{◌≡◌, false, IfOk};
 ghost use Rattle.mark_walk.specs.Telling.{tell};
-ghost use Rattle.typed_marks.specs.Items.{IsItem};
 ghost use Rattle.typed_marks.specs.States.{so_far};
 ghost use Rattle.unit_read.specs.Subjects.{unit_of};
 ghost use Rattle.rule_words.specs.Scenes.{IsScene};
-ghost use Rattle.rule_words.specs.Declaring.{declaring_in, IsDeclaringAt};
 ghost use Rattle.rule_words.specs.Steps.{step_in, IsStepOf};
 ghost use Rattle.decl_rules.specs.Objects.{object_rule};
 ghost use Rattle.elaborate.specs.Walks.{is_declaring};

@@ -13,6 +13,4 @@ mod role;
 mod stages;
 mod whole;
 
-pub use family::{Family, family};
-pub use role::Role;
 pub use whole::GoRules;

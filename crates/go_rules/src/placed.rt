@@ -20,6 +20,17 @@ use typed_marks::{Facts, Mark, Stage, State};
 use typed_tree::{Mode, Rule};
 use unit_read::Subject;
 
+fn placed_with(u: &Subject, s: &State, j: Mark, m: Mark) -> Step
+    requires scene { IsScene u.now s.now }
+    requires judged { IsMarkOf s.now j }
+    requires wanted { IsMarkOf s.now m }
+    ensures is { step_in s.now result ≡ tell (so_far s.now) (placed_with (unit_of u.now) (said s.now j) (said s.now m)) }
+    ensures over { IsStepOf s.now result }
+{
+    let w = wanted_by(s, m);
+    judge_placed(u, s, w, j)
+}
+
 fn placed_after(u: &Subject, s: &State, block: usize, at: NodeRef, j: Mark) -> Step
     requires scene { IsScene u.now s.now }
     requires mark { IsMarkOf s.now j }
@@ -27,7 +38,7 @@ fn placed_after(u: &Subject, s: &State, block: usize, at: NodeRef, j: Mark) -> S
     ensures over { IsStepOf s.now result }
 {
     match look(u, s, Stage::Wanted, block, at.node) {
-        Found::Is(m) => judge_placed(u, s, wanted_by(s, m), j),
+        Found::Is(m) => placed_with(u, s, j, m),
         Found::Wait(item) => Step::Waits(item),
     }
 }

@@ -3,7 +3,7 @@ ghost use Rattle.std.specs.Prelude.{◌≡◌};
 ghost use Rattle.unit_read.specs.Subjects.{unit_of, IsRead};
 ghost use Rattle.go_rules.specs.Roles.{is_name, is_interface_type, is_method, element_role, node_role, used_role, name_role, role_of, role_beside, role_at};
 
-use crate::family::{family, is_told};
+use crate::family::{family_of, is_told};
 use decl_rules::declares_names;
 use go_tree::{Node, NodeKind, NodeRef};
 use unit_read::{Place, Subject};
@@ -71,7 +71,7 @@ fn node_role(around: NodeKind, kind: NodeKind) -> Role
 fn used_role(around: NodeKind, kind: NodeKind) -> Role
     ensures { result ≡ used_role around kind }
 {
-    if is_told(family(around)) {
+    if is_told(family_of(around)) {
         node_role(around, kind)
     } else {
         Role::Untold

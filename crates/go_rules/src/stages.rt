@@ -1,17 +1,17 @@
 //! The rules of a node, stage by stage.
 ghost use Rattle.std.specs.Prelude.{◌≡◌, IfOk};
+ghost use Rattle.std.specs.Global.{Vec};
 ghost use Rattle.mark_walk.specs.Telling.{tell};
 ghost use Rattle.typed_marks.specs.States.{so_far};
 ghost use Rattle.unit_read.specs.Subjects.{unit_of};
-ghost use Rattle.rule_words.specs.Asking.{parts_ask};
 ghost use Rattle.rule_words.specs.Scenes.{IsScene, told_by, IfFound, said, IsMarkOf, parts_in, AreSeenOf};
 ghost use Rattle.rule_words.specs.Steps.{step_in, IsStepOf};
 ghost use Rattle.rule_words.specs.Wanting.{wanted_of, IsWantedOf};
 ghost use Rattle.go_rules.specs.Families.{family, node_reads, rule_by, wants_by};
-ghost use Rattle.go_rules.specs.Stages.{from_parts, with_parts, nothing_wanted, before_by, before_in, before_as, judged_with, judged_in, judged_as, wants_of, wants_at, wanted_rule, wished};
+ghost use Rattle.go_rules.specs.Stages.{from_parts, parts_read, with_parts, nothing_wanted, before_by, before_in, before_as, judged_with, judged_in, judged_as, wants_in, wants_of, wants_at, wanted_rule, wished};
 
 use crate::clause::judge_clause;
-use crate::family::{Family, family};
+use crate::family::{Family, family_of};
 use crate::reads::node_reads;
 use crate::role::Role;
 use decl_rules::{declared_name, judge_decl, want_decl};
@@ -69,6 +69,46 @@ fn judge_by(
     }
 }
 
+fn from_parts(
+    alloc: Global,
+    u: &Subject,
+    s: &State,
+    block: usize,
+    at: NodeRef,
+    node: &Node,
+    w: Wanted,
+    list: &[Seen],
+) -> Result<Step, NoMemory>
+    requires scene { IsScene u.now s.now }
+    requires wanted { IsWantedOf s.now w }
+    requires parts { AreSeenOf s.now list.now }
+    ensures is { IfOk result (λ step. step_in s.now step ≡ tell (so_far s.now) (from_parts (unit_of u.now) block at node.now (wanted_of s.now w) (parts_in s.now list.now))) }
+    ensures over { IfOk result (IsStepOf s.now) }
+{
+    let by = family_of(node.kind);
+    let step = judge_by(alloc, u, s, by, block, at, node, list, w)?;
+    Ok(step)
+}
+
+/// The parts of a node, as they are read at a stage.
+fn read_parts(
+    alloc: Global,
+    u: &Subject,
+    s: &State,
+    stage: Stage,
+    block: usize,
+    at: NodeRef,
+    node: &Node,
+) -> Result<Found<Vec<Seen>, Item>, NoMemory>
+    requires { IsScene u.now s.now }
+    ensures is { IfOk result (λ found. told_by (λ (v : Vec Seen). parts_in s.now v.items) found ≡ tell (so_far s.now) (parts_read (unit_of u.now) stage block at node.now)) }
+    ensures over { IfOk result (λ found. IfFound found (λ v. AreSeenOf s.now v.items)) }
+{
+    let reads = node_reads(alloc, u.nodes_at(at.file), node)?;
+    let found = parts(alloc, u, s, stage, block, &reads)?;
+    Ok(found)
+}
+
 /// Reads the parts of a node at a stage, and judges it with what its place wants.
 fn with_parts(
     alloc: Global,
@@ -85,11 +125,10 @@ fn with_parts(
     ensures is { IfOk result (λ step. step_in s.now step ≡ tell (so_far s.now) (with_parts (unit_of u.now) stage block at node.now (wanted_of s.now w))) }
     ensures over { IfOk result (IsStepOf s.now) }
 {
-    let reads = node_reads(alloc, u.nodes_at(at.file), node)?;
-    let found = parts(alloc, u, s, stage, block, &reads)?;
+    let found = read_parts(alloc, u, s, stage, block, at, node)?;
     match found {
         Found::Is(list) => {
-            let step = judge_by(alloc, u, s, family(node.kind), block, at, node, &list, w)?;
+            let step = from_parts(alloc, u, s, block, at, node, w, &list)?;
             Ok(step)
         }
         Found::Wait(item) => Ok(Step::Waits(item)),
@@ -144,11 +183,11 @@ pub fn before(
 {
     match role {
         Role::Part => {
-            let step = before_by(alloc, u, s, family(node.kind), block, at, node)?;
+            let step = before_by(alloc, u, s, family_of(node.kind), block, at, node)?;
             Ok(step)
         }
         Role::Embedded => {
-            let step = before_by(alloc, u, s, family(node.kind), block, at, node)?;
+            let step = before_by(alloc, u, s, family_of(node.kind), block, at, node)?;
             Ok(step)
         }
         Role::Declared => Ok(silent()),
@@ -227,6 +266,14 @@ fn want_by(
     }
 }
 
+fn want_in(u: &Subject, s: &State, block: usize, p: Place, around: &Node) -> Found<Mark, Item>
+    requires { IsScene u.now s.now }
+    ensures is { told_by (said s.now) result ≡ tell (so_far s.now) (wants_in (unit_of u.now) block p around.now) }
+    ensures over { IfFound result (IsMarkOf s.now) }
+{
+    want_by(u, s, family_of(around.kind), block, p, around)
+}
+
 fn wanted_mark(s: &State, m: Mark) -> Step
     requires { IsMarkOf s.now m }
     ensures is { step_in s.now result ≡ tell (so_far s.now) (wished (said s.now m)) }
@@ -241,7 +288,7 @@ fn wants_of(u: &Subject, s: &State, block: usize, p: Place, around: &Node) -> St
     ensures is { step_in s.now result ≡ tell (so_far s.now) (wants_of (unit_of u.now) block p around.now) }
     ensures over { IsStepOf s.now result }
 {
-    match want_by(u, s, family(around.kind), block, p, around) {
+    match want_in(u, s, block, p, around) {
         Found::Is(m) => wanted_mark(s, m),
         Found::Wait(item) => Step::Waits(item),
     }

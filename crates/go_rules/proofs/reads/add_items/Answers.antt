@@ -11,4 +11,4 @@ loop-i-preserved c =
     (c.in_ok-add_item.ensures ∙ ap (λ o. c.loop-i.out.items ++ read_item c.args.how o) c.item.ensures)
 
 pub returns : goal.returns
-returns c = c.loop-i.invariant ∙ ap (λ reads. c.args.out.now.items ++ reads) (ap (gather (nth_read c.args.how (items c.args.nodes.now c.args.part))) c.count.ensures ∙ all_read c.args.how (items c.args.nodes.now c.args.part))
+returns c = c.loop-i.invariant ∙ ap (λ reads. c.args.out.now.items ++ reads) (ap (gather (nth_read c.args.how (items c.args.nodes.now c.args.part))) c.count-i-end.ensures ∙ all_read c.args.how (items c.args.nodes.now c.args.part))
