@@ -90,8 +90,8 @@ abbrev pub reads_by : Family → NodeKind → ℕ → Option How
 reads_by f.Operand kind slot = op_reads kind slot
 reads_by f.Type kind slot = decl_reads kind slot
 reads_by f.Declaration kind slot = decl_reads kind slot
-reads_by f.Clause kind slot = None
-reads_by f.Other kind slot = None
+reads_by f.Clause _ slot = None
+reads_by f.Other _ slot = None
 
 -- what is read of a node's parts
 abbrev pub node_reads : List Node → Node → List Read
