@@ -45,14 +45,7 @@ fn declare_at(alloc: Global, u: &Subject, s: &State, item: Item, at: NodeRef) ->
     }
 }
 
-fn declare_nth(
-    alloc: Global,
-    u: &Subject,
-    s: &State,
-    item: Item,
-    file: u32,
-    node: u32,
-) -> Declaring
+fn declare_nth(alloc: Global, u: &Subject, s: &State, item: Item, file: u32, node: u32) -> Declaring
     requires scene { IsScene u.now s.now }
     requires stage { is_declaring item.stage ≡ true }
     requires node { item.node ≡ node }

@@ -119,13 +119,7 @@ fn judge_nth(
     Ok(step)
 }
 
-fn judge_in(
-    alloc: Global,
-    u: &Subject,
-    s: &State,
-    item: Item,
-    file: u32,
-) -> Result<Step, NoMemory>
+fn judge_in(alloc: Global, u: &Subject, s: &State, item: Item, file: u32) -> Result<Step, NoMemory>
     requires scene { IsScene u.now s.now }
     requires stage { is_declaring item.stage ≡ false }
     ensures is { IfOk result (λ step. step_in s.now step ≡ tell (so_far s.now) (in_file (unit_of u.now) item file)) }

@@ -7,9 +7,5 @@ pub fn number(n: usize) -> Option<u32>
     ensures is { result ≡ number n }
     ensures same { IfSome result (λ k. n ≡ k) }
 {
-    if n < 4294967296 {
-        Some(n as u32)
-    } else {
-        None
-    }
+    if n < 4294967296 { Some(n as u32) } else { None }
 }
