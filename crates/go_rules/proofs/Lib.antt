@@ -1,1 +1,2 @@
+mod DeclareLemmas
 mod ReadLemmas

@@ -1,5 +1,5 @@
--- Families of rules, by kinds of nodes.
-use Rattle.std.specs.Prelude.{ℕ, List, Option, None}
+-- Families of rules, by kinds of nodes. A kind more is a row of `family`.
+use Rattle.std.specs.Prelude.{ℕ, Bool, true, false, List, Option, None}
 use Rattle.go_tree.specs.declared.tree.Node.{Node}
 use Rattle.go_tree.specs.declared.tree.NodeKind.{NodeKind}
 use Rattle.go_tree.specs.declared.tree.NodeKind.TheVariants as k
@@ -14,13 +14,16 @@ use Rattle.rule_words.specs.declared.read.Read.{Read}
 use Rattle.rule_words.specs.Asking.{Rule}
 use Rattle.rule_words.specs.Parts.{Part, reads}
 use Rattle.rule_words.specs.Words.{Wanted}
-use Rattle.op_rules.specs.Rules.{op_reads, op_rule}
+use Rattle.op_rules.specs.Forms.{op_reads}
+use Rattle.op_rules.specs.Rules.{op_rule}
 use Rattle.op_rules.specs.Wants.{op_wants}
 use Rattle.decl_rules.specs.Rules.{decl_reads, decl_rule}
 use Rattle.decl_rules.specs.Wants.{decl_wants}
+use Rattle.go_rules.specs.Clause.{clause_rule}
 use Rattle.go_rules.specs.declared.family.Family.{Family}
 use Rattle.go_rules.specs.declared.family.Family.TheVariants as f
 
+-- what judges the nodes of a kind
 abbrev pub family : NodeKind → Family
 family k.Int = f.Operand
 family k.Rune = f.Operand
@@ -68,14 +71,27 @@ family k.TypeDecl = f.Declaration
 family k.TypeGroup = f.Declaration
 family k.Import = f.Declaration
 family k.ImportGroup = f.Declaration
+family k.ImportPath = f.Declaration
+family k.ImportDot = f.Declaration
+family k.ImportNamed = f.Declaration
+family k.Package = f.Clause
 family _ = f.Other
+
+-- what is said of the nodes of the family counts for their parts
+abbrev pub is_told : Family → Bool
+is_told f.Operand = true
+is_told f.Type = true
+is_told f.Declaration = true
+is_told f.Clause = true
+is_told f.Other = false
 
 -- how the parts in a slot are read
 abbrev pub reads_by : Family → NodeKind → ℕ → Option How
 reads_by f.Operand kind slot = op_reads kind slot
 reads_by f.Type kind slot = decl_reads kind slot
 reads_by f.Declaration kind slot = decl_reads kind slot
-reads_by f.Other kind slot = None
+reads_by f.Clause _ slot = None
+reads_by f.Other _ slot = None
 
 -- what is read of a node's parts
 abbrev pub node_reads : List Node → Node → List Read
@@ -86,6 +102,7 @@ abbrev pub rule_by : Family → Unit → ℕ → NodeRef → Node → List Part 
 rule_by f.Operand u block at node ps w = op_rule u block at node ps w
 rule_by f.Type u block at node ps w = decl_rule u block at node ps w
 rule_by f.Declaration u block at node ps w = decl_rule u block at node ps w
+rule_by f.Clause u block at node ps w = clause_rule u at.file
 rule_by f.Other u block at node ps w = done Quiet
 
 -- what the node around wants of what stands at a place in it
@@ -93,4 +110,5 @@ abbrev pub wants_by : Family → Unit → ℕ → Place → Node → Rule
 wants_by f.Operand u block p around = op_wants u block p around
 wants_by f.Type u block p around = decl_wants u block p around
 wants_by f.Declaration u block p around = decl_wants u block p around
+wants_by f.Clause u block p around = done (Wishes demand.Nothing Free)
 wants_by f.Other u block p around = done (Wishes demand.Nothing Free)

@@ -1,3 +1,5 @@
+pub mod Clause
 pub mod Families
+pub mod Roles
 pub mod Slots
 pub mod Stages

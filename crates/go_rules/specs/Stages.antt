@@ -1,5 +1,5 @@
 -- The rule of each item of a package, by its stage.
-use Rattle.std.specs.Prelude.{ℕ, List, Option, slice_get}
+use Rattle.std.specs.Prelude.{ℕ, ◌==◌, nat_lt, if◌then◌else◌, List, Option, Some, None, option_and_then}
 use Rattle.std.specs.Option.{option_map_or}
 use Rattle.go_tree.specs.declared.tree.Node.{Node}
 use Rattle.go_tree.specs.declared.tree.NodeRef.{NodeRef}
@@ -13,23 +13,34 @@ use Rattle.typed_marks.specs.Meanings.{Meaning, Free, Quiet, Wishes}
 use Rattle.unit_read.specs.declared.passage.Passage.{Passage}
 use Rattle.unit_read.specs.declared.place.Place.{Place}
 use Rattle.unit_read.specs.Units.{Unit, nodes_at, node_at, place_at, passage_at}
-use Rattle.rule_words.specs.Asking.{Rule, mark_ask, parts_ask}
+use Rattle.rule_words.specs.Asking.{Asks, Rule, mark_ask, parts_ask}
 use Rattle.rule_words.specs.Parts.{Part}
 use Rattle.rule_words.specs.Words.{Wanted, wanted_in}
 use Rattle.op_rules.specs.Placed.{placed_rule}
+use Rattle.decl_rules.specs.Interfaces.{embedding_rule}
 use Rattle.decl_rules.specs.Objects.{object_rule}
+use Rattle.decl_rules.specs.Specifications.{declared_name_rule}
+use Rattle.decl_rules.specs.Under.{under_rule}
 use Rattle.go_rules.specs.declared.family.Family.{Family}
 use Rattle.go_rules.specs.declared.family.Family.TheVariants as f
+use Rattle.go_rules.specs.declared.role.Role.{Role}
+use Rattle.go_rules.specs.declared.role.Role.TheVariants as r
 use Rattle.go_rules.specs.Families.{family, node_reads, rule_by, wants_by}
+use Rattle.go_rules.specs.Roles.{role_at}
 
--- ---- a node, by itself and with what is wanted of it
+-- ---- a node by its parts, and by what is wanted of it
 
 abbrev pub from_parts : Unit → ℕ → NodeRef → Node → Wanted → List Part → Rule
 from_parts u block at node w ps = rule_by (family node.kind) u block at node ps w
 
--- the parts are read at this stage
+-- the parts, as they are read at this stage
+abbrev pub parts_read : Unit → Stage → ℕ → NodeRef → Node → Asks (List Part)
+parts_read u stage block at node = parts_ask u stage block (node_reads (nodes_at u at.file) node)
+
 abbrev pub with_parts : Unit → Stage → ℕ → NodeRef → Node → Wanted → Rule
-with_parts u stage block at node w = bind (parts_ask u stage block (node_reads (nodes_at u at.file) node)) (from_parts u block at node w)
+with_parts u stage block at node w = bind (parts_read u stage block at node) (from_parts u block at node w)
+
+-- ---- before anything is wanted of it
 
 abbrev pub nothing_wanted : Wanted
 nothing_wanted = record { demand = demand.Nothing; wish = Free }
@@ -39,16 +50,35 @@ abbrev pub before_by : Family → Unit → ℕ → NodeRef → Node → Rule
 before_by f.Operand u block at node = with_parts u s.Before block at node nothing_wanted
 before_by f.Type u block at node = with_parts u s.Before block at node nothing_wanted
 before_by f.Declaration u block at node = done Quiet
+before_by f.Clause u block at node = done Quiet
 before_by f.Other u block at node = done Quiet
+
+abbrev pub before_in : Unit → ℕ → NodeRef → Node → Rule
+before_in u block at node = before_by (family node.kind) u block at node
+
+abbrev pub before_as : Role → Unit → ℕ → NodeRef → Node → Rule
+before_as r.Part u block at node = before_in u block at node
+before_as r.Embedded u block at node = before_in u block at node
+before_as r.Declared u block at node = done Quiet
+before_as r.Untold u block at node = done Quiet
+
+-- ---- with what is wanted of it
 
 -- over its parts in their places
 abbrev pub judged_with : Unit → ℕ → NodeRef → Node → Meaning → Rule
 judged_with u block at node m = with_parts u s.Placed block at node (wanted_in m)
 
-abbrev pub judged_rule : Unit → ℕ → NodeRef → Node → Rule
-judged_rule u block at node = bind (mark_ask u s.Wanted block at.node) (judged_with u block at node)
+abbrev pub judged_in : Unit → ℕ → NodeRef → Node → Rule
+judged_in u block at node = bind (mark_ask u s.Wanted block at.node) (judged_with u block at node)
 
--- ---- a node in its place
+-- E14 of a name that is declared
+abbrev pub judged_as : Role → Unit → ℕ → NodeRef → Node → Rule
+judged_as r.Part u block at node = judged_in u block at node
+judged_as r.Embedded u block at node = judged_in u block at node
+judged_as r.Declared u block at node = declared_name_rule u at
+judged_as r.Untold u block at node = done Quiet
+
+-- ---- in its place
 
 abbrev pub placed_with : Unit → Meaning → Meaning → Rule
 placed_with u j m = placed_rule u (wanted_in m) j
@@ -59,7 +89,23 @@ placed_after u block at j = bind (mark_ask u s.Wanted block at.node) (placed_wit
 abbrev pub placed_in : Unit → ℕ → NodeRef → Rule
 placed_in u block at = bind (mark_ask u s.Judged block at.node) (placed_after u block at)
 
--- ---- what a place wants
+-- An interface embeds types, E10; and of these interfaces alone, E15.
+abbrev pub type_wanted : Wanted
+type_wanted = record { demand = demand.Type; wish = Free }
+
+abbrev pub embedded_after : Unit → Meaning → Rule
+embedded_after u j = bind (placed_rule u type_wanted j) (embedding_rule u)
+
+abbrev pub embedded_in : Unit → ℕ → NodeRef → Rule
+embedded_in u block at = bind (mark_ask u s.Judged block at.node) (embedded_after u)
+
+abbrev pub placed_as : Role → Unit → ℕ → NodeRef → Rule
+placed_as r.Part u block at = placed_in u block at
+placed_as r.Embedded u block at = embedded_in u block at
+placed_as r.Declared u block at = placed_in u block at
+placed_as r.Untold u block at = placed_in u block at
+
+-- ---- what its place wants
 
 abbrev pub wish_of : Wanted → Meaning
 wish_of w = Wishes w.demand w.wish
@@ -67,8 +113,11 @@ wish_of w = Wishes w.demand w.wish
 abbrev pub wished : Meaning → Rule
 wished m = done (wish_of (wanted_in m))
 
+abbrev pub wants_in : Unit → ℕ → Place → Node → Rule
+wants_in u block p around = wants_by (family around.kind) u block p around
+
 abbrev pub wants_of : Unit → ℕ → Place → Node → Rule
-wants_of u block p around = bind (wants_by (family around.kind) u block p around) wished
+wants_of u block p around = bind (wants_in u block p around) wished
 
 abbrev pub wants_at : Unit → ℕ → NodeRef → Place → Rule
 wants_at u block at p = option_map_or (wants_of u block p) (node_at u (place at.file p.around)) (done Quiet)
@@ -76,22 +125,37 @@ wants_at u block at p = option_map_or (wants_of u block p) (node_at u (place at.
 abbrev pub wanted_rule : Unit → ℕ → NodeRef → Rule
 wanted_rule u block at = option_map_or (wants_at u block at) (place_at u at) (done Quiet)
 
+-- ---- what is declared at it
+
+-- A list that is repeated declares nothing: what is declared is told in the block of its file.
+abbrev pub in_own : ℕ → NodeRef → Rule → Rule
+in_own block at rest = if block == at.file then rest else done Quiet
+
 -- ---- items
 
--- What a type is declared with isn't told here.
 abbrev pub stage_rule : Stage → Unit → ℕ → NodeRef → Node → Rule
-stage_rule s.Before u block at node = before_by (family node.kind) u block at node
+stage_rule s.Before u block at node = before_as (role_at u at node) u block at node
 stage_rule s.Wanted u block at node = wanted_rule u block at
-stage_rule s.Judged u block at node = judged_rule u block at node
-stage_rule s.Placed u block at node = placed_in u block at
-stage_rule s.Object u block at node = object_rule u at
-stage_rule s.Under u block at node = done Quiet
+stage_rule s.Judged u block at node = judged_as (role_at u at node) u block at node
+stage_rule s.Placed u block at node = placed_as (role_at u at node) u block at
+stage_rule s.Object u block at node = in_own block at (object_rule u at)
+stage_rule s.Under u block at node = in_own block at (under_rule u at)
 
-abbrev pub node_rule : Unit → Item → ℕ → Node → Rule
-node_rule u i file node = stage_rule i.stage u i.block (place file i.node) node
+abbrev pub node_rule : Unit → Item → NodeRef → Node → Rule
+node_rule u i at node = stage_rule i.stage u i.block at node
+
+abbrev pub at_node : Unit → Item → NodeRef → Rule
+at_node u i at = option_map_or (node_rule u i at) (node_at u at) (done Quiet)
+
+-- nodes have numbers below 2^32
+abbrev pub number : ℕ → Option ℕ
+number n = if nat_lt n 4294967296 then Some n else None
+
+abbrev pub nth_rule : Unit → Item → ℕ → ℕ → Rule
+nth_rule u i file n = at_node u i (place file n)
 
 abbrev pub in_file : Unit → Item → ℕ → Rule
-in_file u i file = option_map_or (node_rule u i file) (slice_get (nodes_at u file) i.node) (done Quiet)
+in_file u i file = option_map_or (nth_rule u i file) (number i.node) (done Quiet)
 
 abbrev pub file_rule : Unit → Item → Passage → Rule
 file_rule u i p = in_file u i p.file

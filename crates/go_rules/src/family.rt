@@ -1,6 +1,6 @@
 //! Families of rules.
 ghost use Rattle.std.specs.Prelude.{◌≡◌};
-ghost use Rattle.go_rules.specs.Families.{family, reads_by};
+ghost use Rattle.go_rules.specs.Families.{family, is_told, reads_by};
 
 use decl_rules::decl_reads;
 use go_tree::NodeKind;
@@ -16,12 +16,14 @@ pub enum Family {
     Type,
     /// Those of declarations.
     Declaration,
+    /// The package clause.
+    Clause,
     /// Nothing is said of the node yet.
     Other,
 }
 
 /// What judges the nodes of a kind.
-pub fn family(kind: NodeKind) -> Family
+pub fn family_of(kind: NodeKind) -> Family
     ensures { result ≡ family kind }
 {
     match kind {
@@ -71,7 +73,24 @@ pub fn family(kind: NodeKind) -> Family
         NodeKind::TypeGroup => Family::Declaration,
         NodeKind::Import => Family::Declaration,
         NodeKind::ImportGroup => Family::Declaration,
+        NodeKind::ImportPath => Family::Declaration,
+        NodeKind::ImportDot => Family::Declaration,
+        NodeKind::ImportNamed => Family::Declaration,
+        NodeKind::Package => Family::Clause,
         _ => Family::Other,
+    }
+}
+
+/// Whether what is said of the nodes of a family counts for their parts.
+pub fn is_told(family: Family) -> bool
+    ensures { result ≡ is_told family }
+{
+    match family {
+        Family::Operand => true,
+        Family::Type => true,
+        Family::Declaration => true,
+        Family::Clause => true,
+        Family::Other => false,
     }
 }
 
@@ -83,6 +102,7 @@ pub fn reads_by(family: Family, kind: NodeKind, slot: usize) -> Option<How>
         Family::Operand => op_reads(kind, slot),
         Family::Type => decl_reads(kind, slot),
         Family::Declaration => decl_reads(kind, slot),
+        Family::Clause => None,
         Family::Other => None,
     }
 }

@@ -1,16 +1,19 @@
 //! The rule of each item.
-ghost use Rattle.std.specs.Prelude.{◌≡◌, IfOk};
+ghost use Rattle.std.specs.Prelude.{◌≡◌, false, IfOk};
 ghost use Rattle.mark_walk.specs.Telling.{tell};
-ghost use Rattle.object_order.specs.Spots.{place};
 ghost use Rattle.typed_marks.specs.States.{so_far};
 ghost use Rattle.unit_read.specs.Subjects.{unit_of};
 ghost use Rattle.rule_words.specs.Scenes.{IsScene};
 ghost use Rattle.rule_words.specs.Steps.{step_in, IsStepOf};
-ghost use Rattle.go_rules.specs.Stages.{rule, stage_rule, node_rule, in_file, file_rule};
+ghost use Rattle.decl_rules.specs.Objects.{object_rule};
+ghost use Rattle.elaborate.specs.Walks.{is_declaring};
+ghost use Rattle.go_rules.specs.Stages.{in_own, stage_rule, node_rule, at_node, number, nth_rule, in_file, file_rule, rule};
 
-use crate::stages::{before, judged, placed, wanted};
+use crate::number::number;
+use crate::placed::placed;
+use crate::role::role_at;
+use crate::stages::{before, judged, wanted};
 use decl_rules::judge_object;
-use elaborate::Rules;
 use go_tree::{Node, NodeRef};
 use gv_base::NoMemory;
 use rule_words::{Answer, Step};
@@ -18,14 +21,30 @@ use std::alloc::Global;
 use typed_marks::{Item, Mark, Stage, State};
 use unit_read::Subject;
 
-/// The typing rules of Go 1.17.
-#[derive(Clone, Copy, Debug, PartialEq, Eq, Drop)]
-pub struct GoRules;
-
 fn silent() -> Step
     ensures { result ≡ Step.Says (Answer.Mark Mark.Silent) }
 {
     Step::Says(Answer::Mark(Mark::Silent))
+}
+
+/// The object that is declared at a name, in the block of its file.
+fn object(
+    alloc: Global,
+    u: &Subject,
+    s: &State,
+    block: usize,
+    at: NodeRef,
+) -> Result<Step, NoMemory>
+    requires { IsScene u.now s.now }
+    ensures is { IfOk result (λ step. step_in s.now step ≡ tell (so_far s.now) (in_own block at (object_rule (unit_of u.now) at))) }
+    ensures over { IfOk result (IsStepOf s.now) }
+{
+    if block == at.file as usize {
+        let step = judge_object(alloc, u, s, at)?;
+        Ok(step)
+    } else {
+        Ok(silent())
+    }
 }
 
 fn judge_stage(
@@ -37,46 +56,45 @@ fn judge_stage(
     at: NodeRef,
     node: &Node,
 ) -> Result<Step, NoMemory>
-    requires { IsScene u.now s.now }
+    requires scene { IsScene u.now s.now }
+    requires stage { is_declaring stage ≡ false }
     ensures is { IfOk result (λ step. step_in s.now step ≡ tell (so_far s.now) (stage_rule stage (unit_of u.now) block at node.now)) }
     ensures over { IfOk result (IsStepOf s.now) }
 {
+    let role = role_at(u, at, node);
     match stage {
         Stage::Before => {
-            let step = before(alloc, u, s, block, at, node)?;
+            let step = before(alloc, u, s, role, block, at, node)?;
             Ok(step)
         }
         Stage::Wanted => Ok(wanted(u, s, block, at)),
         Stage::Judged => {
-            let step = judged(alloc, u, s, block, at, node)?;
+            let step = judged(alloc, u, s, role, block, at, node)?;
             Ok(step)
         }
-        Stage::Placed => Ok(placed(u, s, block, at)),
+        Stage::Placed => Ok(placed(u, s, role, block, at)),
         Stage::Object => {
-            let step = judge_object(alloc, u, s, at)?;
+            let step = object(alloc, u, s, block, at)?;
             Ok(step)
         }
-        Stage::Under => Ok(silent()),
+        Stage::Under => unreachable!(),
     }
 }
 
-fn judge_in(
+fn judge_at(
     alloc: Global,
     u: &Subject,
     s: &State,
     item: Item,
-    file: u32,
+    at: NodeRef,
 ) -> Result<Step, NoMemory>
-    requires { IsScene u.now s.now }
-    ensures is { IfOk result (λ step. step_in s.now step ≡ tell (so_far s.now) (in_file (unit_of u.now) item file)) }
+    requires scene { IsScene u.now s.now }
+    requires stage { is_declaring item.stage ≡ false }
+    ensures is { IfOk result (λ step. step_in s.now step ≡ tell (so_far s.now) (at_node (unit_of u.now) item at)) }
     ensures over { IfOk result (IsStepOf s.now) }
 {
-    match u.nodes_at(file).get(item.node) {
+    match u.node_at(at) {
         Some(node) => {
-            let at = NodeRef {
-                file,
-                node: item.node as u32,
-            };
             let step = judge_stage(alloc, u, s, item.stage, item.block, at, node)?;
             Ok(step)
         }
@@ -84,9 +102,42 @@ fn judge_in(
     }
 }
 
-/// How far the rule of an item goes over the marks so far.
-fn judge_item(alloc: Global, u: &Subject, s: &State, item: Item) -> Result<Step, NoMemory>
-    requires { IsScene u.now s.now }
+fn judge_nth(
+    alloc: Global,
+    u: &Subject,
+    s: &State,
+    item: Item,
+    file: u32,
+    node: u32,
+) -> Result<Step, NoMemory>
+    requires scene { IsScene u.now s.now }
+    requires stage { is_declaring item.stage ≡ false }
+    ensures is { IfOk result (λ step. step_in s.now step ≡ tell (so_far s.now) (nth_rule (unit_of u.now) item file node)) }
+    ensures over { IfOk result (IsStepOf s.now) }
+{
+    let step = judge_at(alloc, u, s, item, NodeRef { file, node })?;
+    Ok(step)
+}
+
+fn judge_in(alloc: Global, u: &Subject, s: &State, item: Item, file: u32) -> Result<Step, NoMemory>
+    requires scene { IsScene u.now s.now }
+    requires stage { is_declaring item.stage ≡ false }
+    ensures is { IfOk result (λ step. step_in s.now step ≡ tell (so_far s.now) (in_file (unit_of u.now) item file)) }
+    ensures over { IfOk result (IsStepOf s.now) }
+{
+    match number(item.node) {
+        Some(node) => {
+            let step = judge_nth(alloc, u, s, item, file, node)?;
+            Ok(step)
+        }
+        None => Ok(silent()),
+    }
+}
+
+/// How far the rule of an item goes over the marks so far, of one that declares no type.
+pub fn judge_item(alloc: Global, u: &Subject, s: &State, item: Item) -> Result<Step, NoMemory>
+    requires scene { IsScene u.now s.now }
+    requires stage { is_declaring item.stage ≡ false }
     ensures is { IfOk result (λ step. step_in s.now step ≡ tell (so_far s.now) (rule (unit_of u.now) item)) }
     ensures over { IfOk result (IsStepOf s.now) }
 {
@@ -96,14 +147,5 @@ fn judge_item(alloc: Global, u: &Subject, s: &State, item: Item) -> Result<Step,
             Ok(step)
         }
         None => Ok(silent()),
-    }
-}
-
-impl Rules for GoRules {
-    ghost rule = { rule };
-
-    fn judge(&self, alloc: Global, u: &Subject, s: &State, item: Item) -> Result<Step, NoMemory> {
-        let step = judge_item(alloc, u, s, item)?;
-        Ok(step)
     }
 }

@@ -2,10 +2,15 @@
 //! makes of it.
 #![tactic(auto)]
 
+mod clause;
+mod declare;
 mod family;
 mod judge;
+mod number;
+mod placed;
 mod reads;
+mod role;
 mod stages;
+mod whole;
 
-pub use family::{Family, family};
-pub use judge::GoRules;
+pub use whole::GoRules;

@@ -5,7 +5,7 @@ ghost use Rattle.rule_words.specs.Parts.{slot_reads};
 ghost use Rattle.go_rules.specs.Families.{node_reads};
 ghost use Rattle.go_rules.specs.Slots.{read_item, nth_slot};
 
-use crate::family::{Family, family, reads_by};
+use crate::family::{Family, family_of, reads_by};
 use go_tree::Node;
 use gv_base::NoMemory;
 use package_objects::{count, item, part_count, part_of};
@@ -62,7 +62,7 @@ pub fn node_reads(alloc: Global, nodes: &[Node], node: &Node) -> Result<Vec<Read
     ensures { IfOk result (λ list. list.items ≡ node_reads nodes.now node.now) }
 {
     let mut out = Vec::new(alloc);
-    let by = family(node.kind);
+    let by = family_of(node.kind);
     for slot in 0..part_count(node) {
         add_slot(&mut out, by, nodes, node, slot)?;
     }

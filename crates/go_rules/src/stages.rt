@@ -1,21 +1,23 @@
 //! The rules of a node, stage by stage.
 ghost use Rattle.std.specs.Prelude.{◌≡◌, IfOk};
+ghost use Rattle.std.specs.Global.{Vec};
 ghost use Rattle.mark_walk.specs.Telling.{tell};
 ghost use Rattle.typed_marks.specs.States.{so_far};
 ghost use Rattle.unit_read.specs.Subjects.{unit_of};
-ghost use Rattle.rule_words.specs.Asking.{parts_ask};
 ghost use Rattle.rule_words.specs.Scenes.{IsScene, told_by, IfFound, said, IsMarkOf, parts_in, AreSeenOf};
 ghost use Rattle.rule_words.specs.Steps.{step_in, IsStepOf};
 ghost use Rattle.rule_words.specs.Wanting.{wanted_of, IsWantedOf};
 ghost use Rattle.go_rules.specs.Families.{family, node_reads, rule_by, wants_by};
-ghost use Rattle.go_rules.specs.Stages.{from_parts, with_parts, before_by, judged_rule, placed_after, placed_in, wants_of, wants_at, wanted_rule, wished};
+ghost use Rattle.go_rules.specs.Stages.{from_parts, parts_read, with_parts, nothing_wanted, before_by, before_in, before_as, judged_with, judged_in, judged_as, wants_in, wants_of, wants_at, wanted_rule, wished};
 
-use crate::family::{Family, family};
+use crate::clause::judge_clause;
+use crate::family::{Family, family_of};
 use crate::reads::node_reads;
-use decl_rules::{judge_decl, want_decl};
+use crate::role::Role;
+use decl_rules::{declared_name, judge_decl, want_decl};
 use go_tree::{Node, NodeRef};
 use gv_base::NoMemory;
-use op_rules::{judge_op, judge_placed, want_op};
+use op_rules::{judge_op, want_op};
 use rule_words::{Answer, Seen, Step, Wanted, look, parts, wanted_by};
 use std::alloc::Global;
 use type_questions::Found;
@@ -59,8 +61,52 @@ fn judge_by(
             let step = judge_decl(alloc, u, s, block, at, node, list, w)?;
             Ok(step)
         }
+        Family::Clause => {
+            let step = judge_clause(alloc, u, s, at.file)?;
+            Ok(step)
+        }
         Family::Other => Ok(silent()),
     }
+}
+
+fn from_parts(
+    alloc: Global,
+    u: &Subject,
+    s: &State,
+    block: usize,
+    at: NodeRef,
+    node: &Node,
+    w: Wanted,
+    list: &[Seen],
+) -> Result<Step, NoMemory>
+    requires scene { IsScene u.now s.now }
+    requires wanted { IsWantedOf s.now w }
+    requires parts { AreSeenOf s.now list.now }
+    ensures is { IfOk result (λ step. step_in s.now step ≡ tell (so_far s.now) (from_parts (unit_of u.now) block at node.now (wanted_of s.now w) (parts_in s.now list.now))) }
+    ensures over { IfOk result (IsStepOf s.now) }
+{
+    let by = family_of(node.kind);
+    let step = judge_by(alloc, u, s, by, block, at, node, list, w)?;
+    Ok(step)
+}
+
+/// The parts of a node, as they are read at a stage.
+fn read_parts(
+    alloc: Global,
+    u: &Subject,
+    s: &State,
+    stage: Stage,
+    block: usize,
+    at: NodeRef,
+    node: &Node,
+) -> Result<Found<Vec<Seen>, Item>, NoMemory>
+    requires { IsScene u.now s.now }
+    ensures is { IfOk result (λ found. told_by (λ (v : Vec Seen). parts_in s.now v.items) found ≡ tell (so_far s.now) (parts_read (unit_of u.now) stage block at node.now)) }
+    ensures over { IfOk result (λ found. IfFound found (λ v. AreSeenOf s.now v.items)) }
+{
+    let reads = node_reads(alloc, u.nodes_at(at.file), node)?;
+    let found = parts(alloc, u, s, stage, block, &reads)?;
+    Ok(found)
 }
 
 /// Reads the parts of a node at a stage, and judges it with what its place wants.
@@ -79,35 +125,34 @@ fn with_parts(
     ensures is { IfOk result (λ step. step_in s.now step ≡ tell (so_far s.now) (with_parts (unit_of u.now) stage block at node.now (wanted_of s.now w))) }
     ensures over { IfOk result (IsStepOf s.now) }
 {
-    let reads = node_reads(alloc, u.nodes_at(at.file), node)?;
-    let found = parts(alloc, u, s, stage, block, &reads)?;
+    let found = read_parts(alloc, u, s, stage, block, at, node)?;
     match found {
         Found::Is(list) => {
-            let step = judge_by(alloc, u, s, family(node.kind), block, at, node, &list, w)?;
+            let step = from_parts(alloc, u, s, block, at, node, w, &list)?;
             Ok(step)
         }
         Found::Wait(item) => Ok(Step::Waits(item)),
     }
 }
 
-/// A node before a type is wanted of it.
-pub fn before(
+fn before_by(
     alloc: Global,
     u: &Subject,
     s: &State,
+    by: Family,
     block: usize,
     at: NodeRef,
     node: &Node,
 ) -> Result<Step, NoMemory>
     requires { IsScene u.now s.now }
-    ensures is { IfOk result (λ step. step_in s.now step ≡ tell (so_far s.now) (before_by (family node.now.kind) (unit_of u.now) block at node.now)) }
+    ensures is { IfOk result (λ step. step_in s.now step ≡ tell (so_far s.now) (before_by by (unit_of u.now) block at node.now)) }
     ensures over { IfOk result (IsStepOf s.now) }
 {
     let nothing = Wanted {
         demand: Demand::Nothing,
         want: Want::Free,
     };
-    match family(node.kind) {
+    match by {
         Family::Operand => {
             let step = with_parts(alloc, u, s, Stage::Before, block, at, node, nothing)?;
             Ok(step)
@@ -117,12 +162,40 @@ pub fn before(
             Ok(step)
         }
         Family::Declaration => Ok(silent()),
+        Family::Clause => Ok(silent()),
         Family::Other => Ok(silent()),
     }
 }
 
-/// A node of which that is wanted what its place wants.
-pub fn judged(
+/// A node before a type is wanted of it.
+pub fn before(
+    alloc: Global,
+    u: &Subject,
+    s: &State,
+    role: Role,
+    block: usize,
+    at: NodeRef,
+    node: &Node,
+) -> Result<Step, NoMemory>
+    requires { IsScene u.now s.now }
+    ensures is { IfOk result (λ step. step_in s.now step ≡ tell (so_far s.now) (before_as role (unit_of u.now) block at node.now)) }
+    ensures over { IfOk result (IsStepOf s.now) }
+{
+    match role {
+        Role::Part => {
+            let step = before_by(alloc, u, s, family_of(node.kind), block, at, node)?;
+            Ok(step)
+        }
+        Role::Embedded => {
+            let step = before_by(alloc, u, s, family_of(node.kind), block, at, node)?;
+            Ok(step)
+        }
+        Role::Declared => Ok(silent()),
+        Role::Untold => Ok(silent()),
+    }
+}
+
+fn judged_in(
     alloc: Global,
     u: &Subject,
     s: &State,
@@ -131,7 +204,7 @@ pub fn judged(
     node: &Node,
 ) -> Result<Step, NoMemory>
     requires { IsScene u.now s.now }
-    ensures is { IfOk result (λ step. step_in s.now step ≡ tell (so_far s.now) (judged_rule (unit_of u.now) block at node.now)) }
+    ensures is { IfOk result (λ step. step_in s.now step ≡ tell (so_far s.now) (judged_in (unit_of u.now) block at node.now)) }
     ensures over { IfOk result (IsStepOf s.now) }
 {
     match look(u, s, Stage::Wanted, block, at.node) {
@@ -144,27 +217,31 @@ pub fn judged(
     }
 }
 
-fn placed_after(u: &Subject, s: &State, block: usize, at: NodeRef, j: Mark) -> Step
-    requires scene { IsScene u.now s.now }
-    requires mark { IsMarkOf s.now j }
-    ensures is { step_in s.now result ≡ tell (so_far s.now) (placed_after (unit_of u.now) block at (said s.now j)) }
-    ensures over { IsStepOf s.now result }
-{
-    match look(u, s, Stage::Wanted, block, at.node) {
-        Found::Is(m) => judge_placed(u, s, wanted_by(s, m), j),
-        Found::Wait(item) => Step::Waits(item),
-    }
-}
-
-/// A node once its place has tested it.
-pub fn placed(u: &Subject, s: &State, block: usize, at: NodeRef) -> Step
+/// A node of which that is wanted what its place wants.
+pub fn judged(
+    alloc: Global,
+    u: &Subject,
+    s: &State,
+    role: Role,
+    block: usize,
+    at: NodeRef,
+    node: &Node,
+) -> Result<Step, NoMemory>
     requires { IsScene u.now s.now }
-    ensures is { step_in s.now result ≡ tell (so_far s.now) (placed_in (unit_of u.now) block at) }
-    ensures over { IsStepOf s.now result }
+    ensures is { IfOk result (λ step. step_in s.now step ≡ tell (so_far s.now) (judged_as role (unit_of u.now) block at node.now)) }
+    ensures over { IfOk result (IsStepOf s.now) }
 {
-    match look(u, s, Stage::Judged, block, at.node) {
-        Found::Is(m) => placed_after(u, s, block, at, m),
-        Found::Wait(item) => Step::Waits(item),
+    match role {
+        Role::Part => {
+            let step = judged_in(alloc, u, s, block, at, node)?;
+            Ok(step)
+        }
+        Role::Embedded => {
+            let step = judged_in(alloc, u, s, block, at, node)?;
+            Ok(step)
+        }
+        Role::Declared => Ok(declared_name(u, s, at)),
+        Role::Untold => Ok(silent()),
     }
 }
 
@@ -184,8 +261,17 @@ fn want_by(
         Family::Operand => want_op(u, s, block, p, around),
         Family::Type => want_decl(u, s, block, p, around),
         Family::Declaration => want_decl(u, s, block, p, around),
+        Family::Clause => Found::Is(Mark::Wants(Demand::Nothing, Want::Free)),
         Family::Other => Found::Is(Mark::Wants(Demand::Nothing, Want::Free)),
     }
+}
+
+fn want_in(u: &Subject, s: &State, block: usize, p: Place, around: &Node) -> Found<Mark, Item>
+    requires { IsScene u.now s.now }
+    ensures is { told_by (said s.now) result ≡ tell (so_far s.now) (wants_in (unit_of u.now) block p around.now) }
+    ensures over { IfFound result (IsMarkOf s.now) }
+{
+    want_by(u, s, family_of(around.kind), block, p, around)
 }
 
 fn wanted_mark(s: &State, m: Mark) -> Step
@@ -202,7 +288,7 @@ fn wants_of(u: &Subject, s: &State, block: usize, p: Place, around: &Node) -> St
     ensures is { step_in s.now result ≡ tell (so_far s.now) (wants_of (unit_of u.now) block p around.now) }
     ensures over { IsStepOf s.now result }
 {
-    match want_by(u, s, family(around.kind), block, p, around) {
+    match want_in(u, s, block, p, around) {
         Found::Is(m) => wanted_mark(s, m),
         Found::Wait(item) => Step::Waits(item),
     }

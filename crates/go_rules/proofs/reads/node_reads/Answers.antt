@@ -9,4 +9,4 @@ loop-slot-preserved c =
     let nodes = c.args.nodes.now in
     let node = c.args.node.now in
     gather_more (nth_slot (family node.kind) nodes node) c.loop-slot.slot _ _ c.loop-slot.invariant
-    (c.in_ok-add_slot.ensures ∙ ap (λ f. c.loop-slot.out.items ++ nth_slot f nodes node c.loop-slot.slot) c.family-by.ensures)
+    (c.in_ok-add_slot.ensures ∙ ap (λ f. c.loop-slot.out.items ++ nth_slot f nodes node c.loop-slot.slot) c.family_of-by.ensures)

@@ -1,0 +1,35 @@
+//! The typing rules of Go.
+ghost use Rattle.go_rules.specs.Stages.{rule};
+
+use crate::declare::declare_item;
+use crate::judge::judge_item;
+use elaborate::Rules;
+use gv_base::NoMemory;
+use rule_words::{Declaring, Step};
+use std::alloc::Global;
+use typed_marks::{Item, State};
+use unit_read::Subject;
+
+/// The typing rules of Go 1.17.
+#[derive(Clone, Copy, Debug, PartialEq, Eq, Drop)]
+pub struct GoRules;
+
+impl Rules for GoRules {
+    ghost rule = { rule };
+
+    fn judge(&self, alloc: Global, u: &Subject, s: &State, item: Item) -> Result<Step, NoMemory> {
+        let step = judge_item(alloc, u, s, item)?;
+        Ok(step)
+    }
+
+    fn declare(
+        &self,
+        alloc: Global,
+        u: &Subject,
+        s: &State,
+        item: Item,
+    ) -> Result<Declaring, NoMemory> {
+        let declaring = declare_item(alloc, u, s, item);
+        Ok(declaring)
+    }
+}
