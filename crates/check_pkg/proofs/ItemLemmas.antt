@@ -22,9 +22,9 @@ declared_quiet None = refl
 declared_quiet (Some d) = refl
 
 -- the nodes of a passage up to one, and a value that the next doesn't stand before
-pub record Walked (u : Unit) (marks : Item → Meaning) (block : ℕ) (p : Passage) (start list : List Refusal) (node value : ℕ) : Type 0 where
+pub record Walked (u : Unit) (marks : Item → Meaning) (block : ℕ) (p : Passage) (start list : List Refusal) (node at : ℕ) : Type 0 where
   pub gains : Gains (Reached p.span.low p.span.end (RefusesNode u marks block p) node) start list
-  pub value : value ≤ value_in u p node
+  pub value : at ≤ value_in u p node
 
 told_node : (u : Unit) (marks : Item → Meaning) (block n : ℕ) (p : Passage) (stage : Stage) (x : Refusal) → is_told stage ≡ true → RefusesAt u marks block p n stage x → RefusesNode u marks block p n x
 told_node u marks block n p s.Before x told refuses = absurd cc

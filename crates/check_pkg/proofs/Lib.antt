@@ -11,3 +11,4 @@ pub mod UsedLemmas
 pub mod ImportLemmas
 pub mod UniverseLemmas
 pub mod PackageLemmas
+pub mod ReadLemmas

@@ -1,52 +1,35 @@
 -- A package and the unit that is judged.
-use Rattle.std.proofs.Common.{◌≡◌, ◌↔◌, ℕ, Bool, true, false, IsTrue, List, [], map, Option, Some, None, refl, sym, ap, ◌∙◌, subst, inl, inr}
-use Rattle.std.specs.Global.{Vec}
+use Rattle.std.proofs.Common.{◌≡◌, ◌↔◌, ℕ, true, List, [], map, refl, sym, ap, ◌∙◌, subst, inl, inr, arith}
 use Rattle.std.specs.List.{Contains}
-use Rattle.std.specs.Option.{option_map_or}
 use Rattle.export_data.specs.declared.constants.ConstInterface.{ConstInterface}
 use Rattle.export_data.specs.declared.constants.ConstOut.{ConstOut}
 use Rattle.export_data.specs.Order.{names_rise}
 use Rattle.go_tree.specs.Bindings.{AreInOrder}
 use Rattle.go_tree.specs.declared.bindings.Object.{Object}
 use Rattle.go_tree.specs.declared.tree.FileTree.{FileTree}
-use Rattle.go_tree.specs.declared.tree.Node.{Node}
 use Rattle.go_tree.specs.declared.tree.NodeRef.{NodeRef}
 use Rattle.mark_walk.specs.Asks.{IsTheAnnotation}
-use Rattle.object_order.specs.declared.needed.Needed.{Needed}
-use Rattle.package_needs.specs.Worlds.{IsOrderOf}
 use Rattle.bind.specs.Denoting.{AreBindings}
 use Rattle.bind.specs.Sources.{Sources, AreFiles}
 use Rattle.typed_marks.specs.declared.item.Item.{Item}
 use Rattle.typed_marks.specs.Meanings.{Meaning}
-use Rattle.unit_read.specs.Units.{Unit, node_at, is_among}
-use Rattle.unit_rows.specs.Cyclic.{is_cyclic, all_cyclic}
-use Rattle.unit_rows.specs.Redeclared.{is_redeclared}
-use Rattle.unit_rows.proofs.CyclicLemmas.{marks_cyclic}
+use Rattle.unit_read.specs.Units.{Unit}
 use Rattle.rule_words.specs.Asking.{Rule}
 use Rattle.elaborate.specs.Walks.{says_of, item_rule}
-use Rattle.check_pkg.specs.declared.check.Checked.{Checked}
-use Rattle.check_pkg.specs.declared.check.Outcome.{Outcome}
-use Rattle.check_pkg.specs.declared.refusal.Fault.{Fault}
+use Rattle.check_pkg.specs.declared.judging.Checked.{Checked}
+use Rattle.check_pkg.specs.declared.judging.Outcome.{Outcome}
 use Rattle.check_pkg.specs.declared.refusal.Refusal.{Refusal}
 use Rattle.check_pkg.specs.Checks.{IsChecked, IsOutcomeBy, IsOutcomeOf}
 use Rattle.check_pkg.specs.Faults.{fault_in, IsOrdered}
+use Rattle.check_pkg.specs.Gains.{Gains}
+use Rattle.check_pkg.specs.ImportLists.{RefusesAllImports}
+use Rattle.check_pkg.specs.Imports.{IsRefusedImport}
+use Rattle.check_pkg.specs.Items.{IsRefusedItem}
 use Rattle.check_pkg.specs.Interfaces.{worth_of, object_item, IsExported}
-use Rattle.check_pkg.specs.Packages.{package_of, text_of, known_of, AreCyclic}
-use Rattle.check_pkg.specs.Readings.{IsUnitOf}
-use Rattle.check_pkg.specs.Refusals.{IsAnnotation, IsRefused}
-
--- ---- flags
-
--- the names that an order of need marks are those that need themselves
-pub are_cyclic : (u : Unit) (order : List Needed) → IsOrderOf u.uses u.trees order → ((at : NodeRef) → u.cyclic at ≡ is_cyclic u.trees order at) → AreCyclic u
-are_cyclic u order of flags = record {
-  rows = of.rows;
-  names = of.names;
-  world = of.world;
-  «is» = of.is;
-  each = λ at node there. let same = marks_cyclic u.uses u.trees order of at node there in (λ h. same.0 (sym (flags at) ∙ h), λ h. flags at ∙ same.1 h);
-  others = λ at none. flags at ∙ ap (λ (o : Option Node). option_map_or (λ (node : Node). is_among at (all_cyclic order)) o false) none;
-}
+use Rattle.check_pkg.specs.Packages.{package_of, text_of, known_of}
+use Rattle.check_pkg.specs.Refusals.{IsRefused}
+use Rattle.check_pkg.proofs.GainLemmas.{gains_then}
+use Rattle.std.proofs.lemmas.Option.{slice_get_within}
 
 -- ---- whatever annotation is read
 
@@ -100,6 +83,14 @@ is_checked rule u marks c the all ordered rise exported nothing = record {
   nothing = nothing;
 }
 
+-- ---- all that is refused
+
+down_imports : (u : Unit) (x : Refusal) → RefusesAllImports u x → IsRefusedImport u x
+down_imports u x (f, low, (at, name, (file, import, named), (lies, fault))) = (at, name, import, named, lies, fault)
+
+up_import : (u : Unit) (x : Refusal) → IsRefusedImport u x → RefusesAllImports u x
+up_import u x (at, name, import, named, lies, fault) = (at.file, slice_get_within u.trees at.file import.0 import.1, (at, name, (refl, import, named), (lies, fault)))
+
 -- ---- the package
 
 pub is_outcome : (rule : Unit → Item → Rule) (path : List ℕ) (files : List (List ℕ × List ℕ)) (trees : List FileTree) (env : List ConstInterface) (named : List (List ℕ × List ℕ)) (uses : List (NodeRef × Object)) (outcome : Outcome)
@@ -119,5 +110,18 @@ is_outcome rule path files trees env named uses outcome known ordered bound by =
     redeclared = by.is.redeclared;
     cyclic = by.is.cyclic;
   };
-  outcome = by.outcome;
+  comes = by.comes;
 }
+
+pub collected : (u : Unit) (marks : Item → Meaning) (start mid last : List Refusal) → start ≡ [] → Gains (IsRefusedItem u marks) start mid → Gains (RefusesAllImports u) mid last
+    → (x : Refusal) → Contains last x ↔ IsRefused u marks x
+collected u marks start mid last empty items imports x =
+    let all = gains_then (IsRefusedItem u marks) (RefusesAllImports u) start mid last items imports in (
+      λ h. elim ((all.all x).0 h) [
+        | inl before ↦ absurd (nothing start x empty before)
+        | inr gained ↦ elim gained [ inl item ↦ inl item | inr import ↦ inr (down_imports u x import) ]
+      ],
+      λ h. (all.all x).1 (inr (elim h [ inl item ↦ inl item | inr import ↦ inr (up_import u x import) ])),
+    ) where
+      nothing : (list : List Refusal) (x : Refusal) → list ≡ [] → Contains list x → ⊥
+      nothing list x is has = let none : Contains [] x = subst (λ (l : List Refusal). Contains l x) is has in absurd (let (k, low, e) = none in omega arith)

@@ -1,5 +1,5 @@
 -- The first value that isn't before a node.
-use Rattle.std.proofs.Common.{◌≡◌, ℕ, zero, suc, ◌+◌, ◌<◌, ◌≤◌, Bool, true, false, if◌then◌else◌, nat_le, List, [], ◌∷◌, length, slice_get, Option, Some, None, refl, sym, ap, ◌∙◌, arith}
+use Rattle.std.proofs.Common.{◌≡◌, ℕ, zero, suc, ◌+◌, ◌<◌, ◌≤◌, Bool, true, false, if◌then◌else◌, nat_le, nat_lt, List, [], ◌∷◌, length, slice_get, Option, Some, None, refl, sym, ap, ◌∙◌, arith}
 use Rattle.std.specs.Option.{option_map_or}
 use Rattle.std.proofs.lemmas.Bool.Decides.{nat_tests}
 use Rattle.const_tree.specs.declared.constant.Spec.{Spec}
@@ -18,7 +18,7 @@ true_le : (m n : ℕ) → m ≤ n → nat_le m n ≡ true
 true_le m n h = grind (arith, nat_tests)
 
 -- it is one of them, or there is none
-pub value_low : (values : List ℕ) (n : ℕ) → value_before values n ≤ length values
+value_low : (values : List ℕ) (n : ℕ) → value_before values n ≤ length values
 value_low [] n = omega arith
 value_low (v ∷ values) n = by (nat_le n v) (value_low values n) where
   by : (b : Bool) → value_before values n ≤ length values → (if b then 0 else suc (value_before values n)) ≤ suc (length values)
@@ -26,7 +26,7 @@ value_low (v ∷ values) n = by (nat_le n v) (value_low values n) where
   by false low = omega arith
 
 -- a value that isn't before the node is the first, if none before it is
-pub value_here : (values : List ℕ) (n value at : ℕ) → value ≤ value_before values n → slice_get values value ≡ Some at → n ≤ at → value ≡ value_before values n
+value_here : (values : List ℕ) (n value at : ℕ) → value ≤ value_before values n → slice_get values value ≡ Some at → n ≤ at → value ≡ value_before values n
 value_here [] n value at low there past = absurd cc
 value_here (v ∷ values) n zero at low there past =
     let same : v ≡ at = cc in
@@ -38,7 +38,7 @@ value_here (v ∷ values) n (suc value) at low there past = by (nat_le n v) low 
   by false low rest = ap suc (rest (omega arith))
 
 -- one that is before it is passed
-pub value_past : (values : List ℕ) (n value at : ℕ) → value ≤ value_before values n → slice_get values value ≡ Some at → at < n → value + 1 ≤ value_before values n
+value_past : (values : List ℕ) (n value at : ℕ) → value ≤ value_before values n → slice_get values value ≡ Some at → at < n → value + 1 ≤ value_before values n
 value_past [] n value at low there past = absurd cc
 value_past (v ∷ values) n zero at low there past = by (nat_le n v) refl where
   by : (b : Bool) → nat_le n v ≡ b → 0 + 1 ≤ (if b then 0 else suc (value_before values n))
@@ -57,6 +57,22 @@ none_low (v ∷ values) (suc value) none = let more = none_low values value none
 -- where there is none, none is
 pub value_none : (values : List ℕ) (n value : ℕ) → value ≤ value_before values n → slice_get values value ≡ None → value ≡ value_before values n
 value_none values n value low none = let end = value_low values n in let past = none_low values value none in omega arith
+
+lt_true : (m n : ℕ) → nat_lt m n ≡ true → m < n
+lt_true m n h = grind (arith, nat_tests)
+
+lt_false : (m n : ℕ) → nat_lt m n ≡ false → n ≤ m
+lt_false m n h = grind (arith, nat_tests)
+
+pub past_if : (values : List ℕ) (n value at : ℕ) → value ≤ value_before values n → slice_get values value ≡ Some at → nat_lt at n ≡ true → value + 1 ≤ value_before values n
+past_if values n value at low there less = value_past values n value at low there (lt_true at n less)
+
+pub here_if : (values : List ℕ) (n value at : ℕ) → value ≤ value_before values n → slice_get values value ≡ Some at → nat_lt at n ≡ false → value ≡ value_before values n
+here_if values n value at low there not = value_here values n value at low there (lt_false at n not)
+
+-- all values are passed
+pub value_end : (values : List ℕ) (n value count : ℕ) → value ≤ value_before values n → count ≡ length values → count ≤ value → count ≡ value_before values n
+value_end values n value count low size past = let end = value_low values n in omega arith
 
 -- a later node stands in the same value or in a later one
 pub value_rises : (values : List ℕ) (n : ℕ) → value_before values n ≤ value_before values (n + 1)

@@ -6,9 +6,9 @@ use Rattle.typed_marks.specs.Meanings.{Meaning}
 use Rattle.unit_read.specs.Units.{Unit}
 use Rattle.rule_words.specs.Asking.{Rule}
 use Rattle.elaborate.specs.Walks.{says_of, pends_of, item_rule}
-use Rattle.check_pkg.specs.declared.check.Checked.{Checked}
-use Rattle.check_pkg.specs.declared.check.Outcome.{Outcome}
-use Rattle.check_pkg.specs.declared.check.Outcome.TheVariants as o
+use Rattle.check_pkg.specs.declared.judging.Checked.{Checked}
+use Rattle.check_pkg.specs.declared.judging.Outcome.{Outcome}
+use Rattle.check_pkg.specs.declared.judging.Outcome.TheVariants as o
 use Rattle.check_pkg.specs.Faults.{IsOrdered}
 use Rattle.check_pkg.specs.Interfaces.{HasExports}
 use Rattle.check_pkg.specs.Packages.{Package, Env, IsUnit}
@@ -40,10 +40,10 @@ IsOutcome rule u o.Circle = HasCircle rule u
 pub record IsOutcomeBy (rule : Unit → Item → Rule) (path : List ℕ) (texts : List (List ℕ)) (trees : List FileTree) (uses : List (NodeRef × Object)) (env : Env) (outcome : Outcome) : Type 0 where
   pub unit : Unit
   pub «is» : IsUnitOf path texts trees uses env unit
-  pub outcome : IsOutcome rule unit outcome
+  pub comes : IsOutcome rule unit outcome
 
 -- what comes of the package over this environment
 pub record IsOutcomeOf (rule : Unit → Item → Rule) (p : Package) (env : Env) (outcome : Outcome) : Type 0 where
   pub unit : Unit
   pub «is» : IsUnit p env unit
-  pub outcome : IsOutcome rule unit outcome
+  pub comes : IsOutcome rule unit outcome

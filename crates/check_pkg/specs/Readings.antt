@@ -9,11 +9,11 @@ use Rattle.unit_rows.specs.Redeclared.{is_redeclared}
 use Rattle.check_pkg.specs.Packages.{AreCyclic}
 
 -- the unit is that of this path, these texts, trees, uses and interfaces, with its flags
-pub record IsUnitOf (path : List ℕ) (texts : List (List ℕ)) (trees : List FileTree) (uses : List (NodeRef × Object)) (env : List ConstInterface) (u : Unit) : Type 0 where
-  pub path : u.path ≡ path
-  pub texts : u.texts ≡ texts
-  pub trees : u.trees ≡ trees
-  pub uses : u.uses ≡ uses
-  pub env : u.env ≡ env
+pub record IsUnitOf (name : List ℕ) (sources : List (List ℕ)) (files : List FileTree) (bindings : List (NodeRef × Object)) (interfaces : List ConstInterface) (u : Unit) : Type 0 where
+  pub path : u.path ≡ name
+  pub texts : u.texts ≡ sources
+  pub trees : u.trees ≡ files
+  pub uses : u.uses ≡ bindings
+  pub env : u.env ≡ interfaces
   pub redeclared : (at : NodeRef) → u.redeclared at ≡ is_redeclared u at
   pub cyclic : AreCyclic u

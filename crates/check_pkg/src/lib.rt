@@ -3,11 +3,11 @@
 #![tactic(auto)]
 
 mod block;
-mod check;
 mod exports;
 mod faults;
 mod import_names;
 mod import_refusals;
+mod judging;
 mod order;
 mod places;
 mod read;
@@ -16,5 +16,5 @@ mod sources;
 mod universe;
 mod used;
 
-pub use check::{Checked, Outcome, check};
+pub use judging::{Checked, Outcome, check};
 pub use refusal::{Fault, Refusal};

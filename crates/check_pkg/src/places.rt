@@ -1,5 +1,5 @@
 //! Where faults stand.
-ghost use Rattle.std.specs.Prelude.{◌≡◌, ◌≤◌, IfOk, slice_get, length};
+ghost use Rattle.std.specs.Prelude.{◌≡◌, ◌≤◌, ◌+◌, IfOk, true, false, slice_get};
 ghost use Rattle.std.specs.Option.{option_map_or, option_copied};
 ghost use Rattle.const_tree.specs.Constants.{names_of, values_of};
 ghost use Rattle.object_order.specs.Spots.{place};

@@ -19,7 +19,7 @@ pub loop-node-preserved : goal.loop-node-preserved
 loop-node-preserved c =
     let u = unit_of c.args.u.now in
     let on = value_goes_on u c.args.p c.loop-node.node in
-    let is = c.value_in.ensures in
+    let is = c.value_in-value.ensures in
     record {
       gains = reached_more (RefusesNode u (filled Quiet (so_far c.args.s.now)) c.args.block c.args.p) c.args.p.span.low c.args.p.span.end c.loop-node.node c.args.list.now.items c.loop-node.list.items
           c.refuse_node.new.list.items (omega arith) (omega arith) c.loop-node.invariant.gains c.in_ok-refuse_node.ensures;

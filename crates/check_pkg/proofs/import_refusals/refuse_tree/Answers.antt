@@ -14,7 +14,7 @@ import_names-requires-clause-lines c =
 
 pub refuse_names-requires-clause-names : goal.refuse_names-requires-clause-names
 refuse_names-requires-clause-names c =
-    subst (λ (xs : List Declared). AreNames (unit_of c.args.u.now) c.args.file xs) (sym c.deref-4.ensures.value)
+    subst (λ (xs : List Declared). AreNames (unit_of c.args.u.now) c.args.file xs) (sym c.deref-3.ensures.value)
     (are_names (unit_of c.args.u.now) c.args.file c.args.tree.now c.deref.result.now c.as_slice-lines.result.now c.in_ok-names.names.items c.requires.tree
     (c.deref.ensures.value ∙ c.in_ok-specs.ensures)
     ((c.as_slice-lines.ensures ∙ ap (λ h. h.imports) c.in_ok-head.ensures) ∙ ap (λ text. imports_of c.args.tree.now text c.args.tree.now.tops) c.text_in.ensures)

@@ -6,7 +6,7 @@ use Rattle.check_pkg.proofs.UsedLemmas.{none_used, used_more, used_all}
 use Rattle.check_pkg.proofs.used.used_in.Goals as goal
 
 pub loop-node-init : goal.loop-node-init
-loop-node-init c = none_used (unit_of c.args.u.now) c.args.file (has c.new-used.result) (λ j. refl)
+loop-node-init c = none_used (unit_of c.args.u.now) c.args.file (has c.new-used.result) (λ j. rw c.new-used.ensures.empty refl)
 
 pub loop-node-preserved : goal.loop-node-preserved
 loop-node-preserved c =
