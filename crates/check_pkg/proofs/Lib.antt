@@ -12,3 +12,5 @@ pub mod ImportLemmas
 pub mod UniverseLemmas
 pub mod PackageLemmas
 pub mod ReadLemmas
+pub mod StandLemmas
+pub mod Uniqueness

@@ -1,5 +1,5 @@
 //! What an accepted package exports (Go 1.17, "Exported identifiers").
-ghost use Rattle.std.specs.Prelude.{◌≡◌, ◌<◌, ◌↔◌, IfOk, OnOk, Some, IsTrue, Contains, option_map, slice_get, length, IsPermutation};
+ghost use Rattle.std.specs.Prelude.{◌≡◌, ◌<◌, ◌↔◌, IfOk, OnOk, Some, IsTrue, true, Contains, option_map, slice_get, length, IsPermutation};
 ghost use Rattle.std.specs.Ordering.{is_lt, nat_cmp};
 ghost use Rattle.std.specs.Cmp.Lexicographic.{slice_cmp};
 ghost use Rattle.std.specs.List.Sorted.{IsSortedBy};
