@@ -125,7 +125,7 @@ fn all_in_block(alloc: Global, s: &Subject, entries: &[Entry]) -> Result<Vec<Nod
 }
 
 /// The names of the package block, in order of file and node.
-fn package_names(alloc: Global, s: &Subject) -> Result<Vec<NodeRef>, NoMemory>
+pub fn package_names(alloc: Global, s: &Subject) -> Result<Vec<NodeRef>, NoMemory>
     requires { IsPlaced s.now }
     ensures { IfOk result (λ names. names.items ≡ package_names (unit_of s.now)) }
 {

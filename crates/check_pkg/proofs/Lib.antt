@@ -1,0 +1,16 @@
+pub mod Lists
+pub mod ListLemmas
+pub mod GainLemmas
+pub mod FaultLemmas
+pub mod ValueLemmas
+pub mod ItemLemmas
+pub mod NameOrder
+pub mod ExportLemmas
+pub mod NameLemmas
+pub mod UsedLemmas
+pub mod ImportLemmas
+pub mod UniverseLemmas
+pub mod PackageLemmas
+pub mod ReadLemmas
+pub mod StandLemmas
+pub mod Uniqueness

@@ -1,0 +1,7 @@
+use Rattle.unit_read.specs.Subjects.{unit_of}
+use Rattle.std.proofs.Common.{sym}
+use Rattle.check_pkg.proofs.ImportLemmas.{no_imports}
+use Rattle.check_pkg.proofs.import_refusals.refuse_file.Goals as goal
+
+pub returns-in-None : goal.returns-in-None
+returns-in-None c = no_imports (unit_of c.args.u.now) c.args.file c.args.list.now.items (sym c.in-None.ensures)

@@ -1,0 +1,7 @@
+use Rattle.unit_read.specs.Subjects.{unit_of}
+use Rattle.check_pkg.specs.ImportLists.{RefusesImports}
+use Rattle.check_pkg.specs.Gains.{Gains, SomeBelow}
+use Rattle.check_pkg.proofs.import_refusals.refuse_imports.Given as goal
+
+abbrev pub invariant-loop-file : goal.invariant-loop-file
+invariant-loop-file l = Gains (SomeBelow l.file (RefusesImports (unit_of l.u))) l.fn.list.items l.list.items

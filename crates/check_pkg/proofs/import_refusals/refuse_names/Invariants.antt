@@ -1,0 +1,7 @@
+use Rattle.unit_read.specs.Subjects.{unit_of}
+use Rattle.check_pkg.specs.ImportLists.{RefusesNthName}
+use Rattle.check_pkg.specs.Gains.{Gains, SomeBelow}
+use Rattle.check_pkg.proofs.import_refusals.refuse_names.Given as goal
+
+abbrev pub invariant-loop-declared : goal.invariant-loop-declared
+invariant-loop-declared l = Gains (SomeBelow l.declared-index (RefusesNthName (unit_of l.u) l.names)) l.fn.list.items l.list.items

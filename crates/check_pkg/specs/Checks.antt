@@ -1,0 +1,49 @@
+-- What comes of a package.
+use Rattle.std.specs.Prelude.{◌≡◌, ℕ, List, [], Option}
+use Rattle.mark_walk.specs.Asks.{Sound, Awaits, WaitsFor}
+use Rattle.typed_marks.specs.declared.item.Item.{Item}
+use Rattle.typed_marks.specs.Meanings.{Meaning}
+use Rattle.unit_read.specs.Units.{Unit}
+use Rattle.rule_words.specs.Asking.{Rule}
+use Rattle.elaborate.specs.Walks.{says_of, pends_of, item_rule}
+use Rattle.check_pkg.specs.declared.judging.Checked.{Checked}
+use Rattle.check_pkg.specs.declared.judging.Outcome.{Outcome}
+use Rattle.check_pkg.specs.declared.judging.Outcome.TheVariants as o
+use Rattle.check_pkg.specs.Faults.{IsOrdered}
+use Rattle.check_pkg.specs.Interfaces.{HasExports}
+use Rattle.check_pkg.specs.Packages.{Package, Env, IsUnit}
+use Rattle.check_pkg.specs.Readings.{IsUnitOf}
+use Rattle.check_pkg.specs.Refusals.{HasMarks}
+use Rattle.go_tree.specs.declared.bindings.Object.{Object}
+use Rattle.go_tree.specs.declared.tree.FileTree.{FileTree}
+use Rattle.go_tree.specs.declared.tree.NodeRef.{NodeRef}
+
+-- The list has all that refuses the unit, in order and each once; and where nothing refuses it the exports are what it exports.
+pub record IsChecked (rule : Unit → Item → Rule) (u : Unit) (c : Checked) : Type 0 where
+  pub marks : HasMarks rule u c.refused.items
+  pub ordered : IsOrdered c.refused.items
+  pub exports : c.refused.items ≡ [] → HasExports rule u c.exports.items
+  pub nothing : ¬ (c.refused.items ≡ []) → c.exports.items ≡ []
+
+-- Over marks that every annotation has, an item waits for itself.
+pub record HasCircle (rule : Unit → Item → Rule) (u : Unit) : Type 0 where
+  pub so_far : Item → Option Meaning
+  pub item : Item
+  pub sound : Sound (says_of u) (item_rule rule u) so_far
+  pub waits : WaitsFor (λ x. Awaits (says_of u) (pends_of u) so_far (item_rule rule u x)) item item
+
+abbrev pub IsOutcome : (Unit → Item → Rule) → Unit → Outcome → Type 0
+IsOutcome rule u (o.Checked c) = IsChecked rule u c
+IsOutcome rule u o.Circle = HasCircle rule u
+
+-- what comes of the package of this path, of these texts, trees, uses and interfaces
+pub record IsOutcomeBy (rule : Unit → Item → Rule) (path : List ℕ) (texts : List (List ℕ)) (trees : List FileTree) (uses : List (NodeRef × Object)) (env : Env) (outcome : Outcome) : Type 0 where
+  pub unit : Unit
+  pub «is» : IsUnitOf path texts trees uses env unit
+  pub comes : IsOutcome rule unit outcome
+
+-- what comes of the package over this environment
+pub record IsOutcomeOf (rule : Unit → Item → Rule) (p : Package) (env : Env) (outcome : Outcome) : Type 0 where
+  pub unit : Unit
+  pub «is» : IsUnit p env unit
+  pub comes : IsOutcome rule unit outcome

@@ -1,0 +1,14 @@
+pub mod Packages
+pub mod Refusals
+pub mod Faults
+pub mod Items
+pub mod Imports
+pub mod Names
+pub mod Interfaces
+pub mod Checks
+pub mod Order
+pub mod Gains
+pub mod ImportLists
+pub mod Exports
+pub mod Readings
+pub mod Universes

@@ -1,0 +1,19 @@
+-- A package as it has been read.
+use Rattle.std.specs.Prelude.{◌≡◌, ℕ, List}
+use Rattle.go_tree.specs.declared.bindings.Object.{Object}
+use Rattle.go_tree.specs.declared.tree.FileTree.{FileTree}
+use Rattle.go_tree.specs.declared.tree.NodeRef.{NodeRef}
+use Rattle.export_data.specs.declared.constants.ConstInterface.{ConstInterface}
+use Rattle.unit_read.specs.Units.{Unit}
+use Rattle.unit_rows.specs.Redeclared.{is_redeclared}
+use Rattle.check_pkg.specs.Packages.{AreCyclic}
+
+-- the unit is that of this path, these texts, trees, uses and interfaces, with its flags
+pub record IsUnitOf (name : List ℕ) (sources : List (List ℕ)) (files : List FileTree) (bindings : List (NodeRef × Object)) (interfaces : List ConstInterface) (u : Unit) : Type 0 where
+  pub path : u.path ≡ name
+  pub texts : u.texts ≡ sources
+  pub trees : u.trees ≡ files
+  pub uses : u.uses ≡ bindings
+  pub env : u.env ≡ interfaces
+  pub redeclared : (at : NodeRef) → u.redeclared at ≡ is_redeclared u at
+  pub cyclic : AreCyclic u

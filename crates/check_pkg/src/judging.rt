@@ -1,0 +1,219 @@
+//! The check of a package by rules.
+ghost use Rattle.std.specs.Prelude.{◌≡◌, map, ◌<◌, ◌^◌, ◌↔◌, IfOk, IsTrue, true, Contains, [], length};
+ghost use Rattle.bind.specs.Answers.{AreSmall, AreSpelled};
+ghost use Rattle.export_data.specs.Order.{names_rise};
+ghost use Rattle.export_data.specs.declared.constants.ConstOut.{ConstOut as ExportedConst};
+ghost use Rattle.go_tree.specs.Bindings.{AreInOrder};
+ghost use Rattle.mark_walk.specs.Asks.{filled};
+ghost use Rattle.typed_marks.specs.Meanings.{Quiet};
+ghost use Rattle.typed_marks.specs.States.{so_far, IsState};
+ghost use Rattle.unit_read.specs.Environments.{IsEnvironment};
+ghost use Rattle.unit_read.specs.Index.{texts_of};
+ghost use Rattle.unit_read.specs.Subjects.{unit_of, IsRead};
+ghost use Rattle.check_pkg.specs.declared.refusal.Refusal.{Refusal as OneRefusal};
+ghost use Rattle.check_pkg.specs.Checks.{IsOutcome, IsOutcomeBy, IsOutcomeOf};
+ghost use Rattle.check_pkg.specs.Faults.{IsOrdered};
+ghost use Rattle.check_pkg.specs.Interfaces.{IsExported};
+ghost use Rattle.check_pkg.specs.Names.{IsBlock};
+ghost use Rattle.check_pkg.specs.Packages.{package_of, text_of};
+ghost use Rattle.check_pkg.specs.Refusals.{IsRefused};
+
+use crate::block::{PackageBlock, package_block};
+use crate::exports::exports;
+use crate::faults::refuse_items;
+use crate::import_refusals::refuse_imports;
+use crate::order::{distinct, sort};
+use crate::read::read;
+use crate::refusal::Refusal;
+use crate::sources::{known, texts};
+use crate::universe::first_table;
+use bind::bind;
+use elaborate::{Elaborated, Rules, elaborate};
+use export_data::{ConstInterface, ConstOut};
+use go_tree::{Bindings, FileTree};
+use gv_base::{Bytes, NoMemory, Text};
+use std::alloc::Global;
+use typed_marks::State;
+use unit_read::{Environment, Subject};
+
+/// What has been found of a package.
+#[derive(Drop)]
+pub struct Checked {
+    /// The place and the fault of each mark and of each import that refuses the package, each once, by file, by offset
+    /// in bytes, rules before limits and then by number. It is empty exactly where the package keeps all rules.
+    pub refused: Vec<Refusal>,
+    /// The constants that the package exports, in byte order of the names. Nothing where the package is refused.
+    pub exports: Vec<ConstOut>,
+}
+
+/// What comes of a package.
+#[derive(Drop)]
+pub enum Outcome {
+    Checked(Checked),
+    /// The rule of an item waits for that item's own mark: nothing is said of the package.
+    Circle,
+}
+
+/// All that refuses a package, in no order.
+fn unsorted(
+    alloc: Global,
+    u: &Subject,
+    s: &State,
+    block: &PackageBlock,
+) -> Result<Vec<Refusal>, NoMemory>
+    requires read { IsRead u.now }
+    requires few { length u.now.trees.now < 2 ^ 32 }
+    requires state { IsState s.now }
+    requires block { IsBlock (unit_of u.now) block.now }
+    ensures { IfOk result (λ list. (x : OneRefusal) → Contains list.items x ↔ IsRefused (unit_of u.now) (filled Quiet (so_far s.now)) x) }
+{
+    let mut list = Vec::new(alloc);
+    refuse_items(alloc, u, s, &mut list)?;
+    refuse_imports(alloc, u, block, &mut list)?;
+    Ok(list)
+}
+
+/// All that refuses a package, in order and each once.
+fn refusals(
+    alloc: Global,
+    u: &Subject,
+    s: &State,
+    block: &PackageBlock,
+) -> Result<Vec<Refusal>, NoMemory>
+    requires read { IsRead u.now }
+    requires few { length u.now.trees.now < 2 ^ 32 }
+    requires state { IsState s.now }
+    requires block { IsBlock (unit_of u.now) block.now }
+    ensures all { IfOk result (λ list. (x : OneRefusal) → Contains list.items x ↔ IsRefused (unit_of u.now) (filled Quiet (so_far s.now)) x) }
+    ensures once { IfOk result (λ list. IsOrdered list.items) }
+{
+    let mut list = unsorted(alloc, u, s, block)?;
+    sort(&mut list)?;
+    let sorted = distinct(alloc, &list)?;
+    Ok(sorted)
+}
+
+fn is_empty(list: &Vec<Refusal>) -> bool
+    ensures { IsTrue result ↔ (list.now.items ≡ []) }
+{
+    list.is_empty()
+}
+
+/// What a package exports, if nothing refuses it.
+fn accepted(
+    alloc: Global,
+    u: &Subject,
+    s: &State,
+    block: &PackageBlock,
+    refused: &Vec<Refusal>,
+) -> Result<Vec<ConstOut>, NoMemory>
+    requires state { IsState s.now }
+    requires block { IsBlock (unit_of u.now) block.now }
+    ensures rise { IfOk result (λ list. refused.now.items ≡ [] → names_rise list.items ≡ true) }
+    ensures all { IfOk result (λ list. refused.now.items ≡ [] → (out : ExportedConst) → Contains list.items out ↔ IsExported (unit_of u.now) (filled Quiet (so_far s.now)) out) }
+    ensures nothing { IfOk result (λ list. ¬ (refused.now.items ≡ []) → list.items ≡ []) }
+{
+    if !is_empty(refused) {
+        return Ok(Vec::new(alloc));
+    }
+    let list = exports(alloc, u, s, block)?;
+    Ok(list)
+}
+
+/// What is found of a package that has been read and whose items are marked.
+fn judge(alloc: Global, u: &Subject, s: &State) -> Result<Checked, NoMemory>
+    requires read { IsRead u.now }
+    requires few { length u.now.trees.now < 2 ^ 32 }
+    requires state { IsState s.now }
+    ensures all { IfOk result (λ c. (x : OneRefusal) → Contains c.refused.items x ↔ IsRefused (unit_of u.now) (filled Quiet (so_far s.now)) x) }
+    ensures ordered { IfOk result (λ c. IsOrdered c.refused.items) }
+    ensures rise { IfOk result (λ c. c.refused.items ≡ [] → names_rise c.exports.items ≡ true) }
+    ensures exported { IfOk result (λ c. c.refused.items ≡ [] → (out : ExportedConst) → Contains c.exports.items out ↔ IsExported (unit_of u.now) (filled Quiet (so_far s.now)) out) }
+    ensures nothing { IfOk result (λ c. ¬ (c.refused.items ≡ []) → c.exports.items ≡ []) }
+{
+    let block = package_block(alloc, u)?;
+    let refused = refusals(alloc, u, s, &block)?;
+    let exports = accepted(alloc, u, s, &block, &refused)?;
+    Ok(Checked { refused, exports })
+}
+
+/// Marks the items of a package that has been read, and judges it.
+fn judge_unit<R: Rules>(alloc: Global, rules: &R, u: &Subject) -> Result<Outcome, NoMemory>
+    requires read { IsRead u.now }
+    requires few { length u.now.trees.now < 2 ^ 32 }
+    ensures { IfOk result (IsOutcome R.rule (unit_of u.now)) }
+{
+    let table = first_table(alloc)?;
+    let elaborated = elaborate(alloc, rules, u, table)?;
+    match elaborated {
+        Elaborated::Marked(state) => {
+            let checked = judge(alloc, u, &state)?;
+            Ok(Outcome::Checked(checked))
+        }
+        Elaborated::Circle(_, _) => Ok(Outcome::Circle),
+    }
+}
+
+/// Reads a package and judges it.
+fn judge_read<R: Rules>(
+    alloc: Global,
+    rules: &R,
+    path: &[u8],
+    sources: &[&[u8]],
+    trees: &[FileTree],
+    uses: &Bindings,
+    env: &Environment<'_>,
+) -> Result<Outcome, NoMemory>
+    requires small { AreSmall trees.now }
+    requires few { length trees.now < 2 ^ 32 }
+    requires uses { AreInOrder uses.now }
+    requires env { IsEnvironment env.now }
+    ensures { IfOk result (IsOutcomeBy R.rule path.now (texts_of sources.now) trees.now uses.now env.now.interfaces.now) }
+{
+    let subject = read(alloc, path, sources, trees, uses, env)?;
+    let outcome = judge_unit(alloc, rules, &subject)?;
+    Ok(outcome)
+}
+
+/// Judges a package by its files, of which is known what their uses denote.
+fn judge_files<R: Rules>(
+    alloc: Global,
+    rules: &R,
+    path: &[u8],
+    files: &[(Text, Bytes)],
+    trees: &[FileTree],
+    uses: &Bindings,
+    env: &[ConstInterface],
+) -> Result<Outcome, NoMemory>
+    requires small { AreSmall trees.now }
+    requires few { length trees.now < 2 ^ 32 }
+    requires uses { AreInOrder uses.now }
+    ensures { IfOk result (IsOutcomeBy R.rule path.now (map text_of files.now) trees.now uses.now env.now) }
+{
+    let environment = Environment::new(alloc, env)?;
+    let sources = texts(alloc, files)?;
+    let outcome = judge_read(alloc, rules, path, &sources, trees, uses, &environment)?;
+    Ok(outcome)
+}
+
+/// Checks a package by rules. It is given by its path, by the paths and the bytes of its files in order of their paths, and by their trees,
+/// over an environment: the interfaces of the packages to which its imports lead. Of two interfaces of one path the first counts; what an
+/// import that leads to none means is for the rules to say.
+pub fn check<R: Rules>(
+    alloc: Global,
+    rules: &R,
+    path: &[u8],
+    files: &[(Text, Bytes)],
+    trees: &[FileTree],
+    env: &[ConstInterface],
+) -> Result<Outcome, NoMemory>
+    requires spelled { AreSpelled trees.now files.now }
+    requires small { AreSmall trees.now }
+    requires few { length trees.now < 2 ^ 32 }
+    ensures { IfOk result (IsOutcomeOf R.rule (package_of path.now files.now trees.now) env.now) }
+{
+    let named = known(alloc, env)?;
+    let uses = bind(alloc, trees, files, &named)?;
+    let outcome = judge_files(alloc, rules, path, files, trees, &uses, env)?;
+    Ok(outcome)
+}

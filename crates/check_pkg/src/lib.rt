@@ -1,0 +1,20 @@
+//! What refuses a package, by the marks of its items and by its imports, in order and each once; and what an accepted package exports. The
+//! marks are those of any rules.
+#![tactic(auto)]
+
+mod block;
+mod exports;
+mod faults;
+mod import_names;
+mod import_refusals;
+mod judging;
+mod order;
+mod places;
+mod read;
+mod refusal;
+mod sources;
+mod universe;
+mod used;
+
+pub use judging::{Checked, Outcome, check};
+pub use refusal::{Fault, Refusal};

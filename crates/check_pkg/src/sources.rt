@@ -1,0 +1,52 @@
+//! A package, as it is given to those who read it.
+ghost use Rattle.std.specs.Prelude.{◌≡◌, IfOk, map};
+ghost use Rattle.unit_read.specs.Index.{texts_of};
+ghost use Rattle.check_pkg.specs.Packages.{known_of, text_of};
+
+use export_data::ConstInterface;
+use gv_base::{Bytes, NoMemory, Text};
+use std::alloc::Global;
+
+fn bytes_of(file: &(Text, Bytes)) -> &[u8]
+    ensures { result.now ≡ text_of file.now }
+{
+    file.1.as_slice()
+}
+
+/// The bytes of the files.
+pub fn texts<'a>(alloc: Global, files: &'a [(Text, Bytes)]) -> Result<Vec<&'a [u8]>, NoMemory>
+    ensures { IfOk result (λ list. texts_of list.items ≡ map text_of files.now) }
+{
+    let mut list = Vec::new(alloc);
+    for file in files {
+        list.push(bytes_of(file))?;
+    }
+    Ok(list)
+}
+
+fn copied(alloc: Global, text: &Text) -> Result<Text, NoMemory>
+    ensures { IfOk result (λ copy. copy ≡ text.now) }
+{
+    let copy = String::from_str(alloc, text.as_str())?;
+    Ok(Text::new(copy))
+}
+
+fn pair_of(alloc: Global, interface: &ConstInterface) -> Result<(Text, Text), NoMemory>
+    ensures { IfOk result (λ pair. pair ≡ (interface.now.path, interface.now.name)) }
+{
+    let path = copied(alloc, &interface.path)?;
+    let name = copied(alloc, &interface.name)?;
+    Ok((path, name))
+}
+
+/// The paths and the names of the packages that are known.
+pub fn known(alloc: Global, env: &[ConstInterface]) -> Result<Vec<(Text, Text)>, NoMemory>
+    ensures { IfOk result (λ list. list.items ≡ known_of env.now) }
+{
+    let mut list = Vec::new(alloc);
+    for interface in env {
+        let pair = pair_of(alloc, interface)?;
+        list.push(pair)?;
+    }
+    Ok(list)
+}
