@@ -1,18 +1,14 @@
 -- What imports declare, and what they refuse.
-use Rattle.std.proofs.Common.{◌≡◌, ℕ, ◌+◌, ◌<◌, ◌≤◌, ◌⊎◌, ◌↔◌, ◌==◌, Bool, true, false, cond, if◌then◌else◌, not, IsTrue, nat_le, nat_lt, List, [], ◌∷◌, map, length, slice_get, Option, Some, None, is_some, option_map, option_and_then, below_more, refl, sym, ap, ◌∙◌, subst, inl, inr, arith}
+use Rattle.std.proofs.Common.{◌≡◌, ℕ, ◌+◌, ◌<◌, ◌≤◌, ◌⊎◌, ◌↔◌, ◌==◌, Bool, true, false, if◌then◌else◌, not, IsTrue, nat_le, nat_lt, List, map, length, slice_get, Option, Some, None, is_some, option_map, option_and_then, below_more, refl, sym, ap, ◌∙◌, subst, inl, inr, arith}
 use Rattle.std.specs.Bool.{Decides}
 use Rattle.std.specs.List.{Contains}
 use Rattle.std.specs.Option.{option_map_or}
 use Rattle.std.specs.Str.{bytes_eq}
-use Rattle.std.proofs.lemmas.Bool.{cases_lt}
 use Rattle.std.proofs.lemmas.Bool.Decides.{nat_tests}
-use Rattle.std.proofs.lemmas.List.{get_or_past}
-use Rattle.std.proofs.lemmas.List.Elements.{Contains-append_cases}
-use Rattle.std.proofs.lemmas.Option.{slice_get_within, slice_get-map, slice_get-get_or}
+use Rattle.std.proofs.lemmas.Option.{slice_get_within, slice_get-map}
 use Rattle.std.proofs.lemmas.Slice.Eq.{bytes_eq-Decides}
 use Rattle.gv_base.specs.declared.place.Place.{Place}
-use Rattle.go_tree.specs.Head.{node_at as node_in, import_line, imports_of, is_import}
-use Rattle.go_tree.specs.Spelling.{no_node}
+use Rattle.go_tree.specs.Head.{import_line, imports_of}
 use Rattle.go_tree.specs.Lexeme.{place_of as first_place}
 use Rattle.go_tree.specs.declared.bindings.Object.{Object}
 use Rattle.go_tree.specs.declared.bindings.Object.TheVariants as o
@@ -21,10 +17,9 @@ use Rattle.go_tree.specs.declared.tree.FileTree.{FileTree}
 use Rattle.go_tree.specs.declared.tree.Node.{Node}
 use Rattle.go_tree.specs.declared.tree.NodeRef.{NodeRef}
 use Rattle.object_order.specs.Spots.{place}
-use Rattle.bind.specs.Imports.{piece_specs, specs_in, line_name}
+use Rattle.bind.specs.Imports.{specs_in, line_name}
 use Rattle.bind.specs.Imported.{imported}
 use Rattle.bind.proofs.ImportLemmas.{lines_are, map_size, from_imported, to_imported}
-use Rattle.typed_tree.specs.declared.rule.Limit.{Limit}
 use Rattle.typed_tree.specs.declared.rule.TheConstants.{REDECLARED, UNUSED_IMPORT}
 use Rattle.unit_read.specs.Imports.{import_limit}
 use Rattle.unit_read.specs.Units.{Unit, text_in, tree_at, nodes_at, node_at, object_in, object_at, name_at}
@@ -36,7 +31,7 @@ use Rattle.check_pkg.specs.Gains.{Gains, SomeBelow}
 use Rattle.check_pkg.specs.ImportLists.{pairs, Names, AreNames, import_in, AreUsed, least, IsLeast, IsFirst, is_before, RefusesIf, HasName, ComesLater, IsUnused, RefusesName, RefusesNthName, RefusesImports}
 use Rattle.check_pkg.specs.Packages.{known_of}
 use Rattle.check_pkg.specs.Faults.{place_of}
-use Rattle.check_pkg.specs.Imports.{IsImport, import_name, IsTaken, IsUsed}
+use Rattle.check_pkg.specs.Imports.{import_name, IsTaken, IsUsed}
 use Rattle.check_pkg.specs.Names.{spelled_names}
 use Rattle.check_pkg.proofs.FaultLemmas.{same_refusal}
 use Rattle.check_pkg.proofs.GainLemmas.{gains_none, gains_as, gains_then, gains_some}
@@ -227,15 +222,6 @@ unused_is u at used false are none is = (
   λ h. (none, λ uses. let e : false ≡ true = is ∙ (used_noted u at used are).1 uses in absurd cc),
   λ unused. refl,
 )
-
-pub limited_used : (u : Unit) (at : NodeRef) (o : Option Limit) (b : Bool) → o ≡ import_limit u at → b ≡ is_some o → b ≡ true → IsTrue false ↔ IsUnused u at
-limited_used u at o b is test some = (
-  λ h. absurd cc,
-  λ (limit, unused). absurd (differ o b (is ∙ limit) test some),
-) where
-  differ : (o : Option Limit) (b : Bool) → o ≡ None → b ≡ is_some o → b ≡ true → ⊥
-  differ None b e p q = cc
-  differ (Some x) b e p q = cc
 
 -- ---- faults
 

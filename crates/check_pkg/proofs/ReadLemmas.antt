@@ -1,5 +1,5 @@
 -- A package as it is read, with its flags.
-use Rattle.std.proofs.Common.{◌≡◌, ◌↔◌, ℕ, Bool, false, IsTrue, List, Option, None, refl, sym, ap, ◌∙◌, subst}
+use Rattle.std.proofs.Common.{◌≡◌, ℕ, Bool, false, List, Option, refl, sym, ap, ◌∙◌, subst}
 use Rattle.std.specs.Global.{Vec}
 use Rattle.std.specs.Option.{option_map_or}
 use Rattle.export_data.specs.declared.constants.ConstInterface.{ConstInterface}
@@ -10,7 +10,7 @@ use Rattle.go_tree.specs.declared.tree.NodeRef.{NodeRef}
 use Rattle.object_order.specs.declared.needed.Needed.{Needed}
 use Rattle.package_needs.specs.Worlds.{IsOrderOf}
 use Rattle.unit_read.specs.Subjects.{flag}
-use Rattle.unit_read.specs.Units.{Unit, node_at, is_among}
+use Rattle.unit_read.specs.Units.{Unit, is_among}
 use Rattle.unit_rows.specs.Cyclic.{is_cyclic, all_cyclic}
 use Rattle.unit_rows.specs.Drafts.{package_unit, with_flags}
 use Rattle.unit_rows.specs.Redeclared.{is_redeclared}

@@ -1,5 +1,5 @@
 -- Where refusals stand: in the files of the package, if their tokens do.
-use Rattle.std.proofs.Common.{◌≡◌, ℕ, zero, suc, ◌+◌, ◌<◌, ◌≤◌, ◌⊎◌, ◌&&◌, Bool, true, false, cond, if◌then◌else◌, List, [], ◌∷◌, ◌++◌, map, take, length, slice_get, slice_index_or, Option, Some, None, option_map, option_and_then, refl, sym, ap, ◌∙◌, subst, inl, inr, arith}
+use Rattle.std.proofs.Common.{◌≡◌, ℕ, zero, suc, ◌+◌, ◌≤◌, ◌⊎◌, ◌&&◌, Bool, true, false, cond, if◌then◌else◌, List, [], ◌∷◌, ◌++◌, map, take, length, slice_get, slice_index_or, Option, Some, None, option_map, option_and_then, refl, sym, ap, ◌∙◌, subst, inl, inr, arith}
 use Rattle.std.specs.List.{Contains}
 use Rattle.std.specs.Option.{option_map_or}
 use Rattle.std.proofs.lemmas.Option.{slice_get_within, slice_get-map, get_or_from_slice_get}
@@ -28,7 +28,7 @@ use Rattle.rule_words.specs.Asking.{Rule}
 use Rattle.bind.specs.Answers.{AreSpelled}
 use Rattle.check_pkg.specs.declared.refusal.Fault.{Fault}
 use Rattle.check_pkg.specs.declared.refusal.Refusal.{Refusal}
-use Rattle.check_pkg.specs.Faults.{start_of, spot, offset_of, place_of, constraint_in, constraint_offset, is_constraint, written_offset, value_in, beside, copied_offset, fault_offset, fault_place}
+use Rattle.check_pkg.specs.Faults.{start_of, offset_of, constraint_in, constraint_offset, is_constraint, written_offset, value_in, copied_offset}
 use Rattle.check_pkg.specs.Items.{IsRefusedItem}
 use Rattle.check_pkg.specs.Packages.{Package, Env, text_of, IsUnit}
 use Rattle.check_pkg.specs.Refusals.{IsRefused, HasMarks}

@@ -1,5 +1,5 @@
 -- The underlying type of `error`, as it is added to a table.
-use Rattle.std.proofs.Common.{◌≡◌, ◌<◌, ◌≤◌, false, [], ◌∷◌, codes, sym, ap, ◌∙◌, subst, arith}
+use Rattle.std.proofs.Common.{◌≡◌, ◌≤◌, false, [], ◌∷◌, codes, ap, ◌∙◌, subst, arith}
 use Rattle.gv_base.specs.declared.constant.Kind.TheVariants as k
 use Rattle.type_model.specs.declared.table.TypeTable.{TypeTable}
 use Rattle.type_model.specs.declared.table.Added.{Added}

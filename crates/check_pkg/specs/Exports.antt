@@ -1,5 +1,5 @@
 -- What a package exports, as it is listed.
-use Rattle.std.specs.Prelude.{◌≡◌, ◌⊎◌, ℕ, ◌++◌, Bool, true, List, [], ◌∷◌, Some, None, Option, slice_get}
+use Rattle.std.specs.Prelude.{◌≡◌, ◌⊎◌, ℕ, ◌++◌, true, List, [], ◌∷◌, Some, None, Option, slice_get}
 use Rattle.std.specs.List.{Contains}
 use Rattle.gv_base.specs.declared.constant.Const.{Const}
 use Rattle.gv_base.specs.declared.constant.Kind.{Kind}

@@ -10,7 +10,6 @@ use Rattle.elaborate.specs.Walks.{says_of, item_rule}
 use Rattle.check_pkg.specs.declared.refusal.Refusal.{Refusal}
 use Rattle.check_pkg.specs.Imports.{IsRefusedImport}
 use Rattle.check_pkg.specs.Items.{IsRefusedItem}
-use Rattle.check_pkg.specs.Packages.{Package, Env, IsUnit}
 
 -- each item of the package has the mark that its rule gives
 abbrev pub IsAnnotation : (Unit → Item → Rule) → Unit → (Item → Meaning) → Type 0

@@ -1,6 +1,6 @@
 //! The names of the package block.
 ghost use Rattle.std.specs.Prelude.{◌≡◌, IfOk, map};
-ghost use Rattle.unit_read.specs.Index.{texts_of, found};
+ghost use Rattle.unit_read.specs.Index.{texts_of};
 ghost use Rattle.unit_read.specs.Subjects.{unit_of, IsRead};
 ghost use Rattle.unit_read.specs.Units.{name_at};
 ghost use Rattle.check_pkg.specs.Names.{IsBlock};

@@ -1,5 +1,5 @@
 //! The names that the imports of a file declare (Go 1.17, "Import declarations").
-ghost use Rattle.std.specs.Prelude.{◌≡◌, ◌<◌, ◌++◌, ◌==◌, ◌+◌, [], ℕ, List, IfOk, OnOk, length, option_map, cond, map, drop, get_or, slice_get};
+ghost use Rattle.std.specs.Prelude.{◌≡◌, ◌<◌, ◌++◌, ◌==◌, ◌+◌, [], IfOk, OnOk, length, option_map, cond, drop, get_or, slice_get};
 ghost use Rattle.go_tree.specs.Head.{node_at, is_import};
 ghost use Rattle.bind.specs.Imports.{piece_specs, specs_in, last_segment, default_name, line_name, package_of};
 ghost use Rattle.bind.specs.Imported.{imported};

@@ -5,7 +5,7 @@ ghost use Rattle.unit_read.specs.Index.{found};
 ghost use Rattle.unit_read.specs.Subjects.{unit_of, IsRead};
 ghost use Rattle.unit_read.specs.Units.{nodes_at, tree_at};
 ghost use Rattle.check_pkg.specs.Gains.{Gains};
-ghost use Rattle.check_pkg.specs.ImportLists.{has as is_noted, Names, AreNames, AreUsed, least, IsLeast, IsFirst, is_before, RefusesIf, HasName, ComesLater, IsUnused, RefusesName, RefusesImports, RefusesAllImports};
+ghost use Rattle.check_pkg.specs.ImportLists.{has as is_noted, AreNames, AreUsed, least, IsLeast, IsFirst, is_before, RefusesIf, HasName, ComesLater, IsUnused, RefusesName, RefusesImports, RefusesAllImports};
 ghost use Rattle.check_pkg.specs.Imports.{IsDeclared, IsTaken};
 ghost use Rattle.check_pkg.specs.Names.{IsBlock};
 

@@ -1,5 +1,5 @@
 //! The order of refusals.
-ghost use Rattle.std.specs.Prelude.{◌≡◌, ℕ, ◌<◌, ◌≤◌, ◌+◌, ◌-◌, ◌*◌, ◌↔◌, ◌^◌, IfOk, OnOk, Contains, IsPermutation, length, slice_get, Some, true, false};
+ghost use Rattle.std.specs.Prelude.{◌≡◌, ◌<◌, ◌≤◌, ◌+◌, ◌-◌, ◌*◌, ◌↔◌, IfOk, OnOk, Contains, IsPermutation, length, slice_get, Some, true, false};
 ghost use Rattle.std.specs.List.Sorted.{IsNonDecreasingBy};
 ghost use Rattle.check_pkg.specs.Faults.{limit_number, fault_number, Precedes, IsOrdered};
 ghost use Rattle.check_pkg.specs.Order.{fault_numbered, rank_of, AddsLast};

@@ -3,7 +3,7 @@ ghost use Rattle.std.specs.Prelude.{◌≡◌, ◌≤◌, ◌+◌, IfOk, true, f
 ghost use Rattle.std.specs.Option.{option_map_or, option_copied};
 ghost use Rattle.const_tree.specs.Constants.{names_of, values_of};
 ghost use Rattle.object_order.specs.Spots.{place};
-ghost use Rattle.unit_read.specs.Units.{text_in, nodes_at};
+ghost use Rattle.unit_read.specs.Units.{text_in};
 ghost use Rattle.unit_read.specs.Subjects.{unit_of};
 ghost use Rattle.check_pkg.specs.Faults.{start_of, offset_of, place_of, constraint_in, constraint_offset, is_constraint_limit, is_constraint, written_offset, name_beside, value_before, value_from, value_in, beside, copied_offset, fault_offset};
 

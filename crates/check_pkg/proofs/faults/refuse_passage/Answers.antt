@@ -1,9 +1,8 @@
-use Rattle.std.proofs.Common.{◌≤◌, subst, arith}
+use Rattle.std.proofs.Common.{arith}
 use Rattle.mark_walk.specs.Asks.{filled}
 use Rattle.typed_marks.specs.Meanings.{Quiet}
 use Rattle.typed_marks.specs.States.{so_far}
 use Rattle.unit_read.specs.Subjects.{unit_of}
-use Rattle.check_pkg.specs.Faults.{value_in}
 use Rattle.check_pkg.specs.Items.{RefusesNode}
 use Rattle.check_pkg.proofs.GainLemmas.{reached_none, reached_more, reached_all}
 use Rattle.check_pkg.proofs.ValueLemmas.{value_goes_on}

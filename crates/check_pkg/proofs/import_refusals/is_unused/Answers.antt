@@ -1,7 +1,7 @@
 use Rattle.std.proofs.Common.{sym, ◌∙◌}
 use Rattle.unit_read.specs.Subjects.{unit_of}
 use Rattle.check_pkg.specs.ImportLists.{has}
-use Rattle.check_pkg.proofs.ImportLemmas.{unused_is, limited_used, none_of}
+use Rattle.check_pkg.proofs.ImportLemmas.{unused_is, none_of}
 use Rattle.check_pkg.proofs.import_refusals.is_unused.Goals as goal
 
 pub returns : goal.returns
