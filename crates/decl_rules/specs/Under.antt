@@ -56,7 +56,7 @@ written_in u file p = option_and_then (λ (node : Node). part node 1) (node_at u
 abbrev pub written_type : Unit → NodeRef → Option ℕ
 written_type u name = option_and_then (written_in u name.file) (place_at u name)
 
--- "A type .. may not contain itself": it is declared once all that it holds is. Its methods aren't told yet.
+-- it is declared once all that it holds is, so that no type holds itself; its methods aren't told yet
 abbrev pub declared_with : GoType → Rule
 declared_with under = if is_defined under then done Quiet else put (IsComparable under) (declares (record { under = under; methods = [] }))
 
