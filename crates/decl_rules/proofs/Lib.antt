@@ -1,4 +1,7 @@
 pub mod ListLemmas
 pub mod PartLemmas
 pub mod FieldLemmas
+pub mod MethodLemmas
+pub mod OrderLemmas
+pub mod JoinLemmas
 pub mod HeldLemmas

@@ -1,9 +1,11 @@
 pub mod Declarings
+pub mod Elements
 pub mod Forms
 pub mod Good
 pub mod Held
 pub mod Holdings
 pub mod Interfaces
+pub mod Joining
 pub mod Members
 pub mod Objects
 pub mod Receivers

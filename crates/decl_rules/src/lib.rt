@@ -4,13 +4,17 @@
 mod constant;
 mod copies;
 mod declared;
+mod differing;
 mod embedding;
 mod fields;
 mod forms;
 mod good;
 mod held;
+mod interfaces;
+mod joining;
 mod judges;
 mod objects;
+mod ordering;
 mod outcome;
 mod params;
 mod reads;
@@ -26,6 +30,7 @@ mod wants;
 
 pub use declared::declared_name;
 pub use embedding::judge_embedding;
+pub use joining::judge_element;
 pub use judges::judge_decl;
 pub use objects::judge_object;
 pub use outcome::Declaring;
