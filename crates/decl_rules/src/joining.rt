@@ -216,7 +216,8 @@ fn after_others(
     ensures over { IfOk result (IsStepOf s.now) }
 {
     let methods = methods_told(s, under);
-    match parts(alloc, u, s, Stage::Placed, block, reads)? {
+    let found = parts(alloc, u, s, Stage::Placed, block, reads)?;
+    match found {
         Found::Is(list) => {
             let step = joined(alloc, u, s, file, reads, m, methods, &list)?;
             Ok(step)

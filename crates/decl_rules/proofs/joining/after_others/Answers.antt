@@ -1,4 +1,4 @@
-use Rattle.std.proofs.Common.{List, map, sym, ap, ◌∙◌}
+use Rattle.std.proofs.Common.{List, sym, ap, ◌∙◌, subst}
 use Rattle.mark_walk.specs.Telling.{Says, tell}
 use Rattle.mark_walk.proofs.TellLaws.{told_bind}
 use Rattle.type_model.specs.Parts.{GoMethod}
@@ -7,13 +7,16 @@ use Rattle.typed_marks.specs.States.{so_far}
 use Rattle.unit_read.specs.Subjects.{unit_of}
 use Rattle.rule_words.specs.declared.seen.Seen.{Seen}
 use Rattle.rule_words.specs.Asking.{parts_ask}
-use Rattle.rule_words.specs.Scenes.{said, type_in, parts_in}
+use Rattle.rule_words.specs.Scenes.{said, type_in, parts_in, AreSeenOf}
 use Rattle.decl_rules.specs.Interfaces.{methods_told}
 use Rattle.decl_rules.specs.Joining.{joined}
 use Rattle.decl_rules.proofs.joining.after_others.Goals as goal
 
-pub returns-in-Is-clause-is : goal.returns-in-Is-clause-is
-returns-in-Is-clause-is c =
+pub joined-requires-clause-parts : goal.joined-requires-clause-parts
+joined-requires-clause-parts c = subst (λ (l : List Seen). AreSeenOf c.args.s.now l) (sym c.deref-in-Is.ensures.value) c.in-Is.ensures.over
+
+pub returns-in_ok-step-in-Is-clause-is : goal.returns-in_ok-step-in-Is-clause-is
+returns-in_ok-step-in-Is-clause-is c =
     let s = c.args.s.now in
     let u = unit_of c.args.u.now in
     let under = type_in s c.args.under in

@@ -8,8 +8,8 @@ use Rattle.rule_words.specs.Scenes.{said, type_in}
 use Rattle.decl_rules.specs.Joining.{elem_with}
 use Rattle.decl_rules.proofs.joining.elem_known.Goals as goal
 
-pub returns-in-Is-clause-is : goal.returns-in-Is-clause-is
-returns-in-Is-clause-is c =
+pub returns-in_ok-step-in-Is-clause-is : goal.returns-in_ok-step-in-Is-clause-is
+returns-in_ok-step-in-Is-clause-is c =
     let s = c.args.s.now in
     let u = unit_of c.args.u.now in
     c.in_ok-step-in-Is.ensures.is

@@ -1,4 +1,4 @@
-use Rattle.std.proofs.Common.{ℕ, false, Option, map, ap, ◌∙◌}
+use Rattle.std.proofs.Common.{false, Option, map, ap, ◌∙◌}
 use Rattle.std.specs.Option.{option_map_or}
 use Rattle.unit_read.specs.Subjects.{unit_of}
 use Rattle.rule_words.specs.declared.read.Read.{Read}
@@ -8,8 +8,8 @@ use Rattle.decl_rules.specs.Elements.{method_in}
 use Rattle.decl_rules.specs.Joining.{clash_at}
 use Rattle.decl_rules.proofs.joining.nth_clash.Goals as goal
 
-pub returns-in-Some : goal.returns-in-Some
-returns-in-Some c =
+pub returns-in_ok-found-in-Some : goal.returns-in_ok-found-in-Some
+returns-in_ok-found-in-Some c =
     let s = c.args.s.now in
     let u = unit_of c.args.u.now in
     let methods = map (method_in s) c.args.methods.now in

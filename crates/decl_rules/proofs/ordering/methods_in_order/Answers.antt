@@ -24,4 +24,4 @@ returns-clause-below c =
 pub returns-clause-ordered : goal.returns-clause-ordered
 returns-clause-ordered c =
     let s = c.args.s.now in
-    subst (λ (l : List Method). AreInOrder l) (sym c.in_ok-list.ensures.are) (listed_in_order s c.in_ok-names.names.entries c.listed-list.ensures.ordered c.in_ok-names.ensures.entries)
+    subst (λ (l : List Method). AreInOrder l) (sym c.in_ok-list.ensures.are) (listed_in_order s c.in_ok-names.names.entries c.listed.ensures.ordered c.in_ok-names.ensures.entries)
