@@ -68,7 +68,3 @@ all_last P (y ∷ xs) x all = all_last P xs x (All-tail P y (xs ++ x ∷ []) all
 pub all_front : {X : Type 0} (P : X → Type 0) (xs : List X) (x : X) → All P (xs ++ x ∷ []) → All P xs
 all_front P [] x all = All-nil P
 all_front P (y ∷ xs) x all = All-cons P y xs (all 0 y (omega arith)) (all_front P xs x (All-tail P y (xs ++ x ∷ []) all))
-
-pub all_more : {X : Type 0} (P : X → Type 0) (xs : List X) (x : X) → All P xs → P x → All P (xs ++ x ∷ [])
-all_more P [] x all is = All-cons P x [] is (All-nil P)
-all_more P (y ∷ xs) x all is = All-cons P y (xs ++ x ∷ []) (all 0 y (omega arith)) (all_more P xs x (All-tail P y xs all) is)

@@ -1,6 +1,7 @@
 -- Methods in code, and the types that they stand for.
-use Rattle.std.proofs.Common.{◌≡◌, ℕ, ◌<◌, ◌≤◌, List, [], ◌∷◌, map, option_map, Option, Some, None, refl, sym, ap, ◌∙◌, subst, arith}
-use Rattle.type_model.specs.declared.term.TypeId.{TypeId}
+use Rattle.std.proofs.Common.{◌≡◌, ℕ, ◌<◌, ◌≤◌, List, [], ◌∷◌, ◌++◌, map, option_map, Option, Some, None, refl, sym, ap, ◌∙◌, subst, arith}
+use Rattle.std.specs.List.{All}
+use Rattle.std.proofs.lemmas.List.Elements.{All-nil, All-cons, All-tail}
 use Rattle.type_model.specs.declared.term.Method.{Method}
 use Rattle.type_model.specs.declared.term.Signature.{Signature}
 use Rattle.type_model.specs.declared.term.Term.{Term}
@@ -33,3 +34,7 @@ signature_over u count term of over low is = signature_weaker u count of (omega 
 pub signature_shown : (s : State) (of : GoType) (term : Term) (signature : Signature) → of ≡ type_of (types_in s.table) term → term ≡ Func signature
     → Some (signature_of (types_in s.table) signature) ≡ signature_told of
 signature_shown s of term signature is term_is = sym (ap (λ (x : GoType). signature_told x) (is ∙ ap (λ (x : Term). type_of (types_in s.table) x) term_is))
+
+pub all_more : {X : Type 0} (P : X → Type 0) (xs : List X) (x : X) → All P xs → P x → All P (xs ++ x ∷ [])
+all_more P [] x all is = All-cons P x [] is (All-nil P)
+all_more P (y ∷ xs) x all is = All-cons P y (xs ++ x ∷ []) (all 0 y (omega arith)) (all_more P xs x (All-tail P y xs all) is)

@@ -2,7 +2,7 @@ use Rattle.std.proofs.Common.{List, sym, subst}
 use Rattle.type_model.specs.declared.term.Method.{Method}
 use Rattle.type_model.specs.GoTypes.{SignatureBelow, MethodsBelow}
 use Rattle.type_model.specs.Tables.{count}
-use Rattle.decl_rules.proofs.ListLemmas.{all_more}
+use Rattle.decl_rules.proofs.MethodLemmas.{all_more}
 use Rattle.decl_rules.proofs.interfaces.add_method.Goals as goal
 
 pub returns-clause-below : goal.returns-clause-below
