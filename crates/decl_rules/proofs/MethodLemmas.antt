@@ -6,7 +6,7 @@ use Rattle.type_model.specs.declared.term.Method.{Method}
 use Rattle.type_model.specs.declared.term.Signature.{Signature}
 use Rattle.type_model.specs.declared.term.Term.{Term}
 use Rattle.type_model.specs.declared.term.Term.TheVariants.{Func, Interface}
-use Rattle.type_model.specs.GoTypes.{GoType, GoMethods, GoSignature, AndMethod, FuncOf, InterfaceOf, type_of, signature_of, methods_of, IsOver, AreBelow, SignatureBelow}
+use Rattle.type_model.specs.GoTypes.{GoType, GoMethods, GoSignature, AndMethod, FuncOf, InterfaceOf, type_of, signature_of, methods_of, IsOver, SignatureBelow}
 use Rattle.type_model.specs.Parts.{GoMethod, method_list}
 use Rattle.type_model.specs.Tables.{types_in}
 use Rattle.method_sets.proofs.Shows.{methods_listed, interface_shown}
