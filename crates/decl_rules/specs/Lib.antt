@@ -1,6 +1,8 @@
+pub mod Elements
 pub mod Forms
 pub mod Good
 pub mod Interfaces
+pub mod Joining
 pub mod Members
 pub mod Objects
 pub mod Receivers

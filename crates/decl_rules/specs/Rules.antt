@@ -33,6 +33,7 @@ use Rattle.decl_rules.specs.Signatures.{signature_rule}
 use Rattle.decl_rules.specs.Receivers.{list_rule}
 use Rattle.decl_rules.specs.Specifications.{is_fit, const_rule, var_rule, member_rule}
 use Rattle.decl_rules.specs.Structs.{field_rule, struct_rule}
+use Rattle.decl_rules.specs.Interfaces.{interface_rule}
 
 -- ---- how parts are read
 
@@ -87,11 +88,10 @@ signed_rule u block at node signed.FuncDecl = signature_rule u block (nodes_at u
 signed_rule u block at node signed.MethodDecl = signature_rule u block (nodes_at u at.file) node 2
 signed_rule u block at node signed.Method = method_rule u block at node
 
--- nothing is said yet of interface types
 abbrev pub listed_rule : Unit → NodeRef → Node → List Part → Listed → Rule
 listed_rule u at node ps listed.Params = list_rule u at node ps
 listed_rule u at node ps listed.Struct = struct_rule u at.file node ps
-listed_rule u at node ps listed.Interface = done Quiet
+listed_rule u at node ps listed.Interface = interface_rule u at.file node ps
 
 -- ---- declarations
 

@@ -21,7 +21,7 @@ use type_questions::Found;
 use typed_marks::{Facts, Mark, State};
 use unit_read::Subject;
 
-fn is_interface(s: &State, of: TypeId) -> bool
+pub fn is_interface(s: &State, of: TypeId) -> bool
     requires table { IsTable s.now.table }
     requires within { IsTypeOf s.now of }
     ensures { result ≡ is_interface (type_in s.now of) }
@@ -40,7 +40,8 @@ fn is_interface(s: &State, of: TypeId) -> bool
     }
 }
 
-fn stays(m: Mark) -> Step
+/// What isn't refused stays as it is.
+pub fn stays(m: Mark) -> Step
     ensures { result ≡ step.Says (answer.Mark m) }
 {
     Step::Says(Answer::Mark(m))

@@ -18,6 +18,7 @@ use crate::forms::{
     simple_form,
 };
 use crate::good::{beyond, broken, part_at, silent};
+use crate::interfaces::interface;
 use crate::receivers::list;
 use crate::rules::DUPLICATE_MEMBER;
 use crate::signatures::judge_signature;
@@ -182,7 +183,10 @@ fn of_listed(
             let step = structure(alloc, u, s, at.file, node, parts)?;
             Ok(step)
         }
-        Listed::Interface => Ok(silent()),
+        Listed::Interface => {
+            let step = interface(alloc, u, s, at.file, node, parts)?;
+            Ok(step)
+        }
     }
 }
 

@@ -4,12 +4,16 @@
 mod constant;
 mod copies;
 mod declared;
+mod differing;
 mod embedding;
 mod fields;
 mod forms;
 mod good;
+mod interfaces;
+mod joining;
 mod judges;
 mod objects;
+mod ordering;
 mod params;
 mod reads;
 mod receivers;
@@ -24,6 +28,7 @@ mod wants;
 
 pub use declared::declared_name;
 pub use embedding::judge_embedding;
+pub use joining::judge_element;
 pub use judges::judge_decl;
 pub use objects::judge_object;
 pub use reads::decl_reads;
