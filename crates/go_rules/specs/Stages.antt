@@ -17,7 +17,7 @@ use Rattle.rule_words.specs.Asking.{Asks, Rule, mark_ask, parts_ask}
 use Rattle.rule_words.specs.Parts.{Part}
 use Rattle.rule_words.specs.Words.{Wanted, wanted_in}
 use Rattle.op_rules.specs.Placed.{placed_rule}
-use Rattle.decl_rules.specs.Interfaces.{embedding_rule}
+use Rattle.decl_rules.specs.Joining.{element_rule}
 use Rattle.decl_rules.specs.Objects.{object_rule}
 use Rattle.decl_rules.specs.Specifications.{declared_name_rule}
 use Rattle.decl_rules.specs.Under.{under_rule}
@@ -89,19 +89,25 @@ placed_after u block at j = bind (mark_ask u s.Wanted block at.node) (placed_wit
 abbrev pub placed_in : Unit → ℕ → NodeRef → Rule
 placed_in u block at = bind (mark_ask u s.Judged block at.node) (placed_after u block at)
 
--- An interface embeds types, E10; and of these interfaces alone, E15.
+-- An interface embeds types, E10; of these interfaces alone, E15, whose methods agree with those of its other elements, E14.
 abbrev pub type_wanted : Wanted
 type_wanted = record { demand = demand.Type; wish = Free }
 
-abbrev pub embedded_after : Unit → Meaning → Rule
-embedded_after u j = bind (placed_rule u type_wanted j) (embedding_rule u)
+abbrev pub embedded_after : Unit → ℕ → NodeRef → Place → Node → Meaning → Rule
+embedded_after u block at p around j = bind (placed_rule u type_wanted j) (element_rule u block at.file around p.slot)
 
-abbrev pub embedded_in : Unit → ℕ → NodeRef → Rule
-embedded_in u block at = bind (mark_ask u s.Judged block at.node) (embedded_after u)
+abbrev pub embedded_in : Unit → ℕ → NodeRef → Place → Node → Rule
+embedded_in u block at p around = bind (mark_ask u s.Judged block at.node) (embedded_after u block at p around)
+
+abbrev pub embedded_by : Unit → ℕ → NodeRef → Place → Rule
+embedded_by u block at p = option_map_or (embedded_in u block at p) (node_at u (place at.file p.around)) (done Quiet)
+
+abbrev pub embedded_at : Unit → ℕ → NodeRef → Rule
+embedded_at u block at = option_map_or (embedded_by u block at) (place_at u at) (done Quiet)
 
 abbrev pub placed_as : Role → Unit → ℕ → NodeRef → Rule
 placed_as r.Part u block at = placed_in u block at
-placed_as r.Embedded u block at = embedded_in u block at
+placed_as r.Embedded u block at = embedded_at u block at
 placed_as r.Declared u block at = placed_in u block at
 placed_as r.Untold u block at = placed_in u block at
 

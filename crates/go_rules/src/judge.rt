@@ -72,7 +72,10 @@ fn judge_stage(
             let step = judged(alloc, u, s, role, block, at, node)?;
             Ok(step)
         }
-        Stage::Placed => Ok(placed(u, s, role, block, at)),
+        Stage::Placed => {
+            let step = placed(alloc, u, s, role, block, at)?;
+            Ok(step)
+        }
         Stage::Object => {
             let step = object(alloc, u, s, block, at)?;
             Ok(step)
