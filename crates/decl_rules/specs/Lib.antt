@@ -1,6 +1,7 @@
 pub mod Forms
 pub mod Good
 pub mod Interfaces
+pub mod Late
 pub mod Members
 pub mod Objects
 pub mod Receivers

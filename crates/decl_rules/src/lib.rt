@@ -8,6 +8,7 @@ mod embedding;
 mod fields;
 mod forms;
 mod good;
+mod late;
 mod objects;
 mod params;
 mod reads;
