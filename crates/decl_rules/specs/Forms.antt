@@ -73,7 +73,7 @@ line_form k.Import = Some line.Plain
 line_form k.ImportGroup = Some line.Plain
 line_form _ = None
 
--- what the object of a name is, by what stands around the name
+-- what is said beside the mark of a node, by what stands around it: what the object of a name is, or what is tested late
 abbrev pub named_form : NodeKind → Option Named
 named_form k.ConstNames = Some named.Constant
 named_form k.ConstValues = Some named.Constant
@@ -87,6 +87,8 @@ named_form k.FuncDecl = Some named.Function
 named_form k.MethodDecl = Some named.Function
 named_form k.Defined = Some named.Defined
 named_form k.Alias = Some named.Alias
+named_form k.MapType = Some named.Map
+named_form k.StructType = Some named.Struct
 named_form _ = None
 
 -- what wants a value, by what stands around it

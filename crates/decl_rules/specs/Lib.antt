@@ -3,6 +3,7 @@ pub mod Forms
 pub mod Good
 pub mod Interfaces
 pub mod Joining
+pub mod Late
 pub mod Members
 pub mod Objects
 pub mod Receivers

@@ -30,6 +30,7 @@ use Rattle.decl_rules.specs.declared.forms.Named.{Named}
 use Rattle.decl_rules.specs.declared.forms.Named.TheVariants as named
 use Rattle.decl_rules.specs.Forms.{named_form}
 use Rattle.decl_rules.specs.Good.{given}
+use Rattle.decl_rules.specs.Late.{map_part, member_part}
 use Rattle.decl_rules.specs.Types.{gives_type}
 use Rattle.decl_rules.specs.Signatures.{results_node}
 
@@ -124,6 +125,8 @@ form_rule u name p node named.Param = placed_ask u name.file (Some p.around) var
 form_rule u name p node named.Function = placed_ask u name.file (Some p.around) function_mark
 form_rule u name p node named.Defined = defined_rule u name
 form_rule u name p node named.Alias = placed_ask u name.file (part node 1) alias_mark
+form_rule u name p node named.Map = map_part u name p
+form_rule u name p node named.Struct = member_part u name
 
 abbrev pub kind_rule : Unit → NodeRef → Place → Node → Rule
 kind_rule u name p node = option_map_or (form_rule u name p node) (named_form node.kind) (done Quiet)

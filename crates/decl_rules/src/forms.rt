@@ -70,6 +70,10 @@ pub enum Named {
     Function,
     Defined,
     Alias,
+    /// A map type. What stands in it declares nothing, and is tested late.
+    Map,
+    /// A struct type, the same.
+    Struct,
 }
 
 /// Around a value: what wants it.
@@ -180,6 +184,8 @@ pub fn named_form(kind: NodeKind) -> Option<Named>
         NodeKind::MethodDecl => Some(Named::Function),
         NodeKind::Defined => Some(Named::Defined),
         NodeKind::Alias => Some(Named::Alias),
+        NodeKind::MapType => Some(Named::Map),
+        NodeKind::StructType => Some(Named::Struct),
         _ => None,
     }
 }

@@ -12,6 +12,7 @@ mod good;
 mod interfaces;
 mod joining;
 mod judges;
+mod late;
 mod objects;
 mod ordering;
 mod params;

@@ -11,6 +11,7 @@ ghost use Rattle.decl_rules.specs.Objects.{variable_mark, function_mark, valued_
 use crate::constant::judge_constant;
 use crate::forms::{Named, named_form};
 use crate::good::{broken, gives_type, good, known, silent};
+use crate::late::{map_part, member_part};
 use crate::refusal::{is_exempt, refusal_of};
 use go_tree::{Node, NodeRef};
 use gv_base::{NoMemory, Text};
@@ -242,6 +243,8 @@ fn judge_form(
             Ok(step)
         }
         Named::Alias => Ok(alias_at(u, s, file, part_of(node, 1))),
+        Named::Map => Ok(map_part(u, s, name, p)),
+        Named::Struct => Ok(member_part(u, s, name)),
     }
 }
 

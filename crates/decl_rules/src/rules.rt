@@ -4,6 +4,12 @@ use typed_tree::Rule;
 /// E11 bad array length
 pub(crate) const BAD_ARRAY_LENGTH: Rule = Rule(11);
 
+/// E12 bad map key
+pub(crate) const BAD_MAP_KEY: Rule = Rule(12);
+
+/// E13 bad embedded type
+pub(crate) const BAD_EMBEDDED_TYPE: Rule = Rule(13);
+
 /// E14 duplicate field or method
 pub(crate) const DUPLICATE_MEMBER: Rule = Rule(14);
 
