@@ -1,5 +1,5 @@
 -- Lists of fields.
-use Rattle.std.proofs.Common.{◌≡◌, ℕ, ◌+◌, suc, Bool, ◌||◌, List, [], ◌∷◌, map, slice_get, Option, refl, ap, ◌∙◌, arith}
+use Rattle.std.proofs.Common.{◌≡◌, ℕ, ◌+◌, suc, Bool, ◌||◌, List, [], ◌∷◌, map, slice_get, refl, ap, ◌∙◌, arith}
 use Rattle.type_model.specs.declared.term.Field.{Field}
 use Rattle.type_model.specs.GoTypes.{AndField, type_at, fields_of}
 use Rattle.type_model.specs.Tables.{types_in}

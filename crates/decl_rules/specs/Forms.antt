@@ -1,6 +1,6 @@
 -- What nodes are to the rules of type expressions and declarations. Each kind stands in one clause at most, so that all else is by cases over
 -- these few.
-use Rattle.std.specs.Prelude.{ℕ, Option, Some, None}
+use Rattle.std.specs.Prelude.{Option, Some, None}
 use Rattle.go_tree.specs.declared.tree.NodeKind.{NodeKind}
 use Rattle.go_tree.specs.declared.tree.NodeKind.TheVariants as k
 use Rattle.type_model.specs.declared.term.Dir.TheVariants.{Both, Send, Receive}

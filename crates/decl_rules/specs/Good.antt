@@ -1,14 +1,11 @@
 -- Good parts.
-use Rattle.std.specs.Prelude.{◌≡◌, ℕ, length, Bool, true, false, ◌&&◌, List, [], ◌∷◌, Option, Some, None, option_map}
+use Rattle.std.specs.Prelude.{length, Option, Some, None}
 use Rattle.std.specs.Option.{option_map_or}
-use Rattle.gv_base.specs.declared.constant.Kind.TheVariants as kind
-use Rattle.type_model.specs.GoTypes.{GoType, BasicType}
 use Rattle.type_model.specs.Tables.{types_in, count}
 use Rattle.mark_walk.specs.Asks.{done}
 use Rattle.typed_marks.specs.declared.mark.Facts.{Facts}
 use Rattle.typed_marks.specs.declared.state.State.{State}
 use Rattle.typed_marks.specs.Meanings.{Known, Meaning, Right, Wrong, Beyond, Quiet, Wishes, Declares, known_in, AreWithin}
-use Rattle.rule_words.specs.Parts.{Part}
 use Rattle.rule_words.specs.Asking.{Rule}
 
 -- what is known of what is good

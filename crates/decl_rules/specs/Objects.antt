@@ -1,5 +1,5 @@
 -- The mark of an object, by where its name stands (Go 1.17, "Declarations and scope").
-use Rattle.std.specs.Prelude.{ℕ, ◌==◌, ◌&&◌, ◌||◌, Bool, true, false, not, if◌then◌else◌, List, [], length, codes, Option, Some, None, slice_get, option_and_then}
+use Rattle.std.specs.Prelude.{ℕ, ◌==◌, ◌&&◌, ◌||◌, Bool, true, false, not, if◌then◌else◌, List, length, codes, Option, Some, None, slice_get, option_and_then}
 use Rattle.std.specs.Option.{option_map_or}
 use Rattle.std.specs.Str.{bytes_eq}
 use Rattle.go_tree.specs.declared.tree.Node.{Node}
@@ -24,7 +24,6 @@ use Rattle.unit_read.specs.Units.{copy_at}
 use Rattle.rule_words.specs.declared.read.How.TheVariants as h
 use Rattle.rule_words.specs.Parts.{Part, read_as}
 use Rattle.rule_words.specs.Asking.{Rule, mark_ask, part_ask}
-use Rattle.rule_words.specs.Answers.{typed}
 use Rattle.rule_words.specs.Words.{need_type}
 use Rattle.decl_rules.specs.declared.forms.Named.{Named}
 use Rattle.decl_rules.specs.declared.forms.Named.TheVariants as named

@@ -1,5 +1,5 @@
 -- Lists of parameters, and receivers (Go 1.17, "Method declarations").
-use Rattle.std.specs.Prelude.{ℕ, ◌==◌, ◌&&◌, not, Bool, true, false, if◌then◌else◌, bytes_eq, List, length, Option, Some, None}
+use Rattle.std.specs.Prelude.{◌==◌, ◌&&◌, Bool, true, false, if◌then◌else◌, bytes_eq, List, length, Option}
 use Rattle.std.specs.Option.{option_map_or}
 use Rattle.go_tree.specs.declared.tree.Node.{Node}
 use Rattle.go_tree.specs.declared.tree.NodeKind.{NodeKind}
@@ -7,8 +7,8 @@ use Rattle.go_tree.specs.declared.tree.NodeKind.TheVariants as k
 use Rattle.go_tree.specs.declared.tree.NodeRef.{NodeRef}
 use Rattle.package_objects.specs.Declares.{part, kind_at}
 use Rattle.type_model.specs.GoTypes.{GoType, BasicType, DefinedType, PointerTo, SliceOf, ArrayOf, MapOf, ChanOf, FuncOf, StructOf, InterfaceOf}
-use Rattle.mark_walk.specs.Asks.{done, bind}
-use Rattle.typed_marks.specs.Meanings.{Known, Meaning, Quiet}
+use Rattle.mark_walk.specs.Asks.{bind}
+use Rattle.typed_marks.specs.Meanings.{Known}
 use Rattle.unit_read.specs.declared.place.Place.{Place}
 use Rattle.unit_read.specs.Units.{Unit, nodes_at, place_at}
 use Rattle.rule_words.specs.Asking.{Rule, under_ask}

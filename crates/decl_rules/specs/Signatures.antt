@@ -1,5 +1,5 @@
 -- Signatures (Go 1.17, "Function types").
-use Rattle.std.specs.Prelude.{ℕ, zero, suc, ◌+◌, ◌-◌, ◌&&◌, Bool, true, false, if◌then◌else◌, List, [], ◌∷◌, length, Option, Some, None, option_map, option_and_then, slice_get}
+use Rattle.std.specs.Prelude.{ℕ, zero, suc, ◌+◌, ◌-◌, ◌&&◌, Bool, true, false, if◌then◌else◌, List, [], ◌∷◌, length, Option, Some, None, option_and_then, slice_get}
 use Rattle.std.specs.Option.{option_map_or}
 use Rattle.go_tree.specs.declared.tree.Node.{Node}
 use Rattle.go_tree.specs.declared.tree.NodeKind.{NodeKind}

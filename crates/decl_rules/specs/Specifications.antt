@@ -1,5 +1,5 @@
 -- Specifications and names that are declared (Go 1.17, "Constant declarations", "Variable declarations", "Struct types", "Interface types").
-use Rattle.std.specs.Prelude.{ℕ, ◌==◌, ◌&&◌, Bool, true, false, not, if◌then◌else◌, List, length, Option, Some, None, slice_get, option_and_then}
+use Rattle.std.specs.Prelude.{ℕ, ◌==◌, Bool, true, false, not, if◌then◌else◌, List, length, Option}
 use Rattle.std.specs.Option.{option_map_or}
 use Rattle.go_tree.specs.declared.tree.Node.{Node}
 use Rattle.go_tree.specs.declared.tree.NodeKind.{NodeKind}
@@ -7,14 +7,13 @@ use Rattle.go_tree.specs.declared.tree.NodeKind.TheVariants as k
 use Rattle.go_tree.specs.declared.tree.NodeRef.{NodeRef}
 use Rattle.const_tree.specs.declared.constant.Spec.{Spec}
 use Rattle.const_tree.specs.Constants.{names_of, values_of}
-use Rattle.package_objects.specs.Declares.{items, part, kind_at}
+use Rattle.package_objects.specs.Declares.{items, kind_at}
 use Rattle.type_model.specs.GoTypes.{GoType}
 use Rattle.mark_walk.specs.Asks.{done}
 use Rattle.typed_tree.specs.Declarations.{has_constants}
-use Rattle.typed_marks.specs.Meanings.{Meaning, Right, Wrong, Quiet}
+use Rattle.typed_marks.specs.Meanings.{Meaning, Wrong, Quiet}
 use Rattle.unit_read.specs.Units.{Unit, nodes_at, spec_at}
 use Rattle.unit_read.specs.Members.{is_repeat}
-use Rattle.rule_words.specs.Parts.{Part}
 use Rattle.rule_words.specs.Asking.{Rule}
 use Rattle.rule_words.specs.Words.{test, nothing}
 use Rattle.decl_rules.specs.declared.rules.TheConstants.{DUPLICATE_MEMBER, BAD_CONSTANT_TYPE, WRONG_NUMBER_OF_VALUES}

@@ -1,5 +1,5 @@
 -- Type expressions (Go 1.17, "Types").
-use Rattle.std.specs.Prelude.{ℕ, ◌+◌, ◌-◌, ◌^◌, nat_le, Bool, true, false, if◌then◌else◌, Option, Some, None, option_and_then, pos, negsuc}
+use Rattle.std.specs.Prelude.{ℕ, nat_le, if◌then◌else◌, Option, Some, None, option_and_then, pos, negsuc}
 use Rattle.std.specs.Option.{option_map_or}
 use Rattle.gv_base.specs.declared.constant.Const.{Const}
 use Rattle.gv_base.specs.declared.constant.Const.TheVariants as const

@@ -10,7 +10,7 @@ ghost use Rattle.typed_tree.specs.Basics.{HasBasics};
 ghost use Rattle.unit_read.specs.Subjects.{unit_of, IsRead};
 ghost use Rattle.rule_words.specs.Scenes.{type_in, IsTypeOf, MayBeTypeOf};
 ghost use Rattle.rule_words.specs.Steps.{step_in, IsStepOf};
-ghost use Rattle.decl_rules.specs.Specifications.{is_fit, counted_rule, const_rule, may_be_several, is_several, differing, var_rule, member_rule, declared_name_rule};
+ghost use Rattle.decl_rules.specs.Specifications.{is_fit, counted_rule, const_rule, may_be_several, is_several, differing, var_rule, declared_name_rule};
 
 use crate::good::{basic_type, broken, good, silent};
 use crate::rules::{BAD_CONSTANT_TYPE, DUPLICATE_MEMBER, WRONG_NUMBER_OF_VALUES};

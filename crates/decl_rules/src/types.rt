@@ -1,5 +1,5 @@
 //! Type expressions (Go 1.17, "Types").
-ghost use Rattle.std.specs.Prelude.{◌≡◌, option_map};
+ghost use Rattle.std.specs.Prelude.{◌≡◌};
 ghost use Rattle.mark_walk.specs.Telling.{tell};
 ghost use Rattle.typed_marks.specs.Meanings.{constant_at};
 ghost use Rattle.typed_marks.specs.States.{so_far};
