@@ -14,3 +14,4 @@ pub mod PackageLemmas
 pub mod ReadLemmas
 pub mod StandLemmas
 pub mod Uniqueness
+pub mod OneUnit

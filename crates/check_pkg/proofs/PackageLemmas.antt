@@ -108,7 +108,7 @@ is_outcome rule path files trees env named uses outcome known ordered bound by =
     };
     env = by.is.env;
     redeclared = by.is.redeclared;
-    cyclic = by.is.cyclic;
+    needs = by.is.needs;
   };
   comes = by.comes;
 }

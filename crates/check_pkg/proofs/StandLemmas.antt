@@ -28,7 +28,7 @@ use Rattle.rule_words.specs.Asking.{Rule}
 use Rattle.bind.specs.Answers.{AreSpelled}
 use Rattle.check_pkg.specs.declared.refusal.Fault.{Fault}
 use Rattle.check_pkg.specs.declared.refusal.Refusal.{Refusal}
-use Rattle.check_pkg.specs.Faults.{start_of, offset_of, constraint_in, constraint_offset, is_constraint, written_offset, value_in, copied_offset}
+use Rattle.check_pkg.specs.Faults.{start_of, offset_of, constraint_in, constraint_offset, is_constraint, bearer, written_offset, value_in, copied_offset}
 use Rattle.check_pkg.specs.Items.{IsRefusedItem}
 use Rattle.check_pkg.specs.Packages.{Package, Env, text_of, IsUnit}
 use Rattle.check_pkg.specs.Refusals.{IsRefused, HasMarks}
@@ -105,15 +105,15 @@ constraint_lies p env u f tree file is read found =
     subst (λ (o : Option FileTree). option_map_or (constraint_in (text_in u f)) o 0 ≤ length file.1) (sym here)
     (subst (λ (text : List ℕ). constraint_in text tree ≤ length file.1) (sym (text_is p env u f file is found)) (constraint_within file.1 tree))
 
-written_low : (u : Unit) (at : NodeRef) (fault : Fault) (size : ℕ) → offset_of u at ≤ size → constraint_offset u at.file ≤ size → written_offset u at fault ≤ size
+written_low : (u : Unit) (at : NodeRef) (fault : Fault) (size : ℕ) → offset_of u (place at.file (bearer u at.file at.node fault)) ≤ size → constraint_offset u at.file ≤ size → written_offset u at fault ≤ size
 written_low u at fault size node constraint = by (is_constraint fault) where
-  by : (b : Bool) → (if b then constraint_offset u at.file else offset_of u at) ≤ size
+  by : (b : Bool) → (if b then constraint_offset u at.file else offset_of u (place at.file (bearer u at.file at.node fault))) ≤ size
   by true = constraint
   by false = node
 
 fault_low : (u : Unit) (f n value : ℕ) (o : Option Spec) (fault : Fault) (size : ℕ) → ((m : ℕ) → offset_of u (place f m) ≤ size) → constraint_offset u f ≤ size
     → option_map_or (copied_offset u f value) o (written_offset u (place f n) fault) ≤ size
-fault_low u f n value None fault size nodes constraint = written_low u (place f n) fault size (nodes n) constraint
+fault_low u f n value None fault size nodes constraint = written_low u (place f n) fault size (nodes _) constraint
 fault_low u f n value (Some spec) fault size nodes constraint = nodes _
 
 -- ---- passages

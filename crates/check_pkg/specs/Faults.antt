@@ -1,15 +1,19 @@
 -- Faults, where they stand, and their order.
-use Rattle.std.specs.Prelude.{◌≡◌, ℕ, suc, ◌+◌, ◌<◌, ◌⊎◌, Bool, true, false, nat_le, if◌then◌else◌, List, [], ◌∷◌, Option, Some, None, slice_get}
+use Rattle.std.specs.Prelude.{◌≡◌, ℕ, suc, ◌+◌, ◌<◌, ◌⊎◌, Bool, true, false, nat_le, ◌==◌, if◌then◌else◌, List, [], ◌∷◌, Option, Some, None, slice_get}
 use Rattle.std.specs.Option.{option_map_or}
 use Rattle.gv_base.specs.declared.place.Place.{Place}
 use Rattle.go_tree.specs.Head.{head_of}
 use Rattle.go_tree.specs.declared.token.Token.{Token}
 use Rattle.go_tree.specs.declared.tree.FileTree.{FileTree}
 use Rattle.go_tree.specs.declared.tree.Node.{Node}
+use Rattle.go_tree.specs.declared.tree.NodeKind.{NodeKind}
+use Rattle.go_tree.specs.declared.tree.NodeKind.TheVariants as k
 use Rattle.go_tree.specs.declared.tree.NodeRef.{NodeRef}
 use Rattle.object_order.specs.Spots.{place}
+use Rattle.package_objects.specs.Declares.{part}
 use Rattle.const_tree.specs.declared.constant.Spec.{Spec}
 use Rattle.const_tree.specs.Constants.{names_of, values_of}
+use Rattle.typed_tree.specs.declared.rule.TheConstants.{BAD_RECEIVER, DUPLICATE_MEMBER}
 use Rattle.typed_tree.specs.declared.rule.Limit.{Limit}
 use Rattle.typed_tree.specs.declared.rule.Limit.TheVariants as l
 use Rattle.typed_marks.specs.Meanings.{Meaning, Right, Wrong, Beyond, Quiet, Wishes, Declares}
@@ -76,9 +80,38 @@ abbrev pub is_constraint : Fault → Bool
 is_constraint (LimitFault limit) = is_constraint_limit limit
 is_constraint (RuleFault rule) = false
 
--- the first token of what is written, but for a build constraint, which has a place of its own
+-- ---- what bears a fault
+
+-- the type of a parameter with a name, or what stands for one without
+abbrev pub entry_type : NodeKind → Node → ℕ → ℕ
+entry_type k.Param node n = option_map_or (λ (t : ℕ). t) (part node 1) n
+entry_type k.SpreadParam node n = option_map_or (λ (t : ℕ). t) (part node 1) n
+entry_type _ node n = n
+
+abbrev pub type_in : List Node → ℕ → ℕ
+type_in nodes n = option_map_or (λ (node : Node). entry_type node.kind node n) (slice_get nodes n) n
+
+-- of a receiver's list the type of its first parameter, or the list where it has none
+abbrev pub first_type : List Node → Node → ℕ → ℕ
+first_type nodes node n = option_map_or (type_in nodes) (part node 0) n
+
+-- of an embedded pointer the name behind the `*`
+abbrev pub embedded_name : NodeKind → Node → ℕ → ℕ
+embedded_name k.EmbeddedPointer node n = option_map_or (λ (t : ℕ). t) (part node 0) n
+embedded_name _ node n = n
+
+-- E16 is borne by the type of a receiver, and E14 by the name of what is embedded
+abbrev pub bearer_by : List Node → Node → ℕ → Fault → ℕ
+bearer_by nodes node n (RuleFault rule) =
+    if rule.0 == BAD_RECEIVER.0 then first_type nodes node n else (if rule.0 == DUPLICATE_MEMBER.0 then embedded_name node.kind node n else n)
+bearer_by nodes node n (LimitFault limit) = n
+
+abbrev pub bearer : Unit → ℕ → ℕ → Fault → ℕ
+bearer u f n fault = option_map_or (λ (node : Node). bearer_by (nodes_at u f) node n fault) (slice_get (nodes_at u f) n) n
+
+-- the first token of what bears the fault, but for a build constraint, which has a place of its own
 abbrev pub written_offset : Unit → NodeRef → Fault → ℕ
-written_offset u at fault = if is_constraint fault then constraint_offset u at.file else offset_of u at
+written_offset u at fault = if is_constraint fault then constraint_offset u at.file else offset_of u (place at.file (bearer u at.file at.node fault))
 
 -- What is copied has the place of the specification's name beside its value, or of its first name where there is none.
 abbrev pub name_beside : List ℕ → ℕ → ℕ

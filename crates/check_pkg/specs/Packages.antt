@@ -2,6 +2,7 @@
 use Rattle.std.specs.Prelude.{◌≡◌, ◌↔◌, ℕ, IsTrue, false, List, map, Option, Some, None}
 use Rattle.std.specs.Global.{Vec}
 use Rattle.go_tree.specs.Bindings.{AreInOrder}
+use Rattle.go_tree.specs.Names.{spelled_at}
 use Rattle.go_tree.specs.declared.tree.FileTree.{FileTree}
 use Rattle.go_tree.specs.declared.tree.Node.{Node}
 use Rattle.go_tree.specs.declared.tree.NodeRef.{NodeRef}
@@ -12,6 +13,7 @@ use Rattle.object_order.specs.Names.{IsNamed}
 use Rattle.object_order.specs.Paths.{Leads}
 use Rattle.object_order.specs.Spots.{World}
 use Rattle.package_objects.specs.Declares.{declared}
+use Rattle.package_needs.specs.Kin.{IsOwnerAt}
 use Rattle.package_needs.specs.Worlds.{IsPackage}
 use Rattle.bind.specs.Denoting.{AreBindings}
 use Rattle.bind.specs.Sources.{Sources, AreFiles}
@@ -34,6 +36,10 @@ text_of file = file.1
 abbrev pub texts_in : Package → List (List ℕ)
 texts_in p = map text_of p.files
 
+-- its name: that in the package clause of its first file
+abbrev pub package_name : Package → List ℕ
+package_name p = spelled_at (record { texts = texts_in p; trees = p.trees }) 0 0
+
 -- the interfaces of the packages to which imports may lead
 abbrev pub Env : Type 0
 Env = List ConstInterface
@@ -47,17 +53,19 @@ pub record AreUses (p : Package) (env : Env) (uses : List (NodeRef × Object)) :
   pub ordered : AreInOrder uses
   pub bound : (s : Sources) → s.named ≡ known_of env → AreFiles p.trees p.files s.files → AreBindings s uses
 
--- The cyclic nodes are the declared names whose needs lead back to them.
-pub record AreCyclic (u : Unit) : Type 0 where
+-- The cyclic nodes are the declared names whose needs lead back to them; and the nodes that declare methods are known with their types.
+pub record AreNeeds (u : Unit) : Type 0 where
   pub rows : List (Vec (Option NodeRef))
   pub names : World
   pub world : World
   pub «is» : IsPackage u.uses u.trees rows names world
   pub each : (at : NodeRef) (node : Node) → node_at u at ≡ Some node → IsTrue (u.cyclic at) ↔ (IsNamed (declared u.trees rows) at × Leads (NeedsOf world) at at)
   pub others : (at : NodeRef) → node_at u at ≡ None → u.cyclic at ≡ false
+  pub owned : (at : NodeRef) (node : Node) → node_at u at ≡ Some node → IsOwnerAt names at (u.owner at)
+  pub unowned : (at : NodeRef) → node_at u at ≡ None → u.owner at ≡ None
 
 -- What is judged: the package with what its uses denote, over this environment, and with which of its names are declared before in the
--- package block, and which need themselves.
+-- package block, which need themselves, and whose methods it declares.
 pub record IsUnit (p : Package) (interfaces : Env) (u : Unit) : Type 0 where
   pub path : u.path ≡ p.path
   pub texts : u.texts ≡ texts_in p
@@ -65,4 +73,4 @@ pub record IsUnit (p : Package) (interfaces : Env) (u : Unit) : Type 0 where
   pub uses : AreUses p interfaces u.uses
   pub env : u.env ≡ interfaces
   pub redeclared : (at : NodeRef) → u.redeclared at ≡ is_redeclared u at
-  pub cyclic : AreCyclic u
+  pub needs : AreNeeds u

@@ -6,7 +6,7 @@ use Rattle.go_tree.specs.declared.tree.NodeRef.{NodeRef}
 use Rattle.export_data.specs.declared.constants.ConstInterface.{ConstInterface}
 use Rattle.unit_read.specs.Units.{Unit}
 use Rattle.unit_rows.specs.Redeclared.{is_redeclared}
-use Rattle.check_pkg.specs.Packages.{AreCyclic}
+use Rattle.check_pkg.specs.Packages.{AreNeeds}
 
 -- the unit is that of this path, these texts, trees, uses and interfaces, with its flags
 pub record IsUnitOf (name : List ℕ) (sources : List (List ℕ)) (files : List FileTree) (bindings : List (NodeRef × Object)) (interfaces : List ConstInterface) (u : Unit) : Type 0 where
@@ -16,4 +16,4 @@ pub record IsUnitOf (name : List ℕ) (sources : List (List ℕ)) (files : List 
   pub uses : u.uses ≡ bindings
   pub env : u.env ≡ interfaces
   pub redeclared : (at : NodeRef) → u.redeclared at ≡ is_redeclared u at
-  pub cyclic : AreCyclic u
+  pub needs : AreNeeds u

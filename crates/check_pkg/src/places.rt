@@ -5,14 +5,16 @@ ghost use Rattle.const_tree.specs.Constants.{names_of, values_of};
 ghost use Rattle.object_order.specs.Spots.{place};
 ghost use Rattle.unit_read.specs.Units.{text_in};
 ghost use Rattle.unit_read.specs.Subjects.{unit_of};
-ghost use Rattle.check_pkg.specs.Faults.{start_of, offset_of, place_of, constraint_in, constraint_offset, is_constraint_limit, is_constraint, written_offset, name_beside, value_before, value_from, value_in, beside, copied_offset, fault_offset};
+ghost use Rattle.check_pkg.specs.declared.refusal.Fault.TheVariants.{Rule as RuleFault};
+ghost use Rattle.check_pkg.specs.Faults.{start_of, offset_of, place_of, constraint_in, constraint_offset, is_constraint_limit, is_constraint, entry_type, type_in, first_type, embedded_name, bearer_by, bearer, written_offset, name_beside, value_before, value_from, value_in, beside, copied_offset, fault_offset};
 
 use crate::refusal::Fault;
 use const_tree::{Spec, name_at, value_at, value_count};
-use go_tree::{FileTree, Node, NodeRef, Token};
+use go_tree::{FileTree, Node, NodeKind, NodeRef, Token};
 use gv_base::{NoMemory, Place};
+use package_objects::part_of;
 use std::alloc::Global;
-use typed_tree::Limit;
+use typed_tree::{BAD_RECEIVER, DUPLICATE_MEMBER, Limit, Rule};
 use unit_read::{Passage, Subject};
 
 fn token_of<'a>(tree: &'a FileTree, token: u32) -> Option<&'a Token>
@@ -125,6 +127,85 @@ fn is_constraint(fault: Fault) -> bool
     }
 }
 
+fn or_itself(n: Option<u32>, other: usize) -> usize
+    ensures { result ≡ option_map_or (λ n. n) n other }
+{
+    match n {
+        Some(n) => n as usize,
+        None => other,
+    }
+}
+
+/// The type of a parameter with a name, or what stands for one without.
+fn entry_type(node: &Node, n: usize) -> usize
+    ensures { result ≡ entry_type node.now.kind node.now n }
+{
+    match node.kind {
+        NodeKind::Param => or_itself(part_of(node, 1), n),
+        NodeKind::SpreadParam => or_itself(part_of(node, 1), n),
+        _ => n,
+    }
+}
+
+fn type_in(nodes: &[Node], n: usize) -> usize
+    ensures { result ≡ type_in nodes.now n }
+{
+    match node_in(nodes, n) {
+        Some(node) => entry_type(node, n),
+        None => n,
+    }
+}
+
+fn first_type(nodes: &[Node], node: &Node, n: usize) -> usize
+    ensures { result ≡ first_type nodes.now node.now n }
+{
+    match part_of(node, 0) {
+        Some(entry) => type_in(nodes, entry as usize),
+        None => n,
+    }
+}
+
+fn embedded_name(node: &Node, n: usize) -> usize
+    ensures { result ≡ embedded_name node.now.kind node.now n }
+{
+    match node.kind {
+        NodeKind::EmbeddedPointer => or_itself(part_of(node, 0), n),
+        _ => n,
+    }
+}
+
+fn rule_bearer(nodes: &[Node], node: &Node, n: usize, rule: Rule) -> usize
+    ensures { result ≡ bearer_by nodes.now node.now n (RuleFault rule) }
+{
+    if rule.0 == BAD_RECEIVER.0 {
+        first_type(nodes, node, n)
+    } else if rule.0 == DUPLICATE_MEMBER.0 {
+        embedded_name(node, n)
+    } else {
+        n
+    }
+}
+
+fn bearer_by(nodes: &[Node], node: &Node, n: usize, fault: Fault) -> usize
+    ensures { result ≡ bearer_by nodes.now node.now n fault }
+{
+    match fault {
+        Fault::Rule(rule) => rule_bearer(nodes, node, n, rule),
+        Fault::Limit(_) => n,
+    }
+}
+
+/// What bears the fault of a node: of a bad receiver its type, of an embedded pointer its name.
+fn bearer(u: &Subject, file: u32, n: usize, fault: Fault) -> usize
+    ensures { result ≡ bearer (unit_of u.now) file n fault }
+{
+    let nodes = u.nodes_at(file);
+    match node_in(nodes, n) {
+        Some(node) => bearer_by(nodes, node, n, fault),
+        None => n,
+    }
+}
+
 /// Where the fault of a node that is written stands.
 fn written_offset(
     alloc: Global,
@@ -136,7 +217,7 @@ fn written_offset(
     ensures { IfOk result (λ offset. offset ≡ written_offset (unit_of u.now) (place file node) fault) }
 {
     if !is_constraint(fault) {
-        return Ok(offset_at(u, file, node));
+        return Ok(offset_at(u, file, bearer(u, file, node, fault)));
     }
     let offset = constraint_offset(alloc, u, file)?;
     Ok(offset)

@@ -9,12 +9,12 @@ ghost use Rattle.check_pkg.specs.Readings.{IsUnitOf};
 
 use go_tree::{Bindings, FileTree};
 use gv_base::NoMemory;
-use package_needs::needs_order;
+use package_needs::needs_of;
 use std::alloc::Global;
 use unit_read::{Environment, Subject};
 use unit_rows::{cyclic_rows, read_unit, redeclared_rows, with_flags};
 
-/// Reads a package: with which of its names are declared before in the package block, and which need themselves.
+/// Reads a package: with which of its names are declared before in the package block, which need themselves, and whose methods it declares.
 pub fn read<'a>(
     alloc: Global,
     path: &'a [u8],
@@ -30,6 +30,8 @@ pub fn read<'a>(
     ensures read { IfOk result (λ u. IsRead u) }
     ensures of { IfOk result (λ u. IsUnitOf path.now (texts_of texts.now) trees.now uses.now env.now.interfaces.now (unit_of u)) }
 {
+    let needs = needs_of(alloc, uses, trees)?;
+    let cyclic = cyclic_rows(alloc, trees, &needs.order)?;
     let bare = read_unit(
         alloc,
         path,
@@ -39,9 +41,8 @@ pub fn read<'a>(
         env,
         Vec::new(alloc),
         Vec::new(alloc),
+        needs.owners,
     )?;
     let redeclared = redeclared_rows(alloc, &bare)?;
-    let order = needs_order(alloc, uses, trees)?;
-    let cyclic = cyclic_rows(alloc, trees, &order)?;
     Ok(with_flags(bare, redeclared, cyclic))
 }

@@ -5,3 +5,4 @@ pub mod UnderLemmas
 pub mod MethodLemmas
 pub mod OrderLemmas
 pub mod JoinLemmas
+pub mod GiveLemmas

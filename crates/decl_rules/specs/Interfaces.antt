@@ -19,7 +19,7 @@ use Rattle.rule_words.specs.Asking.{Rule, under_ask}
 use Rattle.rule_words.specs.Parts.{Part, part_at}
 use Rattle.rule_words.specs.Putting.{methods_from}
 use Rattle.rule_words.specs.Words.{need_type, test}
-use Rattle.decl_rules.specs.declared.rules.TheConstants.{EMBEDS_NO_INTERFACE}
+use Rattle.typed_tree.specs.declared.rule.TheConstants.{EMBEDS_NO_INTERFACE}
 use Rattle.decl_rules.specs.Good.{known_told}
 use Rattle.decl_rules.specs.Types.{gives_type}
 use Rattle.decl_rules.specs.Signatures.{are_good, type_of_part}
@@ -66,12 +66,12 @@ is_interface (InterfaceOf methods) = true
 
 -- ---- elements
 
-abbrev pub method_with : Unit → List ℕ → GoSignature → List GoMethod
-method_with u name of = record { name = name; owner = owner_of u name; pointer = false; of = of } ∷ []
+abbrev pub method_with : Unit → List ℕ → Bool → GoSignature → List GoMethod
+method_with u name pointer of = record { name = name; owner = owner_of u name; pointer = pointer; of = of } ∷ []
 
 -- a method that is written: its name and its signature
 abbrev pub written_method : Unit → List ℕ → GoType → List GoMethod
-written_method u name of = option_map_or (method_with u name) (signature_told of) []
+written_method u name of = option_map_or (method_with u name false) (signature_told of) []
 
 -- "it adds all (exported and non-exported) methods of E"
 abbrev pub embedded_methods : Option GoType → List GoMethod

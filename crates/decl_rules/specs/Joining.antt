@@ -18,7 +18,7 @@ use Rattle.rule_words.specs.declared.read.Read.{Read}
 use Rattle.rule_words.specs.Asking.{Rule, parts_ask, under_ask}
 use Rattle.rule_words.specs.Parts.{Part, part_at, read_as}
 use Rattle.rule_words.specs.Words.{need_type, test}
-use Rattle.decl_rules.specs.declared.rules.TheConstants.{DUPLICATE_MEMBER, EMBEDS_NO_INTERFACE}
+use Rattle.typed_tree.specs.declared.rule.TheConstants.{DUPLICATE_MEMBER, EMBEDS_NO_INTERFACE}
 use Rattle.decl_rules.specs.Good.{known_told}
 use Rattle.decl_rules.specs.Interfaces.{is_interface, is_method, elem_at, methods_told}
 

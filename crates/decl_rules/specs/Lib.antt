@@ -5,6 +5,7 @@ pub mod Interfaces
 pub mod Joining
 pub mod Late
 pub mod Members
+pub mod Methods
 pub mod Objects
 pub mod Receivers
 pub mod Rules

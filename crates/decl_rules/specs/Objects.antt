@@ -15,21 +15,23 @@ use Rattle.mark_walk.specs.Asks.{done, bind}
 use Rattle.typed_tree.specs.Declarations.{has_constants}
 use Rattle.typed_tree.specs.declared.mark.Mode.TheVariants as mode
 use Rattle.typed_tree.specs.declared.rule.Rule.{Rule as RuleNumber}
-use Rattle.typed_tree.specs.declared.rule.TheConstants.{REDECLARED, BAD_INIT, DECLARATION_CYCLE}
+use Rattle.typed_tree.specs.declared.rule.TheConstants.{REDECLARED, BAD_INIT, DECLARATION_CYCLE, DUPLICATE_MEMBER}
 use Rattle.typed_marks.specs.declared.item.Stage.TheVariants as s
 use Rattle.typed_marks.specs.Meanings.{Known, Meaning, Right, Wrong, Quiet}
 use Rattle.unit_read.specs.declared.place.Place.{Place}
-use Rattle.unit_read.specs.Units.{Unit, nodes_at, node_at, name_at, place_at, spec_at, is_top, type_name_at}
-use Rattle.unit_read.specs.Units.{copy_at}
+use Rattle.unit_read.specs.Methods.{is_repeated_method}
+use Rattle.unit_read.specs.Units.{Unit, nodes_at, node_at, name_at, place_at, spec_at, is_top, is_blank, type_name_at, copy_at}
 use Rattle.rule_words.specs.declared.read.How.TheVariants as h
 use Rattle.rule_words.specs.Parts.{Part, read_as}
-use Rattle.rule_words.specs.Asking.{Rule, mark_ask, part_ask}
+use Rattle.rule_words.specs.Asking.{Rule, mark_ask, part_ask, under_ask}
 use Rattle.rule_words.specs.Words.{need_type}
 use Rattle.decl_rules.specs.declared.forms.Named.{Named}
 use Rattle.decl_rules.specs.declared.forms.Named.TheVariants as named
 use Rattle.decl_rules.specs.Forms.{named_form}
-use Rattle.decl_rules.specs.Good.{given}
+use Rattle.decl_rules.specs.Good.{given, known_told}
 use Rattle.decl_rules.specs.Late.{map_part, member_part}
+use Rattle.decl_rules.specs.Methods.{has_field}
+use Rattle.decl_rules.specs.Structs.{owner_of}
 use Rattle.decl_rules.specs.Types.{gives_type}
 use Rattle.decl_rules.specs.Signatures.{results_node}
 
@@ -63,6 +65,40 @@ placed_ask u file (Some n) rest = bind (mark_ask u s.Placed file n) (λ m. rest 
 abbrev pub value_node : List Node → Node → ℕ → Option ℕ
 value_node nodes node i =
     if length (items nodes (part node 0)) == length (items nodes (part node 1)) then slice_get (items nodes (part node 1)) i else None
+
+-- ---- methods
+
+-- a name that is not blank and that a field has
+abbrev pub is_its_field : Unit → List ℕ → GoType → Bool
+is_its_field u name under = not (is_blank name) && has_field name (owner_of u name) under
+
+abbrev pub signature_mark : Unit → NodeRef → Rule
+signature_mark u at = placed_ask u at.file (Some at.node) function_mark
+
+abbrev pub beside_fields : Unit → NodeRef → NodeRef → Option GoType → Rule
+beside_fields u name at None = signature_mark u at
+beside_fields u name at (Some under) = if is_its_field u (name_at u name) under then done (Wrong DUPLICATE_MEMBER) else signature_mark u at
+
+abbrev pub of_owner : Unit → NodeRef → NodeRef → Known → Rule
+of_owner u name at x = bind (under_ask u x.of) (beside_fields u name at)
+
+abbrev pub by_owner : Unit → NodeRef → NodeRef → Meaning → Rule
+by_owner u name at m = option_map_or (of_owner u name at) (known_told m) (signature_mark u at)
+
+-- beside the fields of the type whose name stands there
+abbrev pub owned_rule : Unit → NodeRef → NodeRef → NodeRef → Rule
+owned_rule u name at t = bind (mark_ask u s.Object t.file t.node) (by_owner u name at)
+
+abbrev pub unrepeated_rule : Unit → NodeRef → NodeRef → Rule
+unrepeated_rule u name at = option_map_or (owned_rule u name at) (u.owner at) (signature_mark u at)
+
+-- E14: "the method names must be unique", and "the non-blank method and field names must be distinct"
+abbrev pub method_rule : Unit → NodeRef → NodeRef → Rule
+method_rule u name at = if is_repeated_method u at then done (Wrong DUPLICATE_MEMBER) else unrepeated_rule u name at
+
+-- of what stands in a method's declaration its name is the second
+abbrev pub method_part : Unit → NodeRef → Place → Rule
+method_part u name p = if p.slot == 1 then method_rule u name (place name.file p.around) else done Quiet
 
 -- ---- constants
 
@@ -122,6 +158,7 @@ form_rule u name p node named.Typed = placed_ask u name.file (part node 1) varia
 form_rule u name p node named.Valued = placed_ask u name.file (value_node (nodes_at u name.file) node p.index) valued_mark
 form_rule u name p node named.Param = placed_ask u name.file (Some p.around) variable_mark
 form_rule u name p node named.Function = placed_ask u name.file (Some p.around) function_mark
+form_rule u name p node named.Method = method_part u name p
 form_rule u name p node named.Defined = defined_rule u name
 form_rule u name p node named.Alias = placed_ask u name.file (part node 1) alias_mark
 form_rule u name p node named.Map = map_part u name p

@@ -14,7 +14,7 @@ use Rattle.unit_read.specs.Units.{Unit, nodes_at, place_at}
 use Rattle.rule_words.specs.Asking.{Rule, under_ask}
 use Rattle.rule_words.specs.Parts.{Part, part_at}
 use Rattle.rule_words.specs.Words.{need_type, test}
-use Rattle.decl_rules.specs.declared.rules.TheConstants.{BAD_RECEIVER}
+use Rattle.typed_tree.specs.declared.rule.TheConstants.{BAD_RECEIVER}
 use Rattle.decl_rules.specs.Good.{given}
 use Rattle.decl_rules.specs.Signatures.{entry_count_at, params_rule}
 

@@ -16,7 +16,7 @@ use Rattle.unit_read.specs.Units.{Unit, nodes_at, spec_at}
 use Rattle.unit_read.specs.Members.{is_repeat}
 use Rattle.rule_words.specs.Asking.{Rule}
 use Rattle.rule_words.specs.Words.{test, nothing}
-use Rattle.decl_rules.specs.declared.rules.TheConstants.{DUPLICATE_MEMBER, BAD_CONSTANT_TYPE, WRONG_NUMBER_OF_VALUES}
+use Rattle.typed_tree.specs.declared.rule.TheConstants.{DUPLICATE_MEMBER, BAD_CONSTANT_TYPE, WRONG_NUMBER_OF_VALUES}
 
 -- ---- constants
 

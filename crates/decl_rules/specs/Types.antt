@@ -8,7 +8,7 @@ use Rattle.type_model.specs.GoTypes.{GoType, PointerTo, SliceOf, ArrayOf, MapOf,
 use Rattle.mark_walk.specs.Asks.{done}
 use Rattle.typed_tree.specs.declared.mark.Mode.TheVariants as mode
 use Rattle.typed_tree.specs.Places.{is_type}
-use Rattle.decl_rules.specs.declared.rules.TheConstants.{BAD_ARRAY_LENGTH}
+use Rattle.typed_tree.specs.declared.rule.TheConstants.{BAD_ARRAY_LENGTH}
 use Rattle.typed_marks.specs.Meanings.{Known, Meaning, Right, Wrong, Quiet}
 use Rattle.rule_words.specs.Parts.{Part}
 use Rattle.rule_words.specs.Asking.{Rule}

@@ -1,5 +1,5 @@
 -- What a defined type is declared with (Go 1.17, "Type declarations").
-use Rattle.std.specs.Prelude.{◌≡◌, ℕ, ◌&&◌, Bool, true, false, not, if◌then◌else◌, [], Option, None, option_and_then}
+use Rattle.std.specs.Prelude.{◌≡◌, ℕ, ◌&&◌, Bool, true, false, not, if◌then◌else◌, List, Option, None, option_and_then}
 use Rattle.std.specs.Option.{option_map_or}
 use Rattle.go_tree.specs.declared.tree.Node.{Node}
 use Rattle.go_tree.specs.declared.tree.NodeRef.{NodeRef}
@@ -8,6 +8,7 @@ use Rattle.package_objects.specs.Declares.{part}
 use Rattle.type_model.specs.declared.term.TypeId.{TypeId}
 use Rattle.type_model.specs.declared.term.TypeName.{TypeName}
 use Rattle.type_model.specs.Declarations.{Declaration}
+use Rattle.type_model.specs.Parts.{GoMethod}
 use Rattle.type_model.specs.GoTypes.{GoType, BasicType, DefinedType, PointerTo, SliceOf, ArrayOf, MapOf, ChanOf, FuncOf, StructOf, InterfaceOf, is_defined}
 use Rattle.type_questions.specs.Judging.{IsItemOf}
 use Rattle.type_questions.specs.Questions.{IsComparable}
@@ -23,6 +24,7 @@ use Rattle.rule_words.specs.Declaring.{declares, IsDeclaringAt}
 use Rattle.rule_words.specs.Scenes.{type_in, IsTypeOf}
 use Rattle.rule_words.specs.Words.{need_type}
 use Rattle.decl_rules.specs.Good.{given}
+use Rattle.decl_rules.specs.Methods.{methods_ask, all_of}
 use Rattle.decl_rules.specs.Objects.{placed_ask}
 
 -- ---- the type of a name
@@ -56,22 +58,25 @@ written_in u file p = option_and_then (λ (node : Node). part node 1) (node_at u
 abbrev pub written_type : Unit → NodeRef → Option ℕ
 written_type u name = option_and_then (written_in u name.file) (place_at u name)
 
--- it is declared once all that it holds is, so that no type holds itself; its methods aren't told yet
-abbrev pub declared_with : GoType → Rule
-declared_with under = if is_defined under then done Quiet else put (IsComparable under) (declares (record { under = under; methods = [] }))
+-- it is declared once all that it holds is, so that no type holds itself, with the methods in its set
+abbrev pub with_methods : GoType → List GoMethod → Rule
+with_methods under methods = put (IsComparable under) (declares (record { under = under; methods = methods }))
 
-abbrev pub declaring : Option GoType → Rule
-declaring under = need_type under declared_with
+abbrev pub declared_with : Unit → NodeRef → GoType → Rule
+declared_with u name under = if is_defined under then done Quiet else bind (methods_ask u under name) (λ xss. with_methods under (all_of xss))
+
+abbrev pub declaring : Unit → NodeRef → Option GoType → Rule
+declaring u name under = need_type under (declared_with u name)
 
 -- "a new, distinct type with the same underlying type" as the given one
-abbrev pub underlying_rule : Unit → Known → Rule
-underlying_rule u x = bind (under_ask u x.of) (λ under. declaring under)
+abbrev pub underlying_rule : Unit → NodeRef → Known → Rule
+underlying_rule u name x = bind (under_ask u x.of) (λ under. declaring u name under)
 
-abbrev pub written_rule : Unit → Meaning → Rule
-written_rule u m = given m (λ x. underlying_rule u x)
+abbrev pub written_rule : Unit → NodeRef → Meaning → Rule
+written_rule u name m = given m (λ x. underlying_rule u name x)
 
 abbrev pub named_rule : Unit → NodeRef → Rule
-named_rule u name = placed_ask u name.file (written_type u name) (written_rule u)
+named_rule u name = placed_ask u name.file (written_type u name) (written_rule u name)
 
 -- ---- all
 

@@ -13,7 +13,6 @@ ghost use Rattle.rule_words.specs.Steps.{step_in, IsStepOf};
 ghost use Rattle.decl_rules.specs.Specifications.{is_fit, counted_rule, const_rule, may_be_several, is_several, differing, var_rule, declared_name_rule};
 
 use crate::good::{basic_type, broken, good, silent};
-use crate::rules::{BAD_CONSTANT_TYPE, DUPLICATE_MEMBER, WRONG_NUMBER_OF_VALUES};
 use const_tree::{Spec, name_count, value_count};
 use go_tree::{Node, NodeKind, NodeRef};
 use gv_base::Kind;
@@ -21,7 +20,7 @@ use package_objects::{count, kind_of};
 use rule_words::Step;
 use type_model::{Term, TypeId};
 use typed_marks::{Facts, State};
-use typed_tree::Mode;
+use typed_tree::{BAD_CONSTANT_TYPE, DUPLICATE_MEMBER, Mode, WRONG_NUMBER_OF_VALUES};
 use unit_read::Subject;
 
 fn kind_has_constants(kind: Kind) -> bool

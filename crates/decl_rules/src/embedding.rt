@@ -14,11 +14,11 @@ ghost use Rattle.decl_rules.specs.Good.{known_of, AreFactsOf};
 ghost use Rattle.decl_rules.specs.Interfaces.{is_interface, embeds, embeds_type, embeds_known, embedding_rule};
 
 use crate::good::{broken, known, silent};
-use crate::rules::EMBEDS_NO_INTERFACE;
 use rule_words::{Answer, Step, under_of};
 use type_model::{Term, TypeId};
 use type_questions::Found;
 use typed_marks::{Facts, Mark, State};
+use typed_tree::EMBEDS_NO_INTERFACE;
 use unit_read::Subject;
 
 pub fn is_interface(s: &State, of: TypeId) -> bool

@@ -32,7 +32,7 @@ fn is_upper(category: GeneralCategory) -> bool
     }
 }
 
-fn is_exported(name: &str) -> bool
+pub fn is_exported(name: &str) -> bool
     ensures { result ≡ is_exported name.now }
 {
     match name.chars().next() {

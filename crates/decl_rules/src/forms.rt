@@ -68,6 +68,7 @@ pub enum Named {
     Valued,
     Param,
     Function,
+    Method,
     Defined,
     Alias,
     /// A map type. What stands in it declares nothing, and is tested late.
@@ -181,7 +182,7 @@ pub fn named_form(kind: NodeKind) -> Option<Named>
         NodeKind::Param => Some(Named::Param),
         NodeKind::SpreadParam => Some(Named::Param),
         NodeKind::FuncDecl => Some(Named::Function),
-        NodeKind::MethodDecl => Some(Named::Function),
+        NodeKind::MethodDecl => Some(Named::Method),
         NodeKind::Defined => Some(Named::Defined),
         NodeKind::Alias => Some(Named::Alias),
         NodeKind::MapType => Some(Named::Map),

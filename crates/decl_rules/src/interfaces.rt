@@ -38,7 +38,7 @@ fn add_method(s: &State, m: Method, out: &mut Vec<Method>) -> Result<(), NoMemor
     Ok(())
 }
 
-fn signature_told(s: &State, of: TypeId) -> Option<&Signature>
+pub fn signature_told(s: &State, of: TypeId) -> Option<&Signature>
     requires table { IsTable s.now.table }
     requires within { IsTypeOf s.now of }
     ensures is { option_map (signature_of (types_in s.now.table)) (option_copied result) ≡ signature_told (type_in s.now of) }
@@ -58,17 +58,19 @@ fn signature_told(s: &State, of: TypeId) -> Option<&Signature>
     }
 }
 
-fn add_with(
+/// Adds a method with this name and signature.
+pub fn add_with(
     alloc: Global,
     u: &Subject,
     s: &State,
     name: &[u8],
+    pointer: bool,
     of: &Signature,
     out: &mut Vec<Method>,
 ) -> Result<(), NoMemory>
     requires of { SignatureBelow (count s.now.table) of.now }
     requires below { MethodsBelow (count s.now.table) out.old.items }
-    ensures is { OnOk result (map (method_in s.now) out.new.items ≡ map (method_in s.now) out.old.items ++ method_with (unit_of u.now) name.now (signature_of (types_in s.now.table) of.now)) }
+    ensures is { OnOk result (map (method_in s.now) out.new.items ≡ map (method_in s.now) out.old.items ++ method_with (unit_of u.now) name.now pointer (signature_of (types_in s.now.table) of.now)) }
     ensures below { OnOk result (MethodsBelow (count s.now.table) out.new.items) }
 {
     let text = utf8(name)?;
@@ -78,7 +80,7 @@ fn add_with(
     let method = Method {
         name,
         package,
-        pointer: false,
+        pointer,
         of,
     };
     add_method(s, method, out)?;
@@ -101,7 +103,7 @@ fn add_written(
     ensures below { OnOk result (MethodsBelow (count s.now.table) out.new.items) }
 {
     if let Some(signature) = signature_told(s, of) {
-        add_with(alloc, u, s, name, signature, out)?;
+        add_with(alloc, u, s, name, false, signature, out)?;
     }
     Ok(())
 }

@@ -19,7 +19,6 @@ use crate::differing::{clash, either};
 use crate::embedding::{is_interface, stays};
 use crate::good::{broken, known, part_at, silent};
 use crate::interfaces::{add_at, is_method, methods_told};
-use crate::rules::{DUPLICATE_MEMBER, EMBEDS_NO_INTERFACE};
 use go_tree::Node;
 use gv_base::NoMemory;
 use package_objects::{kind_of, part_count, part_of};
@@ -28,6 +27,7 @@ use std::alloc::Global;
 use type_model::{Method, TypeId};
 use type_questions::Found;
 use typed_marks::{Facts, Mark, Stage, State};
+use typed_tree::{DUPLICATE_MEMBER, EMBEDS_NO_INTERFACE};
 use unit_read::Subject;
 
 fn is_below(j: usize, i: usize) -> bool

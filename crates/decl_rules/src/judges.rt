@@ -20,7 +20,6 @@ use crate::forms::{
 use crate::good::{beyond, broken, part_at, silent};
 use crate::interfaces::interface;
 use crate::receivers::list;
-use crate::rules::DUPLICATE_MEMBER;
 use crate::signatures::judge_signature;
 use crate::structs::structure;
 use crate::types::{array, chan, map, pointing, same, slice, star};
@@ -30,7 +29,7 @@ use package_objects::part_of;
 use rule_words::{Seen, Step, Wanted};
 use std::alloc::Global;
 use typed_marks::State;
-use typed_tree::Limit;
+use typed_tree::{DUPLICATE_MEMBER, Limit};
 use unit_read::Subject;
 
 fn judge_simple(s: &State, form: Simple, a: Seen, b: Seen) -> Step

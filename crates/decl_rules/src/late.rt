@@ -13,13 +13,13 @@ ghost use Rattle.decl_rules.specs.Good.{known_of, AreFactsOf};
 ghost use Rattle.decl_rules.specs.Late.{key_of, key_mark, key_rule, map_part, may_be_embedded, embedded_under, embedded_known, embedded_of, embedded_mark, embedded_ask, embedded_rule, member_by, member_of_kind, member_part};
 
 use crate::good::{broken, known, silent};
-use crate::rules::{BAD_EMBEDDED_TYPE, BAD_MAP_KEY};
 use go_tree::{Node, NodeKind, NodeRef};
 use package_objects::part_of;
 use rule_words::{Asked, Rest, Step, look, under_of};
 use type_model::{Term, TypeId};
 use type_questions::Found;
 use typed_marks::{Facts, Mark, Stage, State};
+use typed_tree::{BAD_EMBEDDED_TYPE, BAD_MAP_KEY};
 use unit_read::{Place, Subject};
 
 fn key_of(s: &State, x: Facts) -> Step

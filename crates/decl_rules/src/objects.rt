@@ -12,6 +12,7 @@ use crate::constant::judge_constant;
 use crate::forms::{Named, named_form};
 use crate::good::{broken, gives_type, good, known, silent};
 use crate::late::{map_part, member_part};
+use crate::method_names::method_part;
 use crate::refusal::{is_exempt, refusal_of};
 use go_tree::{Node, NodeRef};
 use gv_base::{NoMemory, Text};
@@ -111,7 +112,7 @@ fn variable_at(u: &Subject, s: &State, file: u32, n: Option<u32>) -> Step
     }
 }
 
-fn function_at(u: &Subject, s: &State, file: u32, n: u32) -> Step
+pub(crate) fn function_at(u: &Subject, s: &State, file: u32, n: u32) -> Step
     requires { IsScene u.now s.now }
     ensures is { step_in s.now result ≡ tell (so_far s.now) (placed_ask (unit_of u.now) file (Some n) function_mark) }
     ensures over { IsStepOf s.now result }
@@ -238,6 +239,10 @@ fn judge_form(
         Named::Valued => Ok(valued_at(u, s, file, value_node(nodes, node, p.index))),
         Named::Param => Ok(variable_at(u, s, file, Some(p.around))),
         Named::Function => Ok(function_at(u, s, file, p.around)),
+        Named::Method => {
+            let step = method_part(u, s, name, p)?;
+            Ok(step)
+        }
         Named::Defined => {
             let step = defined(alloc, u, s, name)?;
             Ok(step)

@@ -15,7 +15,6 @@ ghost use Rattle.decl_rules.specs.Receivers.{receiver_base, is_own, may_have_met
 
 use crate::good::{broken, known, part_at, silent};
 use crate::params::{entry_count_at, params};
-use crate::rules::BAD_RECEIVER;
 use go_tree::{Node, NodeKind, NodeRef};
 use gv_base::NoMemory;
 use package_objects::{kind_of, part_count, part_of};
@@ -24,6 +23,7 @@ use std::alloc::Global;
 use type_model::{Term, TypeId, TypeName};
 use type_questions::Found;
 use typed_marks::{Facts, State};
+use typed_tree::BAD_RECEIVER;
 use unit_read::{Place, Subject};
 
 /// The type itself, or that to which it points.

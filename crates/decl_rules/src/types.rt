@@ -10,12 +10,11 @@ ghost use Rattle.decl_rules.specs.Good.{known_of, AreFactsOf};
 ghost use Rattle.decl_rules.specs.Types.{pointer_rule, star_rule, pointing_rule, slice_rule, chan_rule, map_of, map_rule, length_in, length_of, array_of, sized_rule, array_rule, same_rule};
 
 use crate::good::{broken, gives_type, good, known, silent};
-use crate::rules::BAD_ARRAY_LENGTH;
 use gv_base::Const;
 use rule_words::{Seen, Step};
 use type_model::{Dir, Term};
 use typed_marks::{ConstId, Facts, State};
-use typed_tree::Mode;
+use typed_tree::{BAD_ARRAY_LENGTH, Mode};
 
 pub fn is_type(mode: Mode) -> bool
     ensures { result ≡ is_type mode }

@@ -1,5 +1,5 @@
 //! What defined types are declared with.
-ghost use Rattle.std.specs.Prelude.{◌≡◌, true, Some, option_map};
+ghost use Rattle.std.specs.Prelude.{IfOk, ◌≡◌, true, Some, option_map};
 ghost use Rattle.mark_walk.specs.Telling.{Says, tell};
 ghost use Rattle.type_model.specs.GoTypes.{is_defined};
 ghost use Rattle.type_model.specs.Tables.{IsTable, is_same_name};
@@ -17,7 +17,9 @@ ghost use Rattle.decl_rules.specs.Objects.{placed_ask};
 ghost use Rattle.decl_rules.specs.Under.{is_given, is_here, is_of_node, written_in, written_type, declared_with, declaring, underlying_rule, written_rule, named_rule, known_rule, own_rule, type_rule, under_rule, IsDeclaringOf};
 
 use crate::good::known;
+use crate::methods::add_methods;
 use go_tree::NodeRef;
+use gv_base::NoMemory;
 use package_objects::part_of;
 use rule_words::{Declaring, look, under_of};
 use std::alloc::Global;
@@ -51,53 +53,94 @@ fn is_defined(s: &State, of: TypeId) -> bool
     }
 }
 
-/// Once all that the underlying type holds is declared.
-fn declared_with(alloc: Global, s: &State, of: TypeId, under: TypeId) -> Declaring
-    requires table { IsTable s.now.table }
+/// Once all that the underlying type holds is declared, with the methods in the type's set.
+fn declared_with(
+    alloc: Global,
+    u: &Subject,
+    s: &State,
+    name: NodeRef,
+    of: TypeId,
+    under: TypeId,
+) -> Result<Declaring, NoMemory>
+    requires scene { IsScene u.now s.now }
     requires under { IsTypeOf s.now under }
-    ensures is { declaring_in s.now result ≡ tell (so_far s.now) (declared_with (type_in s.now under)) }
-    ensures over { (u : Unit) → IsDeclaringOf u s.now of result }
+    ensures is { IfOk result (λ d. declaring_in s.now d ≡ tell (so_far s.now) (declared_with (unit_of u.now) name (type_in s.now under))) }
+    ensures over { IfOk result (IsDeclaringOf (unit_of u.now) s.now of) }
 {
     if is_defined(s, under) {
-        nothing()
-    } else {
-        Declaring::With(of, under, Vec::new(alloc))
+        return Ok(nothing());
+    }
+    let mut methods = Vec::new(alloc);
+    let waits = add_methods(alloc, u, s, under, name, &mut methods)?;
+    match waits {
+        Some(item) => Ok(Declaring::Waits(item)),
+        None => Ok(Declaring::With(of, under, methods)),
     }
 }
 
-fn declaring(alloc: Global, s: &State, of: TypeId, under: Option<TypeId>) -> Declaring
-    requires table { IsTable s.now.table }
+fn declaring(
+    alloc: Global,
+    u: &Subject,
+    s: &State,
+    name: NodeRef,
+    of: TypeId,
+    under: Option<TypeId>,
+) -> Result<Declaring, NoMemory>
+    requires scene { IsScene u.now s.now }
     requires under { MayBeTypeOf s.now under }
-    ensures is { declaring_in s.now result ≡ tell (so_far s.now) (declaring (option_map (type_in s.now) under)) }
-    ensures over { (u : Unit) → IsDeclaringOf u s.now of result }
+    ensures is { IfOk result (λ d. declaring_in s.now d ≡ tell (so_far s.now) (declaring (unit_of u.now) name (option_map (type_in s.now) under))) }
+    ensures over { IfOk result (IsDeclaringOf (unit_of u.now) s.now of) }
 {
     match under {
-        Some(under) => declared_with(alloc, s, of, under),
-        None => nothing(),
+        Some(under) => {
+            let declaring = declared_with(alloc, u, s, name, of, under)?;
+            Ok(declaring)
+        }
+        None => Ok(nothing()),
     }
 }
 
-fn underlying(alloc: Global, u: &Subject, s: &State, of: TypeId, x: Facts) -> Declaring
+fn underlying(
+    alloc: Global,
+    u: &Subject,
+    s: &State,
+    name: NodeRef,
+    of: TypeId,
+    x: Facts,
+) -> Result<Declaring, NoMemory>
     requires scene { IsScene u.now s.now }
     requires facts { AreFactsOf s.now x }
-    ensures is { declaring_in s.now result ≡ tell (so_far s.now) (underlying_rule (unit_of u.now) (known_of s.now x)) }
-    ensures over { IsDeclaringOf (unit_of u.now) s.now of result }
+    ensures is { IfOk result (λ d. declaring_in s.now d ≡ tell (so_far s.now) (underlying_rule (unit_of u.now) name (known_of s.now x))) }
+    ensures over { IfOk result (IsDeclaringOf (unit_of u.now) s.now of) }
 {
     match under_of(u, s, x.of) {
-        Found::Is(under) => declaring(alloc, s, of, under),
-        Found::Wait(item) => Declaring::Waits(item),
+        Found::Is(under) => {
+            let declaring = declaring(alloc, u, s, name, of, under)?;
+            Ok(declaring)
+        }
+        Found::Wait(item) => Ok(Declaring::Waits(item)),
     }
 }
 
-fn written(alloc: Global, u: &Subject, s: &State, of: TypeId, m: Mark) -> Declaring
+fn written(
+    alloc: Global,
+    u: &Subject,
+    s: &State,
+    name: NodeRef,
+    of: TypeId,
+    m: Mark,
+) -> Result<Declaring, NoMemory>
     requires scene { IsScene u.now s.now }
     requires mark { IsMarkOf s.now m }
-    ensures is { declaring_in s.now result ≡ tell (so_far s.now) (written_rule (unit_of u.now) (said s.now m)) }
-    ensures over { IsDeclaringOf (unit_of u.now) s.now of result }
+    ensures is { IfOk result (λ d. declaring_in s.now d ≡ tell (so_far s.now) (written_rule (unit_of u.now) name (said s.now m))) }
+    ensures over { IfOk result (IsDeclaringOf (unit_of u.now) s.now of) }
 {
     match known(s, m) {
-        Some(x) => underlying(alloc, u, s, of, x),
-        None => nothing(),
+        Some(x) => {
+            let declaring = underlying(alloc, u, s, name, of, x)?;
+            Ok(declaring)
+        }
+        None => Ok(nothing()),
     }
 }
 
@@ -125,25 +168,44 @@ fn written_type(u: &Subject, name: NodeRef) -> Option<u32>
     }
 }
 
-fn placed(alloc: Global, u: &Subject, s: &State, file: u32, of: TypeId, n: u32) -> Declaring
+fn placed(
+    alloc: Global,
+    u: &Subject,
+    s: &State,
+    name: NodeRef,
+    of: TypeId,
+    n: u32,
+) -> Result<Declaring, NoMemory>
     requires { IsScene u.now s.now }
-    ensures is { declaring_in s.now result ≡ tell (so_far s.now) (placed_ask (unit_of u.now) file (Some n) (written_rule (unit_of u.now))) }
-    ensures over { IsDeclaringOf (unit_of u.now) s.now of result }
+    ensures is { IfOk result (λ d. declaring_in s.now d ≡ tell (so_far s.now) (placed_ask (unit_of u.now) name.file (Some n) (written_rule (unit_of u.now) name))) }
+    ensures over { IfOk result (IsDeclaringOf (unit_of u.now) s.now of) }
 {
-    match look(u, s, Stage::Placed, file as usize, n) {
-        Found::Is(m) => written(alloc, u, s, of, m),
-        Found::Wait(item) => Declaring::Waits(item),
+    match look(u, s, Stage::Placed, name.file as usize, n) {
+        Found::Is(m) => {
+            let declaring = written(alloc, u, s, name, of, m)?;
+            Ok(declaring)
+        }
+        Found::Wait(item) => Ok(Declaring::Waits(item)),
     }
 }
 
-fn named(alloc: Global, u: &Subject, s: &State, name: NodeRef, of: TypeId) -> Declaring
+fn named(
+    alloc: Global,
+    u: &Subject,
+    s: &State,
+    name: NodeRef,
+    of: TypeId,
+) -> Result<Declaring, NoMemory>
     requires { IsScene u.now s.now }
-    ensures is { declaring_in s.now result ≡ tell (so_far s.now) (named_rule (unit_of u.now) name) }
-    ensures over { IsDeclaringOf (unit_of u.now) s.now of result }
+    ensures is { IfOk result (λ d. declaring_in s.now d ≡ tell (so_far s.now) (named_rule (unit_of u.now) name)) }
+    ensures over { IfOk result (IsDeclaringOf (unit_of u.now) s.now of) }
 {
     match written_type(u, name) {
-        Some(n) => placed(alloc, u, s, name.file, of, n),
-        None => nothing(),
+        Some(n) => {
+            let declaring = placed(alloc, u, s, name, of, n)?;
+            Ok(declaring)
+        }
+        None => Ok(nothing()),
     }
 }
 
@@ -200,42 +262,55 @@ fn is_of_node(u: &Subject, s: &State, at: NodeRef, of: TypeId) -> bool
     }
 }
 
-fn known_type(alloc: Global, u: &Subject, s: &State, name: NodeRef, x: Facts) -> Declaring
+fn known_type(
+    alloc: Global,
+    u: &Subject,
+    s: &State,
+    name: NodeRef,
+    x: Facts,
+) -> Result<Declaring, NoMemory>
     requires scene { IsScene u.now s.now }
     requires facts { AreFactsOf s.now x }
     requires stands { stands (unit_of u.now) name.file name.node ≡ true }
-    ensures is { declaring_in s.now result ≡ tell (so_far s.now) (known_rule (unit_of u.now) name (known_of s.now x)) }
-    ensures over { IsDeclaringAt (unit_of u.now) s.now (item stage.Under name.file name.node) result }
+    ensures is { IfOk result (λ d. declaring_in s.now d ≡ tell (so_far s.now) (known_rule (unit_of u.now) name (known_of s.now x))) }
+    ensures over { IfOk result (IsDeclaringAt (unit_of u.now) s.now (item stage.Under name.file name.node)) }
 {
     if is_of_node(u, s, name, x.of) {
-        named(alloc, u, s, name, x.of)
+        let declaring = named(alloc, u, s, name, x.of)?;
+        Ok(declaring)
     } else {
-        nothing()
+        Ok(nothing())
     }
 }
 
 /// A type that is refused or cyclic is declared by nothing.
-fn own(alloc: Global, u: &Subject, s: &State, name: NodeRef, m: Mark) -> Declaring
+fn own(alloc: Global, u: &Subject, s: &State, name: NodeRef, m: Mark) -> Result<Declaring, NoMemory>
     requires scene { IsScene u.now s.now }
     requires mark { IsMarkOf s.now m }
     requires told { Says (said s.now m) ≡ tell (so_far s.now) (mark_ask (unit_of u.now) stage.Object name.file name.node) }
-    ensures is { declaring_in s.now result ≡ tell (so_far s.now) (own_rule (unit_of u.now) name (said s.now m)) }
-    ensures over { IsDeclaringAt (unit_of u.now) s.now (item stage.Under name.file name.node) result }
+    ensures is { IfOk result (λ d. declaring_in s.now d ≡ tell (so_far s.now) (own_rule (unit_of u.now) name (said s.now m))) }
+    ensures over { IfOk result (IsDeclaringAt (unit_of u.now) s.now (item stage.Under name.file name.node)) }
 {
     match known(s, m) {
-        Some(x) => known_type(alloc, u, s, name, x),
-        None => nothing(),
+        Some(x) => {
+            let declaring = known_type(alloc, u, s, name, x)?;
+            Ok(declaring)
+        }
+        None => Ok(nothing()),
     }
 }
 
-fn asked(alloc: Global, u: &Subject, s: &State, name: NodeRef) -> Declaring
+fn asked(alloc: Global, u: &Subject, s: &State, name: NodeRef) -> Result<Declaring, NoMemory>
     requires { IsScene u.now s.now }
-    ensures is { declaring_in s.now result ≡ tell (so_far s.now) (type_rule (unit_of u.now) name) }
-    ensures over { IsDeclaringAt (unit_of u.now) s.now (item stage.Under name.file name.node) result }
+    ensures is { IfOk result (λ d. declaring_in s.now d ≡ tell (so_far s.now) (type_rule (unit_of u.now) name)) }
+    ensures over { IfOk result (IsDeclaringAt (unit_of u.now) s.now (item stage.Under name.file name.node)) }
 {
     match look(u, s, Stage::Object, name.file as usize, name.node) {
-        Found::Is(m) => own(alloc, u, s, name, m),
-        Found::Wait(item) => Declaring::Waits(item),
+        Found::Is(m) => {
+            let declaring = own(alloc, u, s, name, m)?;
+            Ok(declaring)
+        }
+        Found::Wait(item) => Ok(Declaring::Waits(item)),
     }
 }
 
@@ -248,14 +323,20 @@ fn is_among(u: &Subject, at: NodeRef) -> bool
 }
 
 /// What the defined type is declared with whose name stands here, or what that waits for.
-pub fn judge_under(alloc: Global, u: &Subject, s: &State, name: NodeRef) -> Declaring
+pub fn judge_under(
+    alloc: Global,
+    u: &Subject,
+    s: &State,
+    name: NodeRef,
+) -> Result<Declaring, NoMemory>
     requires { IsScene u.now s.now }
-    ensures is { declaring_in s.now result ≡ tell (so_far s.now) (under_rule (unit_of u.now) name) }
-    ensures over { IsDeclaringAt (unit_of u.now) s.now (item stage.Under name.file name.node) result }
+    ensures is { IfOk result (λ d. declaring_in s.now d ≡ tell (so_far s.now) (under_rule (unit_of u.now) name)) }
+    ensures over { IfOk result (IsDeclaringAt (unit_of u.now) s.now (item stage.Under name.file name.node)) }
 {
     if is_among(u, name) {
-        asked(alloc, u, s, name)
+        let declaring = asked(alloc, u, s, name)?;
+        Ok(declaring)
     } else {
-        nothing()
+        Ok(nothing())
     }
 }

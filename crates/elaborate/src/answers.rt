@@ -14,13 +14,7 @@ use rule_words::{Answer, Asked, Pair, Rest, Step};
 use type_model::{Method, TypeId};
 use type_questions::Reached;
 use typed_marks::{ConstId, Mark, State};
-use typed_tree::Rule;
-
-/// E33 mismatched operands
-const MISMATCHED_OPERANDS: Rule = Rule(33);
-
-/// E35 not comparable
-const NOT_COMPARABLE: Rule = Rule(35);
+use typed_tree::{MISMATCHED_OPERANDS, NOT_COMPARABLE, Rule};
 
 fn mark(mark: Mark) -> Step
     ensures { result ≡ Step.Says (Answer.Mark mark) }

@@ -1,7 +1,9 @@
 -- The rule of each item of a package, by its stage.
-use Rattle.std.specs.Prelude.{ℕ, ◌==◌, nat_lt, if◌then◌else◌, List, Option, Some, None, option_and_then}
+use Rattle.std.specs.Prelude.{ℕ, Bool, true, false, ◌==◌, nat_lt, if◌then◌else◌, List, Option, Some, None, option_and_then}
 use Rattle.std.specs.Option.{option_map_or}
 use Rattle.go_tree.specs.declared.tree.Node.{Node}
+use Rattle.go_tree.specs.declared.tree.NodeKind.{NodeKind}
+use Rattle.go_tree.specs.declared.tree.NodeKind.TheVariants as k
 use Rattle.go_tree.specs.declared.tree.NodeRef.{NodeRef}
 use Rattle.object_order.specs.Spots.{place}
 use Rattle.mark_walk.specs.Asks.{done, bind}
@@ -9,7 +11,8 @@ use Rattle.typed_tree.specs.declared.place.Want.TheVariants as demand
 use Rattle.typed_marks.specs.declared.item.Item.{Item}
 use Rattle.typed_marks.specs.declared.item.Stage.{Stage}
 use Rattle.typed_marks.specs.declared.item.Stage.TheVariants as s
-use Rattle.typed_marks.specs.Meanings.{Meaning, Free, Quiet, Wishes}
+use Rattle.typed_tree.specs.declared.rule.TheConstants.{NOT_A_TYPE}
+use Rattle.typed_marks.specs.Meanings.{Meaning, Free, Quiet, Wrong, Wishes}
 use Rattle.unit_read.specs.declared.passage.Passage.{Passage}
 use Rattle.unit_read.specs.declared.place.Place.{Place}
 use Rattle.unit_read.specs.Units.{Unit, nodes_at, node_at, place_at, passage_at}
@@ -26,6 +29,7 @@ use Rattle.go_rules.specs.declared.family.Family.TheVariants as f
 use Rattle.go_rules.specs.declared.role.Role.{Role}
 use Rattle.go_rules.specs.declared.role.Role.TheVariants as r
 use Rattle.go_rules.specs.Families.{family, node_reads, rule_by, wants_by}
+use Rattle.go_rules.specs.Own.{is_own_type}
 use Rattle.go_rules.specs.Roles.{role_at}
 
 -- ---- a node by its parts, and by what is wanted of it
@@ -65,8 +69,11 @@ before_as r.Untold u block at node = done Quiet
 -- ---- with what is wanted of it
 
 -- over its parts in their places
+abbrev pub judged_wanting : Unit → ℕ → NodeRef → Node → Wanted → Rule
+judged_wanting u block at node w = if is_own_type u at node w then done (Wrong NOT_A_TYPE) else with_parts u s.Placed block at node w
+
 abbrev pub judged_with : Unit → ℕ → NodeRef → Node → Meaning → Rule
-judged_with u block at node m = with_parts u s.Placed block at node (wanted_in m)
+judged_with u block at node m = judged_wanting u block at node (wanted_in m)
 
 abbrev pub judged_in : Unit → ℕ → NodeRef → Node → Rule
 judged_in u block at node = bind (mark_ask u s.Wanted block at.node) (judged_with u block at node)
@@ -133,6 +140,28 @@ wanted_rule u block at = option_map_or (wants_at u block at) (place_at u at) (do
 
 -- ---- what is declared at it
 
+-- a part of these is tested late
+abbrev pub is_late : NodeKind → Bool
+is_late k.MapType = true
+is_late k.StructType = true
+is_late _ = false
+
+abbrev pub object_beside : Unit → NodeRef → Node → Rule
+object_beside u at around = if is_late around.kind then object_rule u at else done Quiet
+
+abbrev pub object_in_place : Unit → NodeRef → Place → Rule
+object_in_place u at p = option_map_or (object_beside u at) (node_at u (place at.file p.around)) (done Quiet)
+
+abbrev pub object_of_part : Unit → NodeRef → Rule
+object_of_part u at = option_map_or (object_in_place u at) (place_at u at) (done Quiet)
+
+-- of a name that is declared the object; of another node what is tested late
+abbrev pub object_as : Role → Unit → NodeRef → Rule
+object_as r.Part u at = object_of_part u at
+object_as r.Embedded u at = done Quiet
+object_as r.Declared u at = object_rule u at
+object_as r.Untold u at = done Quiet
+
 -- A list that is repeated declares nothing: what is declared is told in the block of its file.
 abbrev pub in_own : ℕ → NodeRef → Rule → Rule
 in_own block at rest = if block == at.file then rest else done Quiet
@@ -144,7 +173,7 @@ stage_rule s.Before u block at node = before_as (role_at u at node) u block at n
 stage_rule s.Wanted u block at node = wanted_rule u block at
 stage_rule s.Judged u block at node = judged_as (role_at u at node) u block at node
 stage_rule s.Placed u block at node = placed_as (role_at u at node) u block at
-stage_rule s.Object u block at node = in_own block at (object_rule u at)
+stage_rule s.Object u block at node = in_own block at (object_as (role_at u at node) u at)
 stage_rule s.Under u block at node = in_own block at (under_rule u at)
 
 abbrev pub node_rule : Unit → Item → NodeRef → Node → Rule

@@ -5,15 +5,14 @@ ghost use Rattle.typed_marks.specs.States.{so_far};
 ghost use Rattle.unit_read.specs.Subjects.{unit_of};
 ghost use Rattle.rule_words.specs.Scenes.{IsScene};
 ghost use Rattle.rule_words.specs.Steps.{step_in, IsStepOf};
-ghost use Rattle.decl_rules.specs.Objects.{object_rule};
 ghost use Rattle.elaborate.specs.Walks.{is_declaring};
-ghost use Rattle.go_rules.specs.Stages.{in_own, stage_rule, node_rule, at_node, number, nth_rule, in_file, file_rule, rule};
+ghost use Rattle.go_rules.specs.Stages.{stage_rule, node_rule, at_node, number, nth_rule, in_file, file_rule, rule};
 
 use crate::number::number;
+use crate::objects::object;
 use crate::placed::placed;
 use crate::role::role_at;
 use crate::stages::{before, judged, wanted};
-use decl_rules::judge_object;
 use go_tree::{Node, NodeRef};
 use gv_base::NoMemory;
 use rule_words::{Answer, Step};
@@ -25,26 +24,6 @@ fn silent() -> Step
     ensures { result ≡ Step.Says (Answer.Mark Mark.Silent) }
 {
     Step::Says(Answer::Mark(Mark::Silent))
-}
-
-/// The object that is declared at a name, in the block of its file.
-fn object(
-    alloc: Global,
-    u: &Subject,
-    s: &State,
-    block: usize,
-    at: NodeRef,
-) -> Result<Step, NoMemory>
-    requires { IsScene u.now s.now }
-    ensures is { IfOk result (λ step. step_in s.now step ≡ tell (so_far s.now) (in_own block at (object_rule (unit_of u.now) at))) }
-    ensures over { IfOk result (IsStepOf s.now) }
-{
-    if block == at.file as usize {
-        let step = judge_object(alloc, u, s, at)?;
-        Ok(step)
-    } else {
-        Ok(silent())
-    }
 }
 
 fn judge_stage(
@@ -77,7 +56,7 @@ fn judge_stage(
             Ok(step)
         }
         Stage::Object => {
-            let step = object(alloc, u, s, block, at)?;
+            let step = object(alloc, u, s, role, block, at)?;
             Ok(step)
         }
         Stage::Under => unreachable!(),

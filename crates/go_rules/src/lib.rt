@@ -7,6 +7,8 @@ mod declare;
 mod family;
 mod judge;
 mod number;
+mod objects;
+mod own;
 mod placed;
 mod reads;
 mod role;

@@ -21,7 +21,7 @@ use rule_words::{Answer, Step, look, wanted_by};
 use std::alloc::Global;
 use type_questions::Found;
 use typed_marks::{Facts, Mark, Stage, State};
-use typed_tree::{Mode, Rule};
+use typed_tree::{Mode, NOT_A_TYPE};
 use unit_read::{Place, Subject};
 
 fn placed_with(u: &Subject, s: &State, j: Mark, m: Mark) -> Step
@@ -66,9 +66,6 @@ fn is_type(mode: Mode) -> bool
         _ => false,
     }
 }
-
-/// E10 not a type
-const NOT_A_TYPE: Rule = Rule(10);
 
 fn says(m: Mark) -> Step
     ensures { result ≡ step.Says (answer.Mark m) }

@@ -21,7 +21,7 @@ pub enum Role {
     Untold,
 }
 
-fn is_name(kind: NodeKind) -> bool
+pub fn is_name(kind: NodeKind) -> bool
     ensures { result ≡ is_name kind }
 {
     match kind {

@@ -8,10 +8,11 @@ ghost use Rattle.rule_words.specs.Scenes.{IsScene, told_by, IfFound, said, IsMar
 ghost use Rattle.rule_words.specs.Steps.{step_in, IsStepOf};
 ghost use Rattle.rule_words.specs.Wanting.{wanted_of, IsWantedOf};
 ghost use Rattle.go_rules.specs.Families.{family, node_reads, rule_by, wants_by};
-ghost use Rattle.go_rules.specs.Stages.{from_parts, parts_read, with_parts, nothing_wanted, before_by, before_in, before_as, judged_with, judged_in, judged_as, wants_in, wants_of, wants_at, wanted_rule, wished};
+ghost use Rattle.go_rules.specs.Stages.{from_parts, parts_read, with_parts, nothing_wanted, before_by, before_in, before_as, judged_wanting, judged_with, judged_in, judged_as, wants_in, wants_of, wants_at, wanted_rule, wished};
 
 use crate::clause::judge_clause;
 use crate::family::{Family, family_of};
+use crate::own::is_own_type;
 use crate::reads::node_reads;
 use crate::role::Role;
 use decl_rules::{declared_name, judge_decl, want_decl};
@@ -22,7 +23,7 @@ use rule_words::{Answer, Seen, Step, Wanted, look, parts, wanted_by};
 use std::alloc::Global;
 use type_questions::Found;
 use typed_marks::{Item, Mark, Stage, State, Want};
-use typed_tree::Want as Demand;
+use typed_tree::{NOT_A_TYPE, Want as Demand};
 use unit_read::{Place, Subject};
 
 fn silent() -> Step
@@ -195,6 +196,28 @@ pub fn before(
     }
 }
 
+/// A node with what is wanted of it, over its parts in their places.
+fn judged_wanting(
+    alloc: Global,
+    u: &Subject,
+    s: &State,
+    block: usize,
+    at: NodeRef,
+    node: &Node,
+    w: Wanted,
+) -> Result<Step, NoMemory>
+    requires scene { IsScene u.now s.now }
+    requires wanted { IsWantedOf s.now w }
+    ensures is { IfOk result (λ step. step_in s.now step ≡ tell (so_far s.now) (judged_wanting (unit_of u.now) block at node.now (wanted_of s.now w))) }
+    ensures over { IfOk result (IsStepOf s.now) }
+{
+    if is_own_type(u, s, at, node, w) {
+        return Ok(Step::Says(Answer::Mark(Mark::Bad(NOT_A_TYPE))));
+    }
+    let step = with_parts(alloc, u, s, Stage::Placed, block, at, node, w)?;
+    Ok(step)
+}
+
 fn judged_in(
     alloc: Global,
     u: &Subject,
@@ -210,7 +233,7 @@ fn judged_in(
     match look(u, s, Stage::Wanted, block, at.node) {
         Found::Is(m) => {
             let w = wanted_by(s, m);
-            let step = with_parts(alloc, u, s, Stage::Placed, block, at, node, w)?;
+            let step = judged_wanting(alloc, u, s, block, at, node, w)?;
             Ok(step)
         }
         Found::Wait(item) => Ok(Step::Waits(item)),

@@ -29,7 +29,7 @@ impl Rules for GoRules {
         s: &State,
         item: Item,
     ) -> Result<Declaring, NoMemory> {
-        let declaring = declare_item(alloc, u, s, item);
+        let declaring = declare_item(alloc, u, s, item)?;
         Ok(declaring)
     }
 }

@@ -33,9 +33,16 @@ adds_fresh old new key k none kept = λ q. fresh (number_in old) key q k (number
 pub record AreNamedBelow {S : Type 0} (entries : List Entry) (numbers : HashMap (ℕ × ℕ) ℕ S) (k : ℕ) : Type 0 where
   pub has : (i : ℕ) (e : Entry) → i < k → slice_get entries i ≡ Some e → (n : ℕ) × (number_in numbers (e.name.file, e.name.node) ≡ Some n)
   pub «is» : (n : ℕ) (at : NodeRef) → number_in numbers (at.file, at.node) ≡ Some n → (e : Entry) × (slice_get entries n ≡ Some e) × (e.name ≡ at)
+  pub low : (n : ℕ) (q : ℕ × ℕ) → number_in numbers q ≡ Some n → n < k
+  pub first : (n j : ℕ) (e : Entry) → number_in numbers (e.name.file, e.name.node) ≡ Some n → j < k → slice_get entries j ≡ Some e → n ≤ j
 
 pub named_none : {S : Type 0} (entries : List Entry) (numbers : HashMap (ℕ × ℕ) ℕ S) → numbers.entries ≡ [] → AreNamedBelow entries numbers 0
-named_none entries numbers bare = record { has = λ i e low at. absurd (omega arith); «is» = λ n at is. absurd (no_number n (sym (none (at.file, at.node)) ∙ is)) } where
+named_none entries numbers bare = record {
+  has = λ i e low at. absurd (omega arith);
+  «is» = λ n at is. absurd (no_number n (sym (none (at.file, at.node)) ∙ is));
+  low = λ n q is. absurd (no_number n (sym (none q) ∙ is));
+  first = λ n j e is low at. absurd (omega arith);
+} where
   none : (q : ℕ × ℕ) → number_in numbers q ≡ None
   none q = ap (λ (es : List ((ℕ × ℕ) × ℕ)). lookup (same_key q) es) bare
 
@@ -51,8 +58,8 @@ here_or_old : (old : ℕ × ℕ → Option ℕ) (key q : ℕ × ℕ) (k : ℕ) (
 here_or_old old key q k new true e is = inl (key_parts key q e, is)
 here_or_old old key q k new false e is = inr is
 
-from_old : (o : Option ℕ) (k n : ℕ) → Some (unwrap_or o k) ≡ Some n → (o ≡ Some n) ⊎ (k ≡ n)
-from_old None k n e = inr (cc)
+from_old : (o : Option ℕ) (k n : ℕ) → Some (unwrap_or o k) ≡ Some n → (o ≡ Some n) ⊎ ((o ≡ None) × (k ≡ n))
+from_old None k n e = inr (refl, cc)
 from_old (Some x) k n e = inl e
 
 pub named_more : {S T : Type 0} (entries : List Entry) (old : HashMap (ℕ × ℕ) ℕ S) (new : HashMap (ℕ × ℕ) ℕ T) (key : ℕ × ℕ) (k : ℕ)
@@ -72,10 +79,36 @@ named_more entries old new key k was (e, at_k, key_is) adds = record {
     | inr old_is ↦ was.«is» n at (sym old_is ∙ is)
     | inl (same, now) ↦ elim (from_old (number_in old key) k n (sym now ∙ is)) [
       | inl before ↦ was.«is» n at (ap (number_in old) (sym same) ∙ before)
-      | inr k_is ↦ (e, ap (λ x. slice_get entries x) (sym k_is) ∙ at_k, same_place e.name at (ap (λ (x : ℕ × ℕ). x.0) (sym key_is ∙ same)) (ap (λ (x : ℕ × ℕ). x.1) (sym key_is ∙ same)))
+      | inr (none, k_is) ↦ (e, ap (λ x. slice_get entries x) (sym k_is) ∙ at_k, same_place e.name at (ap (λ (x : ℕ × ℕ). x.0) (sym key_is ∙ same)) (ap (λ (x : ℕ × ℕ). x.1) (sym key_is ∙ same)))
+    ]
+  ];
+  low = λ n q is. elim (says q) [
+    | inr old_is ↦ (let less = was.low n q (sym old_is ∙ is) in omega arith)
+    | inl (same, now) ↦ elim (from_old (number_in old key) k n (sym now ∙ is)) [
+      | inl before ↦ (let less = was.low n key before in omega arith)
+      | inr (none, k_is) ↦ (omega arith)
+    ]
+  ];
+  first = λ n j d is low at. elim (split j k low) [
+    | inl less ↦ elim (says (d.name.file, d.name.node)) [
+      | inr old_is ↦ was.first n j d (sym old_is ∙ is) less at
+      | inl (same, now) ↦ elim (from_old (number_in old key) k n (sym now ∙ is)) [
+        | inl before ↦ was.first n j d (ap (number_in old) (sym same) ∙ before) less at
+        | inr (none, k_is) ↦ absurd (let (m, known) = was.has j d less at in no_number m (sym none ∙ (ap (number_in old) same ∙ known)))
+      ]
+    ]
+    | inr last ↦ elim (says (d.name.file, d.name.node)) [
+      | inr old_is ↦ (let less = was.low n (d.name.file, d.name.node) (sym old_is ∙ is) in omega arith)
+      | inl (same, now) ↦ elim (from_old (number_in old key) k n (sym now ∙ is)) [
+        | inl before ↦ (let less = was.low n key before in omega arith)
+        | inr (none, k_is) ↦ (omega arith)
+      ]
     ]
   ];
 } where
+  no_number : (m : ℕ) → None ≡ Some m → ⊥
+  no_number m e = cc
+
   pair : NodeRef → ℕ × ℕ
   pair at = (at.file, at.node)
 
@@ -90,4 +123,4 @@ named_more entries old new key k was (e, at_k, key_is) adds = record {
         at_key o false e h = absurd (cc)
 
 pub named_all : {S : Type 0} (entries : List Entry) (numbers : HashMap (ℕ × ℕ) ℕ S) (k : ℕ) → length entries ≤ k → AreNamedBelow entries numbers k → AreNamed entries numbers
-named_all entries numbers k end was = record { has = λ i e at. was.has i e (let h = slice_get_within entries i e at in omega arith) at; «is» = was.«is» }
+named_all entries numbers k end was = record { has = λ i e at. was.has i e (let h = slice_get_within entries i e at in omega arith) at; «is» = was.«is»; first = λ n j e is at. was.first n j e is (let h = slice_get_within entries j e at in omega arith) at }

@@ -1,5 +1,5 @@
 -- The numbers of declared names.
-use Rattle.std.specs.Prelude.{◌≡◌, ℕ, List, [], ◌∷◌, Some, slice_get, unwrap_or, if◌then◌else◌}
+use Rattle.std.specs.Prelude.{◌≡◌, ◌≤◌, ℕ, List, [], ◌∷◌, Some, slice_get, unwrap_or, if◌then◌else◌}
 use Rattle.std.specs.List.{flat_map}
 use Rattle.std.specs.HashMap.{HashMap}
 use Rattle.go_tree.specs.declared.tree.NodeRef.{NodeRef}
@@ -13,10 +13,11 @@ use Rattle.object_order.specs.Views.{number_in, same_key}
 abbrev pub IsNamed : List Entry → NodeRef → Type 0
 IsNamed entries o = (k : ℕ) × (e : Entry) × (slice_get entries k ≡ Some e) × (e.name ≡ o)
 
--- Each declared name has the number of a declaration of it, and nothing else has a number.
+-- Each declared name has the number of its first declaration, and nothing else has a number.
 pub record AreNamed {S : Type 0} (entries : List Entry) (numbers : HashMap (ℕ × ℕ) ℕ S) : Type 0 where
   pub has : (k : ℕ) (e : Entry) → slice_get entries k ≡ Some e → (n : ℕ) × (number_in numbers (e.name.file, e.name.node) ≡ Some n)
   pub «is» : (n : ℕ) (at : NodeRef) → number_in numbers (at.file, at.node) ≡ Some n → (e : Entry) × (slice_get entries n ≡ Some e) × (e.name ≡ at)
+  pub first : (n j : ℕ) (e : Entry) → number_in numbers (e.name.file, e.name.node) ≡ Some n → slice_get entries j ≡ Some e → n ≤ j
 
 -- the key of the name of a declaration
 abbrev pub IsKeyAt : List Entry → ℕ → ℕ × ℕ → Type 0

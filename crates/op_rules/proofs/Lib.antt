@@ -1,4 +1,3 @@
 mod ApartLaws
 mod LooseLaws
-mod SameLemmas
 mod TypeLemmas

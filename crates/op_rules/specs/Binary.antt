@@ -14,9 +14,8 @@ use Rattle.op_rules.specs.Beside.{goes_beside, agrees}
 use Rattle.op_rules.specs.Comparing.{truth, agreed}
 use Rattle.op_rules.specs.Operands.{Operand, operand_at, need_operand}
 use Rattle.op_rules.specs.Operators.{shifts, equates}
-use Rattle.op_rules.specs.Same.{are_one}
 use Rattle.op_rules.specs.Shifts.{shift_of_parts}
-use Rattle.op_rules.specs.Types.{is_of, is_basic, is_interface}
+use Rattle.op_rules.specs.Types.{are_one, is_of, is_basic, is_interface}
 
 -- ---- E33: typed operands of different types
 

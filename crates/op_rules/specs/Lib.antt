@@ -10,7 +10,6 @@ pub mod Operators
 pub mod Placed
 pub mod Results
 pub mod Rules
-pub mod Same
 pub mod Shifts
 pub mod Types
 pub mod Unary

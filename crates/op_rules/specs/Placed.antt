@@ -11,7 +11,7 @@ use Rattle.typed_tree.specs.declared.mark.Mode.TheVariants as mode
 use Rattle.typed_tree.specs.declared.place.Want.{Want as Demand}
 use Rattle.typed_tree.specs.declared.place.Want.TheVariants as demand
 use Rattle.typed_tree.specs.declared.rule.Rule.{Rule as RuleNumber}
-use Rattle.op_rules.specs.declared.numbers.TheConstants.{SEVERAL_VALUES}
+use Rattle.typed_tree.specs.declared.rule.TheConstants.{SEVERAL_VALUES}
 use Rattle.typed_tree.specs.declared.rule.TheConstants.{NOT_A_TYPE, NOT_A_VALUE, NIL_WITHOUT_A_TYPE, CONSTANT_OVERFLOW, NOT_ASSIGNABLE, NOT_CONSTANT}
 use Rattle.typed_tree.specs.Operands.{fits_in}
 use Rattle.typed_tree.specs.Places.{is_single, is_type, is_constant, is_nil_mode, is_package}

@@ -3,6 +3,7 @@ use Rattle.std.specs.Prelude.{Bool, true, false, ◌&&◌, ◌||◌, if◌then�
 use Rattle.std.specs.Option.{option_map_or}
 use Rattle.gv_base.specs.declared.constant.Kind.{Kind}
 use Rattle.type_model.specs.GoTypes.{GoType, GoMethods, BasicType, DefinedType, PointerTo, SliceOf, ArrayOf, MapOf, ChanOf, FuncOf, StructOf, InterfaceOf, NoMethod, AndMethod}
+use Rattle.same_types.specs.Same.{same_type}
 use Rattle.type_rel.specs.Kinds.{is_untyped, is_integer}
 use Rattle.type_rel.specs.Terms.{kind_of}
 use Rattle.typed_tree.specs.Operands.{is_text, is_boolean, is_nil, is_rune}
@@ -29,6 +30,10 @@ is_interface (StructOf fields) = false
 abbrev pub has_none : GoMethods → Bool
 has_none NoMethod = true
 has_none (AndMethod name owner pointer of methods) = false
+
+-- the types are one
+unfoldable pub are_one : GoType → GoType → Bool
+are_one a b = same_type a b
 
 -- an untyped operand takes its default type where this underlying type is wanted
 unfoldable pub takes_default : Option GoType → Bool

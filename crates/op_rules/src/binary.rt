@@ -11,7 +11,6 @@ ghost use Rattle.op_rules.specs.InCode.{operand_in, IsOperandOf, wish_of, IsWish
 use crate::beside::{agrees, goes_beside};
 use crate::comparing::judge_agreed;
 use crate::different::judge_different;
-use crate::numbers::MISMATCHED_OPERANDS;
 use crate::operand::{Operand, bad, operand_at, silent};
 use crate::operators::shifts;
 use crate::shift::judge_shift;
@@ -21,6 +20,7 @@ use gv_base::NoMemory;
 use rule_words::{Seen, Step};
 use std::alloc::Global;
 use typed_marks::{State, Want};
+use typed_tree::MISMATCHED_OPERANDS;
 
 // ---- E33
 

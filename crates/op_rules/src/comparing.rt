@@ -10,7 +10,6 @@ ghost use Rattle.rule_words.specs.Steps.{step_in, IsStepOf};
 ghost use Rattle.op_rules.specs.Comparing.{truth, has_nil, comparable_ask, type_compared, basic_compared, equated, is_defined_at, operated, agreed};
 ghost use Rattle.op_rules.specs.InCode.{operand_in, IsOperandOf, wish_of, IsWishOf};
 
-use crate::numbers::{NOT_COMPARABLE, OPERATOR_NOT_DEFINED};
 use crate::operand::{Operand, bad};
 use crate::operators::{equates, takes_two, tells_apart};
 use crate::results::judge_result;
@@ -21,7 +20,7 @@ use rule_words::{Answer, Asked, Rest, Step, operand};
 use std::alloc::Global;
 use type_model::TypeId;
 use typed_marks::{Mark, State, Want};
-use typed_tree::Mode;
+use typed_tree::{Mode, NOT_COMPARABLE, OPERATOR_NOT_DEFINED};
 
 /// A comparison that is no constant.
 #[tactic(auto, unfolding(crate::specs::Comparing::truth))]

@@ -8,13 +8,13 @@ ghost use Rattle.op_rules.specs.Binary.{pair_of, pair_ask, are_basic, is_open, d
 ghost use Rattle.op_rules.specs.InCode.{operand_in, IsOperandOf, wish_of, IsWishOf};
 
 use crate::comparing::truth;
-use crate::numbers::MISMATCHED_OPERANDS;
 use crate::operand::{Operand, bad};
 use crate::operators::equates;
 use crate::types::{is_basic, is_interface};
 use const_eval::Operator;
 use rule_words::{Asked, Pair, Rest, Step};
 use typed_marks::{State, Want};
+use typed_tree::MISMATCHED_OPERANDS;
 
 #[tactic(auto, unfolding(crate::specs::Binary::pair_of))]
 fn pair_of(s: &State, x: Operand, y: Operand, want: Want) -> Pair

@@ -14,7 +14,6 @@ ghost use Rattle.op_rules.specs.Placed.{is_whole, overflows, goes_into, overflow
 ghost use Rattle.op_rules.specs.InCode.{facts_in, AreFactsOf};
 
 use crate::kinds::fits_in;
-use crate::numbers::CONSTANT_OVERFLOW;
 use crate::operand::value_at;
 use crate::types::{is_untyped, kind_of};
 use gv_base::{Const, Kind};
@@ -23,6 +22,7 @@ use type_model::TypeId;
 use type_questions::Found;
 use type_rel::has_integers;
 use typed_marks::{ConstId, Facts, Item, Mark, State};
+use typed_tree::CONSTANT_OVERFLOW;
 use unit_read::Subject;
 
 fn is_whole(c: &Const) -> bool

@@ -12,7 +12,6 @@ mod kinds;
 mod laws;
 mod modes;
 mod name;
-mod numbers;
 mod operand;
 mod operators;
 mod placed;

@@ -19,7 +19,6 @@ ghost use Rattle.op_rules.specs.Names.{with_last, wished, begins, is_within_spec
 ghost use Rattle.op_rules.specs.InCode.{wish_of, IsWishOf};
 
 use crate::modes::is_package;
-use crate::numbers::{NO_SUCH_FIELD_OR_METHOD, NOT_EXPORTED_BY_PACKAGE, UNDEFINED};
 use crate::operand::{bad, outside, silent};
 use crate::types::is_basic;
 use const_tree::Spec;
@@ -31,7 +30,10 @@ use std::alloc::Global;
 use type_model::TypeId;
 use type_questions::Found;
 use typed_marks::{Facts, Mark, Stage, State, Want};
-use typed_tree::{Mark as TreeMark, Mode, Want as Demand, judge_blank, judge_predeclared};
+use typed_tree::{
+    Mark as TreeMark, Mode, NO_SUCH_FIELD_OR_METHOD, NOT_EXPORTED_BY_PACKAGE, UNDEFINED,
+    Want as Demand, judge_blank, judge_predeclared,
+};
 use unit_read::{Subject, exported_of, judge_lead};
 
 // ---- final types

@@ -17,16 +17,16 @@ ghost use Rattle.typed_tree.specs.declared.rule.TheConstants.{NOT_ASSIGNABLE as 
 
 use crate::fitting::represented;
 use crate::modes::{is_constant, is_many, is_nil_mode, is_package, is_single, is_type};
-use crate::numbers::{
-    NIL_WITHOUT_A_TYPE, NOT_A_TYPE, NOT_A_VALUE, NOT_ASSIGNABLE, NOT_CONSTANT, SEVERAL_VALUES,
-};
 use crate::types::takes_default;
 use crate::wishes::is_shifted;
 use rule_words::{Answer, Asked, Rest, Step, Wanted, under_of};
 use type_model::TypeId;
 use type_questions::Found;
 use typed_marks::{ConstId, Facts, Mark, State, Want};
-use typed_tree::{Mode, Rule, Want as Demand};
+use typed_tree::{
+    Mode, NIL_WITHOUT_A_TYPE, NOT_A_TYPE, NOT_A_VALUE, NOT_ASSIGNABLE, NOT_CONSTANT, Rule,
+    SEVERAL_VALUES, Want as Demand,
+};
 use unit_read::Subject;
 
 // ---- E30

@@ -8,7 +8,6 @@ ghost use Rattle.rule_words.specs.Answers.{answer_in, IsAnswerOf};
 ghost use Rattle.op_rules.specs.Results.{result_type, beside_value, two_valued, result_at, result_of, undivided, divides_by_zero, result_mark};
 ghost use Rattle.op_rules.specs.InCode.{operand_in, IsOperandOf, wish_of, IsWishOf};
 
-use crate::numbers::DIVISION_BY_ZERO;
 use crate::operand::{Operand, bad, value_at};
 use crate::operators::{compares, divides};
 use crate::shift::value_of_two;
@@ -20,6 +19,7 @@ use rule_words::Answer;
 use std::alloc::Global;
 use type_model::TypeId;
 use typed_marks::{ConstId, State, Want};
+use typed_tree::DIVISION_BY_ZERO;
 
 /// A comparison gives an untyped boolean.
 #[tactic(auto, unfolding(crate::specs::Results::result_type))]

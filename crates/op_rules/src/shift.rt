@@ -14,7 +14,6 @@ ghost use Rattle.op_rules.specs.Shifts.{counts_by, is_count, shifted_type, shift
 ghost use Rattle.op_rules.specs.InCode.{operand_in, IsOperandOf, wish_of, IsWishOf};
 
 use crate::kinds::fits_in;
-use crate::numbers::{BAD_SHIFT_COUNT, SHIFTED_OPERAND_IS_NOT_AN_INTEGER};
 use crate::operand::{Operand, bad, operand_at, silent, value_at};
 use crate::operators::mark_of;
 use crate::types::{basic_type, is_integer, is_untyped};
@@ -25,6 +24,7 @@ use rule_words::{Answer, Seen, Step};
 use std::alloc::Global;
 use type_model::TypeId;
 use typed_marks::{ConstId, State, Want};
+use typed_tree::{BAD_SHIFT_COUNT, SHIFTED_OPERAND_IS_NOT_AN_INTEGER};
 
 /// An integer that isn't negative.
 fn is_natural(c: &Const) -> bool

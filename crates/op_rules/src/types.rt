@@ -9,11 +9,11 @@ ghost use Rattle.type_rel.specs.Terms.{kind_of, kind_in};
 ghost use Rattle.typed_tree.specs.Basics.{HasBasics};
 ghost use Rattle.typed_tree.specs.Operands.{is_nil, is_rune};
 ghost use Rattle.rule_words.specs.Scenes.{type_in, IsTypeOf, MayBeTypeOf};
-ghost use Rattle.op_rules.specs.Same.{same_type, are_one};
-ghost use Rattle.op_rules.specs.Types.{is_of, is_basic, is_interface, takes_default, has_none, is_empty_interface, counted, common, alike, are_alike};
+ghost use Rattle.op_rules.specs.Types.{is_of, is_basic, is_interface, takes_default, has_none, is_empty_interface, are_one, counted, common, alike, are_alike};
 
 use crate::kinds::{alike, is_nil, is_rune};
 use gv_base::Kind;
+use same_types::same_type;
 use type_model::{Method, Term, TypeId};
 use type_rel::{has_integers, is_free};
 use typed_marks::State;
@@ -220,24 +220,15 @@ pub fn holds_nil(s: &State, t: TypeId) -> bool
     holds_nil_term(s, s.table.term(t))
 }
 
-fn same_type(s: &State, a: TypeId, b: TypeId) -> bool
-    requires basics { HasBasics s.now.table }
-    requires first { IsTypeOf s.now a }
-    requires second { IsTypeOf s.now b }
-    ensures { result ≡ same_type (type_in s.now a) (type_in s.now b) }
-{
-    s.table.same(a, b)
-}
-
 /// The types are one.
-#[tactic(auto, unfolding(crate::specs::Same::are_one))]
+#[tactic(auto, unfolding(crate::specs::Types::are_one))]
 pub fn are_one(s: &State, a: TypeId, b: TypeId) -> bool
     requires basics { HasBasics s.now.table }
     requires first { IsTypeOf s.now a }
     requires second { IsTypeOf s.now b }
     ensures { result ≡ are_one (type_in s.now a) (type_in s.now b) }
 {
-    same_type(s, a, b)
+    same_type(&s.table, a, b)
 }
 
 /// The type at which operators count an operand.

@@ -12,7 +12,6 @@ ghost use Rattle.op_rules.specs.Types.{is_of};
 ghost use Rattle.op_rules.specs.Unary.{value_of_one, one_valued, unary_mark, unary_of_part, unary_with, unary_by};
 ghost use Rattle.op_rules.specs.InCode.{operand_in, IsOperandOf, wish_of, IsWishOf};
 
-use crate::numbers::OPERATOR_NOT_DEFINED;
 use crate::operand::{Operand, bad, operand_at, silent, value_at};
 use crate::operators::{mark_of, takes_address, takes_alone};
 use crate::types::kind_of;
@@ -23,6 +22,7 @@ use rule_words::{Answer, Seen, Step};
 use std::alloc::Global;
 use type_model::TypeId;
 use typed_marks::{State, Want};
+use typed_tree::OPERATOR_NOT_DEFINED;
 
 #[tactic(auto, unfolding(crate::specs::Types::is_of))]
 fn is_defined(s: &State, op: Operator, at: TypeId) -> bool

@@ -8,7 +8,6 @@ ghost use Rattle.op_rules.specs.Operands.{fits_at, valued, wide, folded, compute
 ghost use Rattle.op_rules.specs.InCode.{wish_of, IsWishOf};
 
 use crate::kinds::holds;
-use crate::numbers::{CONSTANT_OVERFLOW, DIVISION_BY_ZERO};
 use crate::operand::{bad, outside, silent, value_at};
 use crate::types::{is_untyped, kind_of};
 use const_eval::ConstAnswer;
@@ -16,7 +15,7 @@ use gv_base::Const;
 use rule_words::{Answer, last_of, operand};
 use type_model::TypeId;
 use typed_marks::{ConstId, State, Want};
-use typed_tree::{Limit, Mode};
+use typed_tree::{CONSTANT_OVERFLOW, DIVISION_BY_ZERO, Limit, Mode};
 
 #[tactic(auto, unfolding(crate::specs::Types::is_of))]
 fn fits_at(s: &State, c: &Const, at: TypeId) -> bool

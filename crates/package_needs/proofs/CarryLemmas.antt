@@ -6,16 +6,12 @@ use Rattle.go_tree.specs.declared.tree.FileTree.{FileTree}
 use Rattle.go_tree.specs.declared.tree.Node.{Node}
 use Rattle.go_tree.specs.declared.tree.NodeRef.{NodeRef}
 use Rattle.std.specs.Global.{Vec}
-use Rattle.object_order.specs.declared.needed.Needed.{Needed}
 use Rattle.object_order.specs.declared.spot.Entry.{Entry}
 use Rattle.object_order.specs.declared.spot.Form.{Form}
 use Rattle.object_order.specs.declared.spot.Role.{Role}
 use Rattle.object_order.specs.Cases.{IsPart, Within, itself, deeper, Plainly, at_once, under_plain, IsMention, Mentions, MentionsDirectly, Is, IsRoot, HasMention, RestsOn, IsMethodOf, own, by_name, Reaches, ReachedFrom, there, on, NamesAlone, names, follows, in_parens, Embeds, IsType, StepsTo, to_alias, to_embedded, to_named, NeedsOf, by_type, by_alias, by_expression, by_steps}
-use Rattle.object_order.specs.Names.{IsNamed}
-use Rattle.object_order.specs.Orders.{IsNeedOrder}
 use Rattle.object_order.specs.Paths.{Path, Leads}
 use Rattle.object_order.specs.Spots.{World}
-use Rattle.package_objects.specs.Declares.{declared}
 use Rattle.package_needs.specs.Keys.{up, IsMentioned, AreMentions}
 use Rattle.package_needs.specs.Worlds.{IsPackage}
 
@@ -92,7 +88,7 @@ path : {A : Type 0} (one two : A → A → Type 0) → ((a b : A) → one a b �
 path one two to a b [] edge = to a b edge
 path one two to a b (x ∷ via) (edge, rest) = (to a x edge, path one two to x b via rest)
 
-leads : {A : Type 0} (one two : A → A → Type 0) → ((a b : A) → one a b → two a b) → (a b : A) → Leads one a b → Leads two a b
+pub leads : {A : Type 0} (one two : A → A → Type 0) → ((a b : A) → one a b → two a b) → (a b : A) → Leads one a b → Leads two a b
 leads one two to a b (via, p) = (via, path one two to a b via p)
 
 pub needs : {w v : World} → Carries w v → {o u : NodeRef} → NeedsOf w o u → NeedsOf v o u
@@ -122,11 +118,3 @@ carries uses trees rows w_names w v one two = record {
   entry = λ at. ap (λ (g : NodeRef → Option Entry). g at) (one.same_entries ∙ sym two.same_entries);
   kin = λ t m among. (two.methods t m).1 ((one.methods t m).0 among);
 }
-
-pub one_marking : (uses : List (NodeRef × Object)) (trees : List FileTree) (rows : List (Vec (Option NodeRef))) (w_names w v : World) (one two : List Needed)
-    → IsPackage uses trees rows w_names w → IsPackage uses trees rows w_names v → IsNeedOrder (NeedsOf w) (IsNamed (declared trees rows)) one → IsNeedOrder (NeedsOf v) (IsNamed (declared trees rows)) two
-    → (j k : ℕ) (e g : Needed) → slice_get one j ≡ Some e → slice_get two k ≡ Some g → e.object ≡ g.object → IsTrue e.cyclic ↔ IsTrue g.cyclic
-one_marking uses trees rows w_names w v one two p q first second j k e g e_at g_at same = (
-  λ marked. (second.cyclic k g g_at).1 (subst (λ (o : NodeRef). Leads (NeedsOf v) o o) same (leads (NeedsOf w) (NeedsOf v) (λ a b n. needs (carries uses trees rows w_names w v p q) n) e.object e.object ((first.cyclic j e e_at).0 marked))),
-  λ marked. (first.cyclic j e e_at).1 (subst (λ (o : NodeRef). Leads (NeedsOf w) o o) (sym same) (leads (NeedsOf v) (NeedsOf w) (λ a b n. needs (carries uses trees rows w_names v w q p) n) g.object g.object ((second.cyclic k g g_at).0 marked))),
-)

@@ -4,7 +4,7 @@ use Rattle.go_tree.specs.declared.tree.NodeRef.{NodeRef}
 use Rattle.object_order.specs.Spots.{World}
 use Rattle.package_needs.specs.declared.kin.Method.{Method}
 use Rattle.package_needs.specs.Follow.{kind_at, part_in, IsEnd}
-use Rattle.package_needs.specs.Kin.{is_star, is_method, only_type, IsBase, IsOf, IsReceiver, IsMethod, IsBaseOf, IsTarget, IsBaseBy, IsReceiverOf, IsMethodAt, method}
+use Rattle.package_needs.specs.Kin.{is_star, is_method, only_type, IsBase, IsOf, IsReceiver, IsMethod, IsBaseOf, IsTarget, IsBaseBy, IsReceiverOf, IsMethodAt, IsOwnerAt, method}
 use Rattle.package_needs.proofs.Lists.{same_some}
 
 absent : {A P : Type 0} (o : Option A) (x : A) → o ≡ None → o ≡ Some x → P
@@ -64,3 +64,18 @@ method_some w at receiver name b kind has name_is of t m = (forth, back) where
 
 pub method_none : (w : World) (at : NodeRef) → option_and_then (λ list. only_type w list) (part_in w 0 at) ≡ None → IsMethodAt w at None
 method_none w at none t m = (λ is. absent {A = Method} None (made t m) refl is, λ d. absent (option_and_then (λ list. only_type w list) (part_in w 0 at)) d.receiver none (ap (λ o. option_and_then (λ list. only_type w list) o) d.has ∙ d.only))
+
+-- ---- the type of a method
+
+abbrev of_method : Option Method → Option NodeRef
+of_method None = None
+of_method (Some m) = Some m.of
+
+pub owner_some : (w : World) (at : NodeRef) (o : Option Method) (m : Method) → o ≡ Some m → IsMethodAt w at o → IsOwnerAt w at (Some m.of)
+owner_some w at o m e is t = (
+  λ f. subst (λ (x : NodeRef). (n : NodeRef) × IsMethod w at x n) (same_some (Some m.of) m.of t refl f) (m.name, (is m.of m.name).0 e),
+  λ has. ap of_method (sym e ∙ (is t has.0).1 has.1),
+)
+
+pub owner_none : (w : World) (at : NodeRef) (o : Option Method) → o ≡ None → IsMethodAt w at o → IsOwnerAt w at None
+owner_none w at o e is t = (λ f. absurd (cc), λ has. let f : o ≡ Some (record { of = t; name = has.0 }) = (is t has.0).1 has.1 in absurd (cc))

@@ -10,3 +10,4 @@ mod AboveLemmas
 mod MentionLemmas
 mod WorldLemmas
 mod CarryLemmas
+pub mod OneLemmas

@@ -94,6 +94,10 @@ AreMethods w kin = (t m : NodeRef) → Among m (kin t) ↔ ((at : NodeRef) × Is
 abbrev pub IsMethodAt : World → NodeRef → Option Method → Type 0
 IsMethodAt w at o = (t m : NodeRef) → (o ≡ Some (record { of = t; name = m })) ↔ IsMethod w at t m
 
+-- the type of which a node declares a method, if it declares one
+abbrev pub IsOwnerAt : World → NodeRef → Option NodeRef → Type 0
+IsOwnerAt w at o = (t : NodeRef) → (o ≡ Some t) ↔ ((m : NodeRef) × IsMethod w at t m)
+
 abbrev pub IsBaseOf : World → NodeRef → Option NodeRef → Type 0
 IsBaseOf w at o = (t : NodeRef) → (o ≡ Some t) ↔ IsBase w at t
 

@@ -1,5 +1,5 @@
 -- What is known of a package, from its trees and from what its uses denote, and an order of need of its objects.
-use Rattle.std.specs.Prelude.{◌≡◌, ℕ, List, length, Option, Some, None, slice_get, option_and_then, ◌↔◌, IsTrue}
+use Rattle.std.specs.Prelude.{◌≡◌, ◌≤◌, ℕ, List, [], length, Option, Some, None, slice_get, option_and_then, ◌↔◌, IsTrue}
 use Rattle.std.specs.Global.{Vec}
 use Rattle.go_tree.specs.Bindings.{Has}
 use Rattle.go_tree.specs.declared.bindings.Object.{Object}
@@ -15,7 +15,7 @@ use Rattle.object_order.specs.Spots.{World}
 use Rattle.object_order.specs.Views.{node_in, meant_in}
 use Rattle.package_objects.specs.Declares.{declared}
 use Rattle.package_needs.specs.Keys.{up, AreMentions, IsRowBy}
-use Rattle.package_needs.specs.Kin.{AreMethods}
+use Rattle.package_needs.specs.Kin.{IsOwnerAt, AreMethods}
 
 -- the declared name of the package for which an object stands
 abbrev pub name_of : Object → Option NodeRef
@@ -34,18 +34,26 @@ pub record AreDenoted (uses : List (NodeRef × Object)) (trees : List FileTree) 
   pub each : (f : ℕ) (row : Vec (Option NodeRef)) → slice_get rows f ≡ Some row
       → (tree : FileTree) × (slice_get trees f ≡ Some tree) × IsRowBy (DenotesName uses) f row.items (length tree.nodes)
 
--- each declared name has a declaration of it, and nothing else has one
+-- The declaration stands in the list, and none of the same name before it.
+pub record IsFirstOf (entries : List Entry) (at : NodeRef) (e : Entry) : Type 0 where
+  pub number : ℕ
+  pub here : slice_get entries number ≡ Some e
+  pub named : e.name ≡ at
+  pub first : (j : ℕ) (d : Entry) → slice_get entries j ≡ Some d → d.name ≡ at → number ≤ j
+
+-- each declared name has its first declaration, and nothing else has one
 pub record AreEntries (entries : List Entry) (entry : NodeRef → Option Entry) : Type 0 where
   pub has : (k : ℕ) (e : Entry) → slice_get entries k ≡ Some e → (d : Entry) × (entry e.name ≡ Some d)
-  pub «is» : (at : NodeRef) (e : Entry) → entry at ≡ Some e → (k : ℕ) × (slice_get entries k ≡ Some e) × (e.name ≡ at)
+  pub «is» : (at : NodeRef) (e : Entry) → entry at ≡ Some e → IsFirstOf entries at e
 
--- What is known of a package: its nodes, what they mention, its declarations, and the methods of its types. `names` is the same where a
--- node mentions what it denotes: by it types are followed.
+-- What is known of a package: its nodes, what they mention, its declarations, and the methods of its types. In `names` a node
+-- mentions what it denotes, and types have no methods yet: by it types are followed.
 pub record IsPackage (uses : List (NodeRef × Object)) (trees : List FileTree) (rows : List (Vec (Option NodeRef))) (names w : World) : Type 0 where
   pub denoted : AreDenoted uses trees rows
   pub nodes : names.node ≡ node_in trees
   pub denotes : names.meant ≡ meant_in rows
   pub entries : AreEntries (declared trees rows) names.entry
+  pub bare : (at : NodeRef) → names.kin at ≡ []
   pub same_nodes : w.node ≡ names.node
   pub same_entries : w.entry ≡ names.entry
   pub mentions : AreMentions names (up trees) w.meant
@@ -58,6 +66,21 @@ pub record IsOrderOf (uses : List (NodeRef × Object)) (trees : List FileTree) (
   pub world : World
   pub «is» : IsPackage uses trees rows names world
   pub ordered : IsNeedOrder (NeedsOf world) (IsNamed (declared trees rows)) order
+
+-- for each node of each file the type of which it declares a method
+pub record AreOwners (w : World) (trees : List FileTree) (rows : List (Vec (Option NodeRef))) : Type 0 where
+  pub size : length rows ≡ length trees
+  pub each : (f : ℕ) (row : Vec (Option NodeRef)) → slice_get rows f ≡ Some row
+      → (tree : FileTree) × (slice_get trees f ≡ Some tree) × IsRowBy (IsOwnerAt w) f row.items (length tree.nodes)
+
+-- The objects that the trees declare, in an order of need, and the types of their methods.
+pub record AreNeedsOf (uses : List (NodeRef × Object)) (trees : List FileTree) (order : List Needed) (owners : List (Vec (Option NodeRef))) : Type 0 where
+  pub rows : List (Vec (Option NodeRef))
+  pub names : World
+  pub world : World
+  pub «is» : IsPackage uses trees rows names world
+  pub ordered : IsNeedOrder (NeedsOf world) (IsNamed (declared trees rows)) order
+  pub owned : AreOwners names trees owners
 
 -- two lists mark an object that stands in both alike
 abbrev pub MarkTheSame : List Needed → List Needed → Type 0

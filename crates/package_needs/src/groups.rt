@@ -18,8 +18,8 @@ use gv_base::NoMemory;
 use object_order::View;
 use std::alloc::Global;
 
-/// An empty group for each declaration.
-fn blank(alloc: Global, count: usize) -> Result<Vec<Vec<NodeRef>>, NoMemory>
+/// So many empty lists.
+pub fn blank_groups(alloc: Global, count: usize) -> Result<Vec<Vec<NodeRef>>, NoMemory>
     ensures size { IfOk result (λ groups. length groups.items ≡ count) }
     ensures empty { IfOk result (λ groups. (k : ℕ) → group_in groups.items k ≡ []) }
 {
@@ -30,7 +30,8 @@ fn blank(alloc: Global, count: usize) -> Result<Vec<Vec<NodeRef>>, NoMemory>
     Ok(groups)
 }
 
-fn push_at(groups: &mut Vec<Vec<NodeRef>>, n: usize, m: NodeRef) -> Result<(), NoMemory>
+/// Adds a node to the list of this number.
+pub fn push_at(groups: &mut Vec<Vec<NodeRef>>, n: usize, m: NodeRef) -> Result<(), NoMemory>
     requires { n < length groups.old.items }
     ensures { OnOk result (PushesAt groups.old.items groups.new.items n m) }
 {
@@ -152,7 +153,7 @@ pub fn groups_of(alloc: Global, view: &View, tables: &Tables) -> Result<Vec<Vec<
     requires far { AreEnds (world_of view.now) view.now.entries.items true tables.now.far.items }
     ensures { IfOk result (λ groups. AreMethods (world_of view.now) (kin_in groups.items view.now.numbers)) }
 {
-    let mut groups = blank(alloc, count(view))?;
+    let mut groups = blank_groups(alloc, count(view))?;
     let end = view.trees.len();
     if end > 4_294_967_295 {
         return Err(NoMemory);

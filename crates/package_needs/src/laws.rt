@@ -1,6 +1,7 @@
 //! What follows from the definitions alone.
 ghost use Rattle.std.specs.Prelude.{List, Option};
 ghost use Rattle.std.specs.Global.{Vec};
+ghost use Rattle.go_tree.specs.Bindings.{AreInOrder};
 ghost use Rattle.go_tree.specs.declared.bindings.Object.{Object};
 ghost use Rattle.go_tree.specs.declared.tree.FileTree.{FileTree};
 ghost use Rattle.go_tree.specs.declared.tree.NodeRef.{NodeRef};
@@ -14,5 +15,5 @@ ghost use Rattle.package_needs.specs.Worlds.{IsPackage, MarkTheSame};
 
 /// Two orders of need of one package mark the same objects, whatever descriptions of it they go by.
 pub fn orders_mark_the_same()
-    ensures { (uses : List (NodeRef × Object)) → (trees : List FileTree) → (rows : List (Vec (Option NodeRef))) → (names w v : World) → (one two : List Needed) → IsPackage uses trees rows names w → IsPackage uses trees rows names v → IsNeedOrder (NeedsOf w) (IsNamed (declared trees rows)) one → IsNeedOrder (NeedsOf v) (IsNamed (declared trees rows)) two → MarkTheSame one two }
+    ensures { (uses : List (NodeRef × Object)) → (trees : List FileTree) → AreInOrder uses → (a b : List (Vec (Option NodeRef))) → (names other w v : World) → (one two : List Needed) → IsPackage uses trees a names w → IsPackage uses trees b other v → IsNeedOrder (NeedsOf w) (IsNamed (declared trees a)) one → IsNeedOrder (NeedsOf v) (IsNamed (declared trees b)) two → MarkTheSame one two }
 {}

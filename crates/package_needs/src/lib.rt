@@ -11,7 +11,9 @@ mod kin;
 mod laws;
 mod literal;
 mod order;
+mod owners;
 mod read;
 
+pub use groups::{blank_groups, push_at};
 pub use laws::orders_mark_the_same;
-pub use order::needs_order;
+pub use order::{Needs, needs_of, needs_order};

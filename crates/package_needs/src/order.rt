@@ -1,22 +1,32 @@
 //! The order of need of a package's objects.
 ghost use Rattle.std.specs.Prelude.{IfOk};
-ghost use Rattle.package_needs.specs.Worlds.{IsOrderOf};
+ghost use Rattle.package_needs.specs.Worlds.{IsOrderOf, AreNeedsOf};
 
 use crate::denoted::denoted;
 use crate::ends::ends_of;
 use crate::groups::groups_of;
 use crate::keys::mentions_of;
 use crate::kin::Tables;
-use go_tree::{Bindings, FileTree};
+use crate::owners::owners_of;
+use go_tree::{Bindings, FileTree, NodeRef};
 use gv_base::NoMemory;
 use object_order::{Needed, View, numbers_of, order_of};
 use package_objects::entries_of;
 use std::alloc::Global;
 
-/// Each object that the files of a package declare once, after each that it needs and from which its needs don't lead
-/// back to it; marked exactly where they lead to itself. `b` has what the uses in the files denote.
-pub fn needs_order(alloc: Global, b: &Bindings, files: &[FileTree]) -> Result<Vec<Needed>, NoMemory>
-    ensures ordered { IfOk result (λ order. IsOrderOf b.now files.now order.items) }
+/// What a package's declarations need, and whose its methods are.
+#[derive(Drop)]
+pub struct Needs {
+    /// Each object that the files declare once, after each that it needs and from which its needs don't lead back to it; marked exactly
+    /// where they lead to itself.
+    pub order: Vec<Needed>,
+    /// For each node of each file the name of the type of which it declares a method.
+    pub owners: Vec<Vec<Option<NodeRef>>>,
+}
+
+/// What the declarations of a package's files need, and whose its methods are. `b` has what the uses in the files denote.
+pub fn needs_of(alloc: Global, b: &Bindings, files: &[FileTree]) -> Result<Needs, NoMemory>
+    ensures { IfOk result (λ needs. AreNeedsOf b.now files.now needs.order.items needs.owners.items) }
 {
     let rows = denoted(alloc, b, files)?;
     let entries = entries_of(alloc, files, &rows)?;
@@ -33,6 +43,7 @@ pub fn needs_order(alloc: Global, b: &Bindings, files: &[FileTree]) -> Result<Ve
         far: ends_of(alloc, &names, true)?,
     };
     let groups = groups_of(alloc, &names, &tables)?;
+    let owners = owners_of(alloc, &names, &tables, files)?;
     let meant = mentions_of(alloc, &names, &tables.far)?;
     let View {
         entries,
@@ -47,5 +58,13 @@ pub fn needs_order(alloc: Global, b: &Bindings, files: &[FileTree]) -> Result<Ve
         groups,
     };
     let order = order_of(alloc, &view)?;
-    Ok(order)
+    Ok(Needs { order, owners })
+}
+
+/// The order of need alone.
+pub fn needs_order(alloc: Global, b: &Bindings, files: &[FileTree]) -> Result<Vec<Needed>, NoMemory>
+    ensures ordered { IfOk result (λ order. IsOrderOf b.now files.now order.items) }
+{
+    let needs = needs_of(alloc, b, files)?;
+    Ok(needs.order)
 }

@@ -111,7 +111,11 @@ marked_part u h.Mark m = done (part_with m None)
 abbrev pub part_ask : Unit → Stage → ℕ → Read → Asks Part
 part_ask u stage block read = bind (mark_ask u (stage_of read.how stage) block read.node) (λ m. marked_part u read.how m)
 
+-- what is asked for each of a list, in its order
+abbrev pub ask_each : {X R : Type 0} → (X → Asks R) → List X → Asks (List R)
+ask_each f [] = done []
+ask_each f (x ∷ list) = bind (f x) (λ r. bind (ask_each f list) (λ rs. done (r ∷ rs)))
+
 -- the parts of a node, in a passage, each as it is read
 abbrev pub parts_ask : Unit → Stage → ℕ → List Read → Asks (List Part)
-parts_ask u stage block [] = done []
-parts_ask u stage block (read ∷ list) = bind (part_ask u stage block read) (λ p. bind (parts_ask u stage block list) (λ ps. done (p ∷ ps)))
+parts_ask u stage block list = ask_each (part_ask u stage block) list

@@ -27,6 +27,24 @@ pub const NOT_EXPORTED_BY_PACKAGE: Rule = Rule(9);
 /// E10 not a type
 pub const NOT_A_TYPE: Rule = Rule(10);
 
+/// E11 bad array length
+pub const BAD_ARRAY_LENGTH: Rule = Rule(11);
+
+/// E12 bad map key
+pub const BAD_MAP_KEY: Rule = Rule(12);
+
+/// E13 bad embedded type
+pub const BAD_EMBEDDED_TYPE: Rule = Rule(13);
+
+/// E14 duplicate field or method
+pub const DUPLICATE_MEMBER: Rule = Rule(14);
+
+/// E15 embeds no interface
+pub const EMBEDS_NO_INTERFACE: Rule = Rule(15);
+
+/// E16 bad receiver
+pub const BAD_RECEIVER: Rule = Rule(16);
+
 /// E17 blank used as value
 pub const BLANK_USED_AS_VALUE: Rule = Rule(17);
 
@@ -35,6 +53,9 @@ pub const NO_SUCH_FIELD_OR_METHOD: Rule = Rule(20);
 
 /// E24 not a value
 pub const NOT_A_VALUE: Rule = Rule(24);
+
+/// E25 several values
+pub const SEVERAL_VALUES: Rule = Rule(25);
 
 /// E26 nil without a type
 pub const NIL_WITHOUT_A_TYPE: Rule = Rule(26);

@@ -3,6 +3,7 @@ pub mod Exports
 pub mod Imports
 pub mod Index
 pub mod Members
+pub mod Methods
 pub mod Places
 pub mod Passages
 pub mod Rows

@@ -30,7 +30,7 @@ use Rattle.unit_read.specs.Passages.{passages}
 
 -- The path of a package, the texts and trees of its files in the order of their paths, what the uses in them denote, and the interfaces to
 -- which imports lead: of two of one path the first counts; which of the names that it declares are declared before in their block, and which
--- are cyclic: they need themselves.
+-- are cyclic: they need themselves; and of which type a node declares a method.
 pub record Unit : Type 0 where
   pub path : List ℕ
   pub texts : List (List ℕ)
@@ -39,6 +39,7 @@ pub record Unit : Type 0 where
   pub env : List ConstInterface
   pub redeclared : NodeRef → Bool
   pub cyclic : NodeRef → Bool
+  pub owner : NodeRef → Option NodeRef
 
 -- ---- nodes and tokens
 

@@ -2,10 +2,12 @@
 ghost use Rattle.std.specs.Prelude.{◌≡◌, ◌<◌, ◌-◌, Some, false, slice_get, slice_index_or, option_and_then};
 ghost use Rattle.std.specs.Option.{option_copied};
 ghost use Rattle.std.specs.Str.{bytes_eq};
+ghost use Rattle.object_order.specs.Views.{group_in};
 ghost use Rattle.type_model.specs.Tables.{is_same_name};
 ghost use Rattle.unit_read.specs.Units.{text_in, tree_at, nodes_at, node_at, token_at, spelled, object_at, place_at, spec_at, passage_at, name_at, defined, type_name, type_node, copy_at};
 ghost use Rattle.unit_read.specs.Imports.{lead_at};
 ghost use Rattle.unit_read.specs.Members.{is_repeat};
+ghost use Rattle.unit_read.specs.Methods.{methods_of, is_repeated_method};
 ghost use Rattle.unit_read.specs.Subjects.{cell, flag, unit_of, IsRead};
 
 use crate::environment::Environment;
@@ -22,7 +24,8 @@ use type_model::TypeName;
 /// its passages, and a row for each file with what is said of each of its nodes: what it denotes, where it stands, to which specification of
 /// constants it belongs, and to what it leads as an import; the names of its defined types, and the first at package level of each name; and
 /// flags: which names are declared before in their block, which need themselves, and which members of structs and interfaces have the name of
-/// an earlier one; and by which block a list is repeated.
+/// an earlier one; by which block a list is repeated; and of which type a node declares a method, the methods of each type, as lists whose numbers
+/// stand in the cells of `kin`, and which have the name of an earlier one of their type.
 #[derive(Drop)]
 pub struct Subject<'a> {
     pub path: &'a [u8],
@@ -42,6 +45,10 @@ pub struct Subject<'a> {
     pub cyclic: Vec<Vec<bool>>,
     pub repeats: Vec<Vec<bool>>,
     pub copies: Vec<Vec<Option<usize>>>,
+    pub owners: Vec<Vec<Option<NodeRef>>>,
+    pub groups: Vec<Vec<NodeRef>>,
+    pub kin: Vec<Vec<Option<usize>>>,
+    pub repeated: Vec<Vec<bool>>,
 }
 
 fn token_of<'a>(tree: &'a FileTree, token: u32) -> Option<&'a Token>
@@ -91,6 +98,15 @@ fn flag(rows: &Vec<Vec<bool>>, at: NodeRef) -> bool
     match row_at(rows, at.file) {
         Some(row) => flag_at(row, at.node),
         None => false,
+    }
+}
+
+fn group_in(groups: &Vec<Vec<NodeRef>>, k: usize) -> &[NodeRef]
+    ensures { result.now ≡ group_in groups.now.items k }
+{
+    match groups.get(k) {
+        Some(list) => list.as_slice(),
+        None => &[],
     }
 }
 
@@ -243,6 +259,32 @@ impl<'a> Subject<'a> {
         ensures { result ≡ copy_at (unit_of self.now) spec }
     {
         cell(&self.copies, spec)
+    }
+
+    /// The type of which a node declares a method, by the node of its name.
+    pub fn owner(&self, at: NodeRef) -> Option<NodeRef>
+        ensures { result ≡ (unit_of self.now).owner at }
+    {
+        cell(&self.owners, at)
+    }
+
+    /// The nodes that declare the methods of the type whose name stands at a node, in order of file and node.
+    pub fn methods_of(&self, name: NodeRef) -> &[NodeRef]
+        requires { IsRead self.now }
+        ensures { result.now ≡ methods_of (unit_of self.now) name }
+    {
+        match cell(&self.kin, name) {
+            Some(k) => group_in(&self.groups, k),
+            None => &[],
+        }
+    }
+
+    /// Whether the method that a node declares has the name of an earlier one of its type.
+    pub fn is_repeated_method(&self, at: NodeRef) -> bool
+        requires { IsRead self.now }
+        ensures { result ≡ is_repeated_method (unit_of self.now) at }
+    {
+        flag(&self.repeated, at)
     }
 
     fn is_called(&self, at: NodeRef, name: &TypeName) -> bool

@@ -7,3 +7,4 @@ pub mod NamedLemmas
 pub mod ListLemmas
 pub mod FlagLemmas
 pub mod CyclicLemmas
+pub mod MethodLemmas

@@ -1,5 +1,5 @@
 -- What is known of a package while its rows are made.
-use Rattle.std.specs.Prelude.{◌≡◌, ℕ, Bool, true, false, List}
+use Rattle.std.specs.Prelude.{◌≡◌, ℕ, Bool, true, false, List, Option}
 use Rattle.std.specs.Global.{Vec}
 use Rattle.std.specs.HashMap.{HashMap}
 use denote.Ref.{Bor}
@@ -12,14 +12,16 @@ use Rattle.unit_read.specs.Index.{AddsName}
 use Rattle.unit_read.specs.Subjects.{cell, flag, unit_of}
 use Rattle.unit_read.specs.Units.{Unit, name_at, place_at, is_top}
 
--- the package of these files, uses, interfaces and flags
-abbrev pub package_unit : List ℕ → List (List ℕ) → List FileTree → List (NodeRef × Object) → List ConstInterface → List (Vec Bool) → List (Vec Bool) → Unit
-package_unit path texts trees uses env redeclared cyclic =
-    record { path = path; texts = texts; trees = trees; uses = uses; env = env; redeclared = flag redeclared; cyclic = flag cyclic }
+-- the package of these files, uses, interfaces, flags and types of methods
+abbrev pub package_unit : List ℕ → List (List ℕ) → List FileTree → List (NodeRef × Object) → List ConstInterface → List (Vec Bool) → List (Vec Bool)
+    → List (Vec (Option NodeRef)) → Unit
+package_unit path texts trees uses env redeclared cyclic owners =
+    record { path = path; texts = texts; trees = trees; uses = uses; env = env; redeclared = flag redeclared; cyclic = flag cyclic; owner = cell owners }
 
 -- the package with these flags
 abbrev pub with_flags : Unit → List (Vec Bool) → List (Vec Bool) → Unit
-with_flags u redeclared cyclic = package_unit u.path u.texts u.trees u.uses u.env redeclared cyclic
+with_flags u redeclared cyclic =
+    record { path = u.path; texts = u.texts; trees = u.trees; uses = u.uses; env = u.env; redeclared = flag redeclared; cyclic = flag cyclic; owner = u.owner }
 
 -- the rows of places are made
 abbrev pub IsPlaced : Subject → Type 0

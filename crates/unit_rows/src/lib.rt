@@ -10,6 +10,7 @@ mod laws;
 mod listing;
 mod locals;
 mod members;
+mod methods;
 mod objects;
 mod package_block;
 mod reader;

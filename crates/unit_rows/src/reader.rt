@@ -10,18 +10,20 @@ ghost use Rattle.unit_rows.specs.Rows.{AreSmall};
 use crate::copies::copy_rows;
 use crate::listing::defined;
 use crate::locals::local_rows;
+use crate::methods::method_rows;
 use crate::objects::object_rows;
 use crate::repeats::repeat_rows;
 use crate::rows::{place_rows, spec_rows};
 use crate::types::named_types;
-use go_tree::{Bindings, FileTree};
+use go_tree::{Bindings, FileTree, NodeRef};
 use gv_base::NoMemory;
 use std::alloc::Global;
 use std::collections::HashMap;
 use unit_read::{Environment, Subject, lead_rows, passages};
 
 /// Reads a package: its path, the bytes of its files and their trees, what the uses in them denote, the interfaces to which their imports may
-/// lead, and for each node of each file whether it is a name that is declared before in its block, and whether it is one that needs itself.
+/// lead, and for each node of each file whether it is a name that is declared before in its block, whether it is one that needs itself, and of
+/// which type it declares a method.
 pub fn read_unit<'a>(
     alloc: Global,
     path: &'a [u8],
@@ -31,13 +33,14 @@ pub fn read_unit<'a>(
     env: &'a Environment<'a>,
     redeclared: Vec<Vec<bool>>,
     cyclic: Vec<Vec<bool>>,
+    owners: Vec<Vec<Option<NodeRef>>>,
 ) -> Result<Subject<'a>, NoMemory>
     requires small { AreSmall trees.now }
     requires few { length trees.now ≤ 2 ^ 32 }
     requires uses { AreInOrder uses.now }
     requires env { IsEnvironment env.now }
     ensures read { IfOk result (λ s. IsRead s) }
-    ensures of { IfOk result (λ s. unit_of s ≡ package_unit path.now (texts_of texts.now) trees.now uses.now env.now.interfaces.now redeclared.items cyclic.items) }
+    ensures of { IfOk result (λ s. unit_of s ≡ package_unit path.now (texts_of texts.now) trees.now uses.now env.now.interfaces.now redeclared.items cyclic.items owners.items) }
 {
     let passages = passages(alloc, trees)?;
     let objects = object_rows(alloc, uses, trees)?;
@@ -64,6 +67,10 @@ pub fn read_unit<'a>(
         cyclic,
         repeats: Vec::new(alloc),
         copies,
+        owners,
+        groups: Vec::new(alloc),
+        kin: Vec::new(alloc),
+        repeated: Vec::new(alloc),
     };
     let locals = local_rows(alloc, &s)?;
     s.locals = locals;
@@ -71,6 +78,10 @@ pub fn read_unit<'a>(
     s.named = named;
     let repeats = repeat_rows(alloc, &s)?;
     s.repeats = repeats;
+    let methods = method_rows(alloc, &s)?;
+    s.groups = methods.groups;
+    s.kin = methods.kin;
+    s.repeated = methods.repeated;
     Ok(s)
 }
 

@@ -9,9 +9,9 @@ use Rattle.rule_words.specs.Scenes.{said}
 use Rattle.decl_rules.specs.Under.{own_rule}
 use Rattle.decl_rules.proofs.under.asked.Goals as goal
 
-pub returns-in-Is-clause-is : goal.returns-in-Is-clause-is
-returns-in-Is-clause-is c =
+pub returns-in_ok-declaring-in-Is-clause-is : goal.returns-in_ok-declaring-in-Is-clause-is
+returns-in_ok-declaring-in-Is-clause-is c =
     let s = c.args.s.now in
     let u = unit_of c.args.u.now in
-    c.own.ensures.is
+    c.in_ok-declaring-in-Is.ensures.is
     ∙ sym (told_bind (so_far s) (mark_ask u st.Object c.args.name.file c.args.name.node) (λ m. own_rule u c.args.name m) (Says (said s c.in-Is.m)) (sym c.in-Is.ensures.is))

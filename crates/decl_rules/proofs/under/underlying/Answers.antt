@@ -8,8 +8,8 @@ use Rattle.rule_words.specs.Scenes.{type_in}
 use Rattle.decl_rules.specs.Under.{declaring}
 use Rattle.decl_rules.proofs.under.underlying.Goals as goal
 
-pub returns-in-Is-clause-is : goal.returns-in-Is-clause-is
-returns-in-Is-clause-is c =
+pub returns-in_ok-declaring-in-Is-clause-is : goal.returns-in_ok-declaring-in-Is-clause-is
+returns-in_ok-declaring-in-Is-clause-is c =
     let s = c.args.s.now in
-    c.declaring.ensures.is
-    ∙ sym (told_bind (so_far s) (under_ask (unit_of c.args.u.now) (type_in s c.args.x.of)) (λ under. declaring under) (Says (option_map (type_in s) c.in-Is.under)) (sym c.in-Is.ensures.is))
+    c.in_ok-declaring-in-Is.ensures.is
+    ∙ sym (told_bind (so_far s) (under_ask (unit_of c.args.u.now) (type_in s c.args.x.of)) (λ under. declaring (unit_of c.args.u.now) c.args.name under) (Says (option_map (type_in s) c.in-Is.under)) (sym c.in-Is.ensures.is))

@@ -1,12 +1,6 @@
-use Rattle.package_needs.proofs.WorldLemmas.{order_is}
 use Rattle.package_needs.proofs.order.needs_order.Goals as goal
-
-pub order_of-requires : goal.order_of-requires
-order_of-requires c = c.in_ok-numbers.ensures
 
 pub returns : goal.returns
 returns c = record {
-  ordered = order_is c.args.b.now c.args.files.now c.in_ok-rows.rows.items c.deref.result.now c.deref-2.result.now c.deref-3.result.now c.in_ok-meant.meant.items c.in_ok-entries.entries.items
-      c.in_ok-numbers.numbers c.new.result.items c.in_ok-groups.groups.items c.in_ok-order.order.items c.in_ok-rows.ensures c.deref.ensures.value c.deref-2.ensures.value c.deref-3.ensures.value c.in_ok-entries.ensures
-      c.in_ok-numbers.ensures c.in_ok-groups.ensures c.in_ok-meant.ensures c.in_ok-order.ensures;
+  ordered = record { rows = c.in_ok-needs.ensures.rows; names = c.in_ok-needs.ensures.names; world = c.in_ok-needs.ensures.world; «is» = c.in_ok-needs.ensures.«is»; ordered = c.in_ok-needs.ensures.ordered };
 }

@@ -13,17 +13,17 @@ object_rows-requires-clause-single c = single_in_order c.args.uses.now c.require
 
 pub local_rows-requires : goal.local_rows-requires
 local_rows-requires c =
-    let u = package_unit c.args.path.now (texts_of c.args.texts.now) c.args.trees.now c.args.uses.now c.args.env.now.interfaces.now c.args.redeclared.items c.args.cyclic.items in
+    let u = package_unit c.args.path.now (texts_of c.args.texts.now) c.args.trees.now c.args.uses.now c.args.env.now.interfaces.now c.args.redeclared.items c.args.cyclic.items c.args.owners.items in
     places_read u c.in_ok-places.places.items c.in_ok-places.ensures
 
 pub named_types-requires : goal.named_types-requires
 named_types-requires c =
-    let u = package_unit c.args.path.now (texts_of c.args.texts.now) c.args.trees.now c.args.uses.now c.args.env.now.interfaces.now c.args.redeclared.items c.args.cyclic.items in
+    let u = package_unit c.args.path.now (texts_of c.args.texts.now) c.args.trees.now c.args.uses.now c.args.env.now.interfaces.now c.args.redeclared.items c.args.cyclic.items c.args.owners.items in
     places_read u c.in_ok-places.places.items c.in_ok-places.ensures
 
 pub returns-clause-read : goal.returns-clause-read
 returns-clause-read c =
-    let u = package_unit c.args.path.now (texts_of c.args.texts.now) c.args.trees.now c.args.uses.now c.args.env.now.interfaces.now c.args.redeclared.items c.args.cyclic.items in
+    let u = package_unit c.args.path.now (texts_of c.args.texts.now) c.args.trees.now c.args.uses.now c.args.env.now.interfaces.now c.args.redeclared.items c.args.cyclic.items c.args.owners.items in
     let numbers = locals_read u c.in_ok-defined.defined.items c.in_ok-locals.locals.items c.in_ok-defined.ensures c.in_ok-locals.ensures in
     record {
       blocks = c.in_ok-passages.ensures;
@@ -36,6 +36,8 @@ returns-clause-read c =
       locals = λ k at there. numbers at ∙ local_there u k at there;
       inside = numbers;
       repeats = c.in_ok-repeats.ensures;
+      methods = c.in_ok-methods.ensures.methods;
+      repeated = c.in_ok-methods.ensures.repeated;
       copies = copies_read u c.deref.result.now c.in_ok-copies.copies.items (c.deref.ensures.value ∙ c.in_ok-passages.ensures) c.in_ok-copies.ensures;
       named = λ q. c.in_ok-named.ensures q ∙ ap (named_by u (top_name u q)) c.in_ok-defined.ensures;
     }

@@ -14,6 +14,8 @@ returns-clause-read c =
       locals = r.locals;
       inside = r.inside;
       repeats = r.repeats;
+      methods = r.methods;
+      repeated = r.repeated;
       copies = r.copies;
       named = r.named;
     }

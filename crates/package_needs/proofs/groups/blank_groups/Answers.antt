@@ -1,5 +1,5 @@
 use Rattle.package_needs.proofs.GroupLemmas.{blank_more, blank_size}
-use Rattle.package_needs.proofs.groups.blank.Goals as goal
+use Rattle.package_needs.proofs.groups.blank_groups.Goals as goal
 
 pub loop-n-preserved : goal.loop-n-preserved
 loop-n-preserved c = record {

@@ -1,0 +1,63 @@
+-- There is one unit of a package over an environment.
+use Rattle.std.proofs.Common.{◌≡◌, ◌↔◌, ℕ, IsTrue, Bool, true, false, List, slice_get, Option, Some, None, refl, sym, ap, ◌∙◌, subst}
+use Rattle.go_tree.specs.Bindings.{AreInOrder}
+use Rattle.go_tree.specs.declared.bindings.Object.{Object}
+use Rattle.go_tree.specs.declared.tree.FileTree.{FileTree}
+use Rattle.go_tree.specs.declared.tree.Node.{Node}
+use Rattle.go_tree.specs.declared.tree.NodeRef.{NodeRef}
+use Rattle.object_order.specs.Names.{IsNamed}
+use Rattle.object_order.specs.declared.spot.Entry.{Entry}
+use Rattle.package_needs.proofs.OneLemmas.{same_declared, leads_on, leads_back, same_owner}
+use Rattle.bind.specs.Answers.{AreSpelled}
+use Rattle.unit_read.specs.Units.{Unit, node_at}
+use Rattle.check_pkg.specs.Packages.{Package, Env, AreNeeds, IsUnit}
+use Rattle.check_pkg.proofs.Uniqueness.{unit_with, Shares, shared, one_unit}
+
+same_truth : (x y : Bool) → (IsTrue x → IsTrue y) → (IsTrue y → IsTrue x) → x ≡ y
+same_truth true true to back = refl
+same_truth false false to back = refl
+same_truth true false to back = sym (to refl)
+same_truth false true to back = back refl
+
+-- the unit, with the trees and the uses of another
+abbrev over : Unit → List FileTree → List (NodeRef × Object) → Unit
+over v trees uses = unit_with v.path v.texts trees uses v.env v.redeclared v.cyclic v.owner
+
+module _ (u v : Unit) (ordered : AreInOrder u.uses) (one : AreNeeds u) (other : AreNeeds (over v u.trees u.uses)) where
+  cyclic_to : (at : NodeRef) (node : Node) → node_at u at ≡ Some node → IsTrue (u.cyclic at) → IsTrue (v.cyclic at)
+  cyclic_to at node there h =
+      let known = (one.each at node there).0 h in
+      (other.each at node there).1 (
+        subst (λ (es : List Entry). IsNamed es at) (same_declared u.uses u.trees ordered one.rows other.rows one.names other.names one.world other.world one.is other.is) known.0,
+        leads_on u.uses u.trees ordered one.rows other.rows one.names other.names one.world other.world one.is other.is at at known.1,
+      )
+
+  cyclic_back : (at : NodeRef) (node : Node) → node_at u at ≡ Some node → IsTrue (v.cyclic at) → IsTrue (u.cyclic at)
+  cyclic_back at node there h =
+      let known = (other.each at node there).0 h in
+      (one.each at node there).1 (
+        subst (λ (es : List Entry). IsNamed es at) (sym (same_declared u.uses u.trees ordered one.rows other.rows one.names other.names one.world other.world one.is other.is)) known.0,
+        leads_back u.uses u.trees ordered one.rows other.rows one.names other.names one.world other.world one.is other.is at at known.1,
+      )
+
+  same_cyclic : (at : NodeRef) → u.cyclic at ≡ v.cyclic at
+  same_cyclic at = by (node_at u at) refl where
+    by : (o : Option Node) → node_at u at ≡ o → u.cyclic at ≡ v.cyclic at
+    by None none = one.others at none ∙ sym (other.others at none)
+    by (Some node) there = same_truth (u.cyclic at) (v.cyclic at) (cyclic_to at node there) (cyclic_back at node there)
+
+  same_owners : (at : NodeRef) → u.owner at ≡ v.owner at
+  same_owners at = by (node_at u at) refl where
+    by : (o : Option Node) → node_at u at ≡ o → u.owner at ≡ v.owner at
+    by None none = one.unowned at none ∙ sym (other.unowned at none)
+    by (Some node) there =
+        same_owner u.uses u.trees ordered one.rows other.rows one.names other.names one.world other.world one.is other.is at (u.owner at) (v.owner at) (one.owned at node there) (other.owned at node there)
+
+pub the_unit : (p : Package) (env : Env) (a b : Unit) → IsUnit p env a → IsUnit p env b → AreSpelled p.trees p.files → a ≡ b
+the_unit p env a b one other spelled =
+    one_unit p env a b one other spelled (same_cyclic a b one.uses.ordered one.needs needs) (same_owners a b one.uses.ordered one.needs needs) where
+      shares : Shares a b
+      shares = shared p env a b one other spelled
+
+      needs : AreNeeds (over b a.trees a.uses)
+      needs = subst (λ (us : List (NodeRef × Object)). AreNeeds (over b a.trees us)) (sym shares.uses) (subst (λ (ts : List FileTree). AreNeeds (over b ts b.uses)) (sym shares.trees) other.needs)

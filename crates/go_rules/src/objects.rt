@@ -1,0 +1,136 @@
+//! The objects that are declared at names, and what is tested late of types.
+ghost use Rattle.std.specs.Prelude.{◌≡◌, IfOk};
+ghost use Rattle.mark_walk.specs.Telling.{tell};
+ghost use Rattle.typed_marks.specs.States.{so_far};
+ghost use Rattle.unit_read.specs.Subjects.{unit_of};
+ghost use Rattle.rule_words.specs.Scenes.{IsScene};
+ghost use Rattle.rule_words.specs.Steps.{step_in, IsStepOf};
+ghost use Rattle.go_rules.specs.Stages.{in_own, is_late, object_beside, object_in_place, object_of_part, object_as};
+
+use crate::role::Role;
+use decl_rules::judge_object;
+use go_tree::{Node, NodeKind, NodeRef};
+use gv_base::NoMemory;
+use rule_words::{Answer, Step};
+use std::alloc::Global;
+use typed_marks::{Mark, State};
+use unit_read::{Place, Subject};
+
+fn silent() -> Step
+    ensures { result ≡ Step.Says (Answer.Mark Mark.Silent) }
+{
+    Step::Says(Answer::Mark(Mark::Silent))
+}
+
+fn is_late(kind: NodeKind) -> bool
+    ensures { result ≡ is_late kind }
+{
+    match kind {
+        NodeKind::MapType => true,
+        NodeKind::StructType => true,
+        _ => false,
+    }
+}
+
+fn object_beside(
+    alloc: Global,
+    u: &Subject,
+    s: &State,
+    at: NodeRef,
+    around: &Node,
+) -> Result<Step, NoMemory>
+    requires { IsScene u.now s.now }
+    ensures is { IfOk result (λ step. step_in s.now step ≡ tell (so_far s.now) (object_beside (unit_of u.now) at around.now)) }
+    ensures over { IfOk result (IsStepOf s.now) }
+{
+    if is_late(around.kind) {
+        let step = judge_object(alloc, u, s, at)?;
+        Ok(step)
+    } else {
+        Ok(silent())
+    }
+}
+
+fn object_in_place(
+    alloc: Global,
+    u: &Subject,
+    s: &State,
+    at: NodeRef,
+    p: Place,
+) -> Result<Step, NoMemory>
+    requires { IsScene u.now s.now }
+    ensures is { IfOk result (λ step. step_in s.now step ≡ tell (so_far s.now) (object_in_place (unit_of u.now) at p)) }
+    ensures over { IfOk result (IsStepOf s.now) }
+{
+    let whole = NodeRef {
+        file: at.file,
+        node: p.around,
+    };
+    match u.node_at(whole) {
+        Some(around) => {
+            let step = object_beside(alloc, u, s, at, around)?;
+            Ok(step)
+        }
+        None => Ok(silent()),
+    }
+}
+
+fn object_of_part(alloc: Global, u: &Subject, s: &State, at: NodeRef) -> Result<Step, NoMemory>
+    requires { IsScene u.now s.now }
+    ensures is { IfOk result (λ step. step_in s.now step ≡ tell (so_far s.now) (object_of_part (unit_of u.now) at)) }
+    ensures over { IfOk result (IsStepOf s.now) }
+{
+    match u.place_at(at) {
+        Some(p) => {
+            let step = object_in_place(alloc, u, s, at, p)?;
+            Ok(step)
+        }
+        None => Ok(silent()),
+    }
+}
+
+fn object_as(
+    alloc: Global,
+    u: &Subject,
+    s: &State,
+    role: Role,
+    at: NodeRef,
+) -> Result<Step, NoMemory>
+    requires { IsScene u.now s.now }
+    ensures is { IfOk result (λ step. step_in s.now step ≡ tell (so_far s.now) (object_as role (unit_of u.now) at)) }
+    ensures over { IfOk result (IsStepOf s.now) }
+{
+    match role {
+        Role::Part => {
+            let step = object_of_part(alloc, u, s, at)?;
+            Ok(step)
+        }
+        Role::Embedded => Ok(silent()),
+        Role::Declared => {
+            let step = judge_object(alloc, u, s, at)?;
+            Ok(step)
+        }
+        Role::Untold => Ok(silent()),
+    }
+}
+
+/// The object that is declared at a name, or what is tested late of a node, in the block of its file.
+pub fn object(
+    alloc: Global,
+    u: &Subject,
+    s: &State,
+    role: Role,
+    block: usize,
+    at: NodeRef,
+) -> Result<Step, NoMemory>
+    requires { IsScene u.now s.now }
+    ensures is { IfOk result (λ step. step_in s.now step ≡ tell (so_far s.now) (in_own block at (object_as role (unit_of u.now) at))) }
+    ensures over { IfOk result (IsStepOf s.now) }
+{
+    if block == at.file as usize {
+        let step = object_as(alloc, u, s, role, at)?;
+        Ok(step)
+    } else {
+        Ok(silent())
+    }
+}
