@@ -1,6 +1,6 @@
 #!/usr/bin/env bash
 # Runs the program itself to each status that real devices give at will: its exit code, and its name on standard error.
-# Want of memory (7) and a sink that takes nothing (10) aren't among them.
+# Want of memory (7), a sink that takes nothing (10) and rules in a circle (12) aren't among them.
 #     tools/check-statuses.sh [PROGRAM]     PROGRAM is gvet as it was built; with none it is ./gvet, which builds it where it has to
 set -u
 cd "$(dirname "$0")/.." || exit 1
@@ -30,6 +30,6 @@ printf 'put a/a.go 23\npackage a\n\nconst A = A\n\ncheck\n' | "$program" session
 printf 'check\n' | "$program" session >/dev/full 2>"$errors"; status=$?; expect 6 'sink fault'
 printf 'Check\n' | "$program" session >/dev/null 2>"$errors"; status=$?; expect 8 'script refused'
 yes 'del a' | head -c 268435457 | "$program" session >/dev/null 2>"$errors"; status=$?; expect 9 'input too long'
-printf 'put a/a.go 21\npackage a\n\nvar x int\n\ncheck\n' | "$program" session >/dev/null 2>"$errors"; status=$?; expect 11 'not built'
+printf 'put a/a.go 21\npackage a\n\nvar x = 1\n\ncheck\n' | "$program" session >/dev/null 2>"$errors"; status=$?; expect 11 'not built'
 [ "$failed" = 0 ] && echo "each status has its number and its name"
 exit "$failed"

@@ -1,7 +1,7 @@
 // Asks go/types about the trees in crates/check_cases/data, and prints each line where it refuses a declaration and
 // no comment expects an error, or the other way. A tree whose first line says `Not for go/types` isn't asked.
 //
-//	go run ./tools/agree     (Go 1.19; V=1 prints the other lines too)
+//	go run tools/agree/main.go     (Go 1.19; V=1 prints the other lines too)
 package main
 
 import (
@@ -53,7 +53,8 @@ func treeOf(path string) (note string, files []file) {
 	return sections[0], files
 }
 
-// What go/types says of each line, by PATH:LINE.
+// What go/types says of each line, by PATH:LINE. Where it refuses a second declaration it also prints the first; that is no
+// refusal.
 func refused(files []file) map[string]string {
 	folders := map[string][]file{}
 	for _, f := range files {
@@ -80,6 +81,9 @@ func refused(files []file) map[string]string {
 		}
 		config := types.Config{GoVersion: "go1.17", Importer: known, Error: func(err error) {
 			told := err.(types.Error)
+			if strings.HasPrefix(told.Msg, "\tother declaration of ") {
+				return
+			}
 			at := set.Position(told.Pos)
 			line := fmt.Sprintf("%s:%d", at.Filename, at.Line)
 			said[line] += fmt.Sprintf(" [%d %s]", at.Column, told.Msg)

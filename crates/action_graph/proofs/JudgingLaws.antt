@@ -1,7 +1,7 @@
 -- What a run may know of the rules: there is one finding, and an interface has the path of its package.
 use Rattle.std.proofs.Common.{◌≡◌, ℕ, ◌<◌, ◌⊎◌, inl, inr, List, [], ◌∷◌, get_or, refl, sym, ap, ◌∙◌, subst, arith}
 use Rattle.std.proofs.lemmas.Option.{same_Some}
-use Rattle.const_check.specs.Packages.{Package}
+use Rattle.check_pkg.specs.Packages.{Package}
 use Rattle.export_data.specs.declared.constants.ConstInterface.{ConstInterface}
 use Rattle.export_data.specs.Spelling.{IsSpelled}
 use Rattle.export_data.proofs.Interfaces.{spelled_is_read}
@@ -12,7 +12,7 @@ use Rattle.action_graph.specs.Nodes.{Named}
 use Rattle.action_graph.specs.Marks.{AreSpelled}
 use Rattle.action_graph.specs.Judging.{Judged, Env, Judges, Finds, AreInterfaces, IsOutcome, IsOutcomeOf, Tells, accepted_text, refused_text}
 use Rattle.action_graph.specs.Judging.Judged.{Accepts, Refuses}
-use Rattle.action_graph.proofs.OneFinding.{finds-once, one-package, package-files}
+use Rattle.action_graph.proofs.OneFinding.{finds-once, one-package, package-spelled}
 use Rattle.action_graph.proofs.NodeLemmas.{one_load}
 use Rattle.action_graph.proofs.Lines.{spelled_is_read as marks_are_read}
 
@@ -20,7 +20,7 @@ use Rattle.action_graph.proofs.Lines.{spelled_is_read as marks_are_read}
 pub judges_once : (path : List ℕ) (files : List Named) (env : Env) (a b : Judged) → Judges path files env a → Judges path files env b → a ≡ b
 unfolding Judges
 judges_once path files env a b (p, (of, finds)) (q, (of2, finds2)) =
-    finds-once path q env a b (package-files files q of2) (subst (λ (x : Package). Finds path x env a) (one-package files p q of of2) finds) finds2
+    finds-once q env a b (package-spelled path files q of2) (subst (λ (x : Package). Finds x env a) (one-package path files p q of of2) finds) finds2
 
 face_or : ConstInterface → Judged → ConstInterface
 face_or d (Accepts i) = i
@@ -33,7 +33,7 @@ same_accepts i k h = ap (face_or i) h
 -- an interface has the path of its package
 pub accepts_path : (path : List ℕ) (files : List Named) (env : Env) (i : ConstInterface) → Judges path files env (Accepts i) → i.path ≡ path
 unfolding Judges
-accepts_path path files env i (p, (of, (marks, (exports, (at, name))))) = at
+accepts_path path files env i (p, (of, (c, comes, none, is))) = ap (λ (k : ConstInterface). k.path) is ∙ of.path_is
 
 -- a text spells one interface
 pub one_face : (i k : ConstInterface) (text : List ℕ) → IsSpelled i text → IsSpelled k text → i ≡ k

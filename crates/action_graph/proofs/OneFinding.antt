@@ -17,15 +17,17 @@ use Rattle.parse_file.specs.declared.verdict.FileVerdict.TheVariants.{Parsed}
 use Rattle.parse_file.specs.Verdict.{IsParsed}
 use Rattle.parse_file.proofs.VerdictLaws.{one_verdict}
 use Rattle.bind.specs.Answers.{AreSpelled}
-use Rattle.typed_tree.specs.declared.annotation.Marked.{Marked}
-use Rattle.typed_tree.specs.Meanings.{Meaning}
-use Rattle.const_marks.specs.Rules.{IsAnnotation}
-use Rattle.const_marks.specs.Units.{Unit}
-use Rattle.const_check.specs.declared.refusal.Refusal.{Refusal}
-use Rattle.const_check.specs.Packages.{Package, AreConstantFiles}
-use Rattle.const_check.specs.Refusals.{Precedes, IsOrdered, AreMarks, IsRefused}
-use Rattle.const_check.specs.Interfaces.{AreExports, IsExported}
-use Rattle.const_check.proofs.Uniqueness.{one_unit}
+use Rattle.unit_read.specs.Units.{Unit}
+use Rattle.go_rules.specs.Stages.{rule}
+use Rattle.check_pkg.specs.declared.judging.Checked.{Checked}
+use Rattle.check_pkg.specs.declared.judging.Outcome.TheVariants as outcome
+use Rattle.check_pkg.specs.declared.refusal.Refusal.{Refusal}
+use Rattle.check_pkg.specs.Checks.{IsChecked, IsOutcomeOf as Comes}
+use Rattle.check_pkg.specs.Faults.{Precedes}
+use Rattle.check_pkg.specs.Interfaces.{IsExported}
+use Rattle.check_pkg.specs.Packages.{Package, package_name}
+use Rattle.check_pkg.specs.Refusals.{IsRefused}
+use Rattle.check_pkg.proofs.OneUnit.{the_unit}
 use Rattle.action_graph.specs.Nodes.{Named}
 use Rattle.action_graph.specs.Judging.{Judged, Env, AreParsed, IsPackageOf, Finds, line_of, text_of}
 use Rattle.action_graph.specs.Judging.Judged.{Accepts, Refuses}
@@ -52,23 +54,11 @@ precedes-itself a p = elim p [ inl f ↦ omega (arith, f) | inr f ↦ elim f.1 [
 precedes : IsStrict Precedes
 precedes = record { trans = precedes-trans; itself = precedes-itself }
 
--- a package has one list of marks in order
-one-refused : (p : Package) (env : Env) (a b : List Refusal) → AreConstantFiles p → AreMarks p env a → AreMarks p env b → IsOrdered a → IsOrdered b → a ≡ b
-one-refused p env a b files one other in_order ordered =
-    let e : one.unit ≡ other.unit = one_unit p env one.unit other.unit one.is_unit other.is_unit files in
-    let each = subst (λ (u : Unit). (m : Marked → Meaning) → IsAnnotation u m → (x : Refusal) → Contains a x ↔ IsRefused u m x) e one.each in
-    same-list Precedes precedes (IsRefused other.unit other.marks) a b in_order ordered (each other.marks other.annotated) (other.each other.marks other.annotated)
-
-nothing-there : {X : Type 0} (x : X) → Contains [] x → ⊥
-nothing-there x (k, lt, e) = omega (arith, lt)
-
--- what has no marks has none
-unrefused : (p : Package) (env : Env) (list : List Refusal) → AreConstantFiles p → AreMarks p env [] → AreMarks p env list → (list ≡ [] → ⊥) → ⊥
-unrefused p env [] files nothing marks some = some refl
-unrefused p env (x ∷ xs) files nothing marks some =
-    let e : marks.unit ≡ nothing.unit = one_unit p env marks.unit nothing.unit marks.is_unit nothing.is_unit files in
-    let each = subst (λ (u : Unit). (m : Marked → Meaning) → IsAnnotation u m → (y : Refusal) → Contains (x ∷ xs) y ↔ IsRefused u m y) e marks.each in
-    nothing-there x ((nothing.each nothing.marks nothing.annotated x).1 ((each nothing.marks nothing.annotated x).0 (0, omega arith, refl)))
+-- a unit has one list of marks in order
+one-refused : (u : Unit) (c d : Checked) → IsChecked rule u c → IsChecked rule u d → c.refused.items ≡ d.refused.items
+one-refused u c d one other =
+    same-list Precedes precedes (IsRefused u other.marks.marks) c.refused.items d.refused.items one.ordered other.ordered
+    (one.marks.each other.marks.marks other.marks.annotated) (other.marks.each other.marks.marks other.marks.annotated)
 
 -- byte order of names
 is-before : (xs ys : List ℕ) → is_lt (slice_cmp nat_cmp xs ys) ≡ comes_before xs ys
@@ -118,27 +108,35 @@ rise-in-order : (list : List ConstOut) → names_rise list ≡ true → InOrder 
 rise-in-order [] h k a b at next = absurd (let lt : k < 0 = slice_get_within [] k a at in omega (arith, lt))
 rise-in-order (c ∷ rest) h k a b at next = rises-in-order c rest h k a b at next
 
--- a package has one list of exports
-one-exports : (p : Package) (env : Env) (a b : List ConstOut) → AreConstantFiles p → AreExports p env a → AreExports p env b → a ≡ b
-one-exports p env a b files one other =
-    let e : one.unit ≡ other.unit = one_unit p env one.unit other.unit one.is_unit other.is_unit files in
-    let each = subst (λ (u : Unit). (m : Marked → Meaning) → IsAnnotation u m → (x : ConstOut) → Contains a x ↔ IsExported u m x) e one.each in
-    same-list NameBefore names (IsExported other.unit other.marks) a b (rise-in-order a one.rise) (rise-in-order b other.rise) (each other.marks other.annotated) (other.each other.marks other.annotated)
+-- a unit has one list of exports
+one-exports : (u : Unit) (c d : Checked) → IsChecked rule u c → IsChecked rule u d → c.refused.items ≡ [] → d.refused.items ≡ [] → c.exports.items ≡ d.exports.items
+one-exports u c d one other none nothing =
+    let first = one.exports none in
+    let last = other.exports nothing in
+    same-list NameBefore names (IsExported u other.marks.marks) c.exports.items d.exports.items (rise-in-order c.exports.items first.rise) (rise-in-order d.exports.items last.rise)
+    (first.each other.marks.marks other.marks.annotated) (last.each other.marks.marks other.marks.annotated)
 
-same-parts : (i k : ConstInterface) → i.path ≡ k.path → i.name ≡ k.name → i.list ≡ k.list → i ≡ k
-same-parts i k path name list =
-    ap (λ (x : List ℕ). record { path = x; name = i.name; list = i.list }) path
-    ∙ (ap (λ (x : List ℕ). record { path = k.path; name = x; list = i.list }) name
-    ∙ ap (λ (x : List ConstOut). record { path = k.path; name = k.name; list = x }) list)
+module _ (p : Package) (env : Env) (spelled : AreSpelled p.trees p.files) (c d : Checked) (one : Comes rule p env (outcome.Checked c)) (other : Comes rule p env (outcome.Checked d)) where
+  unit-is : one.unit ≡ other.unit
+  unit-is = the_unit p env one.unit other.unit one.is other.is spelled
+
+  first : IsChecked rule other.unit c
+  first = subst (λ (u : Unit). IsChecked rule u c) unit-is one.comes
+
+  same-refused : c.refused.items ≡ d.refused.items
+  same-refused = one-refused other.unit c d first other.comes
+
+  same-exports : c.refused.items ≡ [] → d.refused.items ≡ [] → c.exports.items ≡ d.exports.items
+  same-exports none nothing = one-exports other.unit c d first other.comes none nothing
 
 -- there is one finding of a package
-pub finds-once : (path : List ℕ) (p : Package) (env : Env) (a b : Judged) → AreConstantFiles p → Finds path p env a → Finds path p env b → a ≡ b
-finds-once path p env (Accepts i) (Accepts k) files (marks, (exports, (at, name))) (marks2, (exports2, (at2, name2))) =
-    ap Accepts (same-parts i k (at ∙ sym at2) (name ∙ sym name2) (one-exports p env i.list k.list files exports exports2))
-finds-once path p env (Accepts i) (Refuses lines) files (marks, (exports, (at, name))) (refused, (marks2, (ordered, (some, are)))) = absurd (unrefused p env refused files marks marks2 some)
-finds-once path p env (Refuses lines) (Accepts k) files (refused, (marks2, (ordered, (some, are)))) (marks, (exports, (at, name))) = absurd (unrefused p env refused files marks marks2 some)
-finds-once path p env (Refuses lines) (Refuses lines2) files (refused, (marks, (ordered, (some, are)))) (refused2, (marks2, (ordered2, (some2, are2)))) =
-    ap Refuses (are ∙ (ap (λ (list : List Refusal). map line_of list) (one-refused p env refused refused2 files marks marks2 ordered ordered2) ∙ sym are2))
+pub finds-once : (p : Package) (env : Env) (a b : Judged) → AreSpelled p.trees p.files → Finds p env a → Finds p env b → a ≡ b
+finds-once p env (Accepts i) (Accepts k) spelled (c, comes, none, is) (d, comes2, none2, are) =
+    ap Accepts (is ∙ (ap (λ (list : List ConstOut). record { path = p.path; name = package_name p; list = list }) (same-exports p env spelled c d comes comes2 none none2) ∙ sym are))
+finds-once p env (Accepts i) (Refuses lines) spelled (c, comes, none, is) (d, comes2, some, are) = absurd (some (sym (same-refused p env spelled c d comes comes2) ∙ none))
+finds-once p env (Refuses lines) (Accepts k) spelled (c, comes, some, is) (d, comes2, none, are) = absurd (some (same-refused p env spelled c d comes comes2 ∙ none))
+finds-once p env (Refuses lines) (Refuses lines2) spelled (c, comes, some, is) (d, comes2, some2, are) =
+    ap Refuses (is ∙ (ap (λ (list : List Refusal). map line_of list) (same-refused p env spelled c d comes comes2) ∙ sym are))
 
 tree-is : (a b : FileTree) → Parsed a ≡ Parsed b → a ≡ b
 tree-is a b e = cc
@@ -175,13 +173,14 @@ spelled-at (x ∷ xs) (s ∷ ss) (suc i) t e h at found = spelled-at xs ss i t e
 pub all-spelled : (files : List Named) (trees : List FileTree) → AreParsed (map text_of files) trees → AreSpelled trees files
 all-spelled files trees h = record { size = as-many files trees h; spelled = λ i t e at found. spelled-at files trees i t e h at found }
 
--- the package of some files is one of constants
-pub package-files : (files : List Named) (p : Package) → IsPackageOf files p → AreConstantFiles p
-package-files files p of = record { spelled = all-spelled p.files p.trees of.trees; form = of.form }
+-- the trees of a package are spelled by its files
+pub package-spelled : (path : List ℕ) (files : List Named) (p : Package) → IsPackageOf path files p → AreSpelled p.trees p.files
+package-spelled path files p of = all-spelled p.files p.trees of.trees
 
 -- files are of one package
-pub one-package : (files : List Named) (p q : Package) → IsPackageOf files p → IsPackageOf files q → p ≡ q
-one-package files p q h g =
+pub one-package : (path : List ℕ) (files : List Named) (p q : Package) → IsPackageOf path files p → IsPackageOf path files q → p ≡ q
+one-package path files p q h g =
     let same : p.files ≡ q.files = h.files ∙ sym g.files in
     let trees : p.trees ≡ q.trees = one-trees (map text_of q.files) p.trees q.trees (subst (λ (x : List Named). AreParsed (map text_of x) p.trees) same h.trees) g.trees in
-    ap (λ (x : List Named). record { files = x; trees = p.trees }) same ∙ ap (λ (t : List FileTree). record { files = q.files; trees = t }) trees
+    ap (λ (x : List ℕ). record { path = x; files = p.files; trees = p.trees }) (h.path_is ∙ sym g.path_is)
+    ∙ (ap (λ (x : List Named). record { path = q.path; files = x; trees = p.trees }) same ∙ ap (λ (t : List FileTree). record { path = q.path; files = q.files; trees = t }) trees)

@@ -7,16 +7,18 @@ use Rattle.go_tree.specs.declared.token.Token.{Token}
 use Rattle.go_tree.specs.declared.tree.FileTree.{FileTree}
 use Rattle.go_scan.proofs.TokenLaws.{tokens_lie}
 use Rattle.parse_file.specs.Verdict.{IsParsed}
-use Rattle.const_check.specs.declared.refusal.Fault.{Fault}
-use Rattle.const_check.specs.declared.refusal.Fault.TheVariants.{Rule as RuleFault, Limit as LimitFault}
-use Rattle.const_check.specs.Packages.{Package}
-use Rattle.const_check.proofs.Places.{AreInText, Lies, refusal_stands}
+use Rattle.check_pkg.specs.declared.refusal.Fault.{Fault}
+use Rattle.check_pkg.specs.declared.refusal.Fault.TheVariants.{Rule as RuleFault, Limit as LimitFault}
+use Rattle.go_rules.specs.Stages.{rule}
+use Rattle.check_pkg.specs.declared.refusal.Refusal.{Refusal}
+use Rattle.check_pkg.specs.Packages.{Package}
+use Rattle.check_pkg.proofs.StandLemmas.{AreInText, Lies, refusal_stands}
 use Rattle.action_graph.specs.declared.marks.MarkLine.{MarkLine}
 use Rattle.action_graph.specs.Nodes.{Named}
 use Rattle.action_graph.specs.Judging.{Env, Judges, AreParsed, IsPackageOf, fault_line, line_of, text_of}
 use Rattle.action_graph.specs.Judging.Judged.{Refuses}
 use Rattle.action_graph.proofs.OneList.{contained-had}
-use Rattle.action_graph.proofs.OneFinding.{package-files}
+use Rattle.action_graph.proofs.OneFinding.{package-spelled}
 
 -- each token of a tree begins in its text
 parsed-low : (text : List ℕ) (tree : FileTree) (i : ℕ) (t : Token) → IsParsed text tree → slice_get tree.tokens i ≡ Some t → t.start ≤ length text
@@ -35,8 +37,8 @@ all-low (x ∷ xs) (s ∷ ss) zero i tree t file h found here at =
     subst (λ (y : Named). t.start ≤ length y.1) (same_Some x file here) (parsed-low x.1 tree i t (subst (λ (y : FileTree). IsParsed x.1 y) (same_Some s tree found) h.0) at)
 all-low (x ∷ xs) (s ∷ ss) (suc f) i tree t file h found here at = all-low xs ss f i tree t file h.1 found here at
 
-in-text : (files : List Named) (p : Package) → IsPackageOf files p → AreInText p
-in-text files p of = record { each = λ f i tree token file found here at. all-low p.files p.trees f i tree token file of.trees found here at }
+in-text : (path : List ℕ) (files : List Named) (p : Package) → IsPackageOf path files p → AreInText p
+in-text path files p of = record { each = λ f i tree token file found here at. all-low p.files p.trees f i tree token file of.trees found here at }
 
 -- a member of a list that was made of another is made of one of its members
 made-of : {X Y : Type 0} (f : X → Y) (xs : List X) (k : ℕ) (y : Y) → slice_get (map f xs) k ≡ Some y → (x : X) × (slice_get xs k ≡ Some x) × (f x ≡ y)
@@ -59,9 +61,11 @@ stands files p at same lies =
 pub lines-stand : (path : List ℕ) (files : List Named) (env : Env) (lines : List MarkLine) (m : MarkLine) → Judges path files env (Refuses lines) → Contains lines m
     → (m.at.file < length files) × (m.at.offset ≤ length (get_or (map text_of files) m.at.file []))
 unfolding Judges
-lines-stand path files env lines m (p, (of, (refused, (marks, (ordered, (some, are)))))) member =
+lines-stand path files env lines m (p, (of, (c, comes, some, are))) member =
+    let refused : List Refusal = c.refused.items in
     let here : slice_get lines member.0 ≡ Some m = slice_get-get_or lines member.0 m member.1 ∙ ap Some member.2 in
     let made = made-of line_of refused member.0 m (ap (λ (l : List MarkLine). slice_get l member.0) (sym are) ∙ here) in
     let at : made.0.place ≡ m.at = sym (line-at made.0.place made.0.fault) ∙ ap (λ (x : MarkLine). x.at) made.2 in
-    let lies : Lies p made.0.place = refusal_stands p env refused (package-files files p of) (in-text files p of) marks made.0 (contained-had refused made.0 member.0 made.1) in
+    let lies : Lies p made.0.place =
+    refusal_stands rule p env comes.unit refused comes.is (package-spelled path files p of) (in-text path files p of) comes.comes.marks made.0 (contained-had refused made.0 member.0 made.1) in
     stands files p m.at of.files (subst (Lies p) at lies)

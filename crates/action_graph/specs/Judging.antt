@@ -10,13 +10,16 @@ use Rattle.go_tree.specs.declared.head.ImportLine.{ImportLine}
 use Rattle.go_tree.specs.declared.tree.FileTree.{FileTree}
 use Rattle.import_graph.specs.Packages.{counts}
 use Rattle.parse_file.specs.Verdict.{IsParsed}
-use Rattle.const_tree.specs.Form.{AreConstantFiles}
-use Rattle.const_check.specs.declared.refusal.Fault.{Fault}
-use Rattle.const_check.specs.declared.refusal.Fault.TheVariants.{Rule as RuleFault, Limit as LimitFault}
-use Rattle.const_check.specs.declared.refusal.Refusal.{Refusal}
-use Rattle.const_check.specs.Interfaces.{AreExports}
-use Rattle.const_check.specs.Packages.{Package, package_name}
-use Rattle.const_check.specs.Refusals.{AreMarks, IsOrdered, limit_number}
+use Rattle.bind.specs.Answers.{AreSmall}
+use Rattle.go_rules.specs.Stages.{rule}
+use Rattle.check_pkg.specs.declared.judging.Checked.{Checked}
+use Rattle.check_pkg.specs.declared.judging.Outcome.TheVariants as outcome
+use Rattle.check_pkg.specs.declared.refusal.Fault.{Fault}
+use Rattle.check_pkg.specs.declared.refusal.Fault.TheVariants.{Rule as RuleFault, Limit as LimitFault}
+use Rattle.check_pkg.specs.declared.refusal.Refusal.{Refusal}
+use Rattle.check_pkg.specs.Checks.{IsOutcomeOf as Comes}
+use Rattle.check_pkg.specs.Faults.{limit_number}
+use Rattle.check_pkg.specs.Packages.{Package, package_name}
 use Rattle.action_graph.specs.declared.kit.LoadInput.{LoadInput}
 use Rattle.action_graph.specs.declared.kit.Load.{Load}
 use Rattle.action_graph.specs.declared.kit.Load.TheVariants.{Accepted, Refused}
@@ -44,11 +47,12 @@ AreParsed [] (tree ∷ trees) = ⊥
 AreParsed (text ∷ texts) [] = ⊥
 AreParsed (text ∷ texts) (tree ∷ trees) = IsParsed text tree × AreParsed texts trees
 
--- The package of these files: each with its tree, all of constants.
-pub record IsPackageOf (named : List Named) (p : Package) : Type 0 where
+-- The package of this path and these files: each with its tree, whose nodes can be counted.
+pub record IsPackageOf (path : List ℕ) (named : List Named) (p : Package) : Type 0 where
+  pub path_is : p.path ≡ path
   pub files : p.files ≡ named
   pub trees : AreParsed (map text_of p.files) p.trees
-  pub form : AreConstantFiles p.trees
+  pub small : AreSmall p.trees
 
 -- the line of a refusal in the marks text
 abbrev pub fault_line : Place → Fault → MarkLine
@@ -58,17 +62,24 @@ fault_line at (LimitFault limit) = record { at = at; limit = true; number = limi
 abbrev pub line_of : Refusal → MarkLine
 line_of r = fault_line r.place r.fault
 
--- What is found of a package by its path, its trees and the interfaces of the packages that it imports: nothing
--- refuses it, and this is its interface; or these refuse it, in order and each once.
-abbrev pub Finds : List ℕ → Package → Env → Judged → Type 0
-Finds path p env (Judged.Accepts i) = AreMarks p env [] × (AreExports p env i.list × ((i.path ≡ path) × (i.name ≡ package_name p)))
-Finds path p env (Judged.Refuses lines) =
-    (refused : List Refusal) × (AreMarks p env refused × (IsOrdered refused × ((refused ≡ [] → ⊥) × (lines ≡ map line_of refused))))
+-- what an accepted package of this outcome is known by
+abbrev pub interface_of : Package → Checked → ConstInterface
+interface_of p c = record { path = p.path; name = package_name p; list = c.exports.items }
+
+-- What is found of a package by the typing rules over the interfaces of the packages that it imports: nothing refuses it, and this is its
+-- interface; or these refuse it, in order and each once.
+abbrev pub Finds : Package → Env → Judged → Type 0
+Finds p env (Judged.Accepts i) = (c : Checked) × Comes rule p env (outcome.Checked c) × (c.refused.items ≡ []) × (i ≡ interface_of p c)
+Finds p env (Judged.Refuses lines) = (c : Checked) × Comes rule p env (outcome.Checked c) × (c.refused.items ≡ [] → ⊥) × (lines ≡ map line_of c.refused.items)
 
 -- The rules: what is found of the package of this path, with these files and over these interfaces. A run knows of
 -- this relation no more than that there is one finding, and that an interface has the path of its package.
 unfoldable pub Judges : List ℕ → List Named → Env → Judged → Type 0
-Judges path files env judged = (p : Package) × (IsPackageOf files p × Finds path p env judged)
+Judges path files env judged = (p : Package) × (IsPackageOf path files p × Finds p env judged)
+
+-- Nothing is found of it: over its rules some item waits for itself.
+unfoldable pub IsStuckOver : List ℕ → List Named → Env → Type 0
+IsStuckOver path files env = (p : Package) × (IsPackageOf path files p × Comes rule p env outcome.Circle)
 
 -- the tree and the text of a file of a package
 pub record IsFileAt (p : Package) (n : ℕ) (t : FileTree) (bytes : List ℕ) : Type 0 where
@@ -91,7 +102,7 @@ pub record ImportsPath (p : Package) (path : List ℕ) : Type 0 where
   pub of : line.path ≡ path
 
 -- What is asked of a package's own texts: a path, some file, and files in the order of their paths, of which none
--- is empty; few enough and short enough to be counted, each of constants, and of one package name.
+-- is empty; few enough and short enough to be counted, and of one package name.
 pub record IsSource (path : List ℕ) (files : List Named) : Type 0 where
   pub has_path : path ≡ [] → ⊥
   pub has_file : files ≡ [] → ⊥
@@ -100,7 +111,7 @@ pub record IsSource (path : List ℕ) (files : List Named) : Type 0 where
   pub few : length files < 2 ^ 32
   pub short : All (λ text. length text ≤ 2 ^ 24) (map text_of files)
   pub pack : Package
-  pub of : IsPackageOf files pack
+  pub of : IsPackageOf path files pack
   pub agree : NamesAgree pack
 
 -- each export text with the interface that it spells, of the package beside whose path it stands
@@ -110,12 +121,12 @@ AreInterfaces [] (i ∷ env) = ⊥
 AreInterfaces (x ∷ xs) [] = ⊥
 AreInterfaces (x ∷ xs) (i ∷ env) = IsSpelled i x.1 × (i.path ≡ x.0) × AreInterfaces xs env
 
--- An input that can be read: files of constants, few enough and short enough to be counted, and export texts that spell interfaces.
+-- An input that can be read: files that parse, few enough and short enough to be counted, and export texts that spell interfaces.
 pub record IsReadable (input : LoadInput) : Type 0 where
   pub few : length input.files < 2 ^ 32
   pub short : All (λ text. length text ≤ 2 ^ 24) (map text_of input.files)
   pub pack : Package
-  pub of : IsPackageOf input.files pack
+  pub of : IsPackageOf input.path input.files pack
   pub env : Env
   pub faces : AreInterfaces input.env env
 
@@ -146,6 +157,12 @@ pub record IsOutcome (input : LoadInput) (text : List ℕ) : Type 0 where
   pub faces : AreInterfaces input.env env
   pub judges : Judges input.path input.files env judged
   pub tells : Tells judged text
+
+-- nothing comes of a load: its package is stuck over the interfaces of these texts
+pub record IsStuck (input : LoadInput) : Type 0 where
+  pub env : Env
+  pub faces : AreInterfaces input.env env
+  pub stuck : IsStuckOver input.path input.files env
 
 -- these are the texts of a lawful input, and this is what comes of it
 pub record IsOutcomeOf (texts : List (List ℕ)) (text : List ℕ) : Type 0 where

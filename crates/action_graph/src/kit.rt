@@ -1,6 +1,6 @@
 //! What types packages.
-ghost use Rattle.std.specs.Prelude.{◌≡◌, ◌+◌, ◌<◌, ◌^◌, ℕ, IfOk, OnOk, OnErr};
-ghost use Rattle.action_graph.specs.Judging.{IsLawful, IsOutcome, load_text};
+ghost use Rattle.std.specs.Prelude.{◌≡◌, ◌+◌, ◌<◌, ◌^◌, ℕ, Err, IfOk, OnOk, OnErr};
+ghost use Rattle.action_graph.specs.Judging.{IsLawful, IsOutcome, IsStuck, load_text};
 
 use gv_base::{Bytes, NoMemory, Row, Text};
 
@@ -32,6 +32,25 @@ pub enum Load<L> {
     },
 }
 
+/// Why nothing comes of a load.
+#[derive(Clone, Copy, Debug, PartialEq, Eq, Drop)]
+pub enum Unloaded {
+    /// Want of memory.
+    NoMemory,
+    /// The rule of an item of the package waits for that item's own mark.
+    Circle,
+}
+
+impl From<NoMemory> for Unloaded {
+    ghost use Rattle.action_graph.specs.declared.kit.Unloaded.{Unloaded};
+
+    ghost from_gives = { λ _ e. e ≡ Unloaded.NoMemory };
+
+    fn from(_error: NoMemory) -> Self {
+        Unloaded::NoMemory
+    }
+}
+
 /// What loads packages, and counts its loads.
 pub trait Kit {
     /// A package as it is loaded.
@@ -44,9 +63,10 @@ pub trait Kit {
     ghost runs: { Self → ℕ };
 
     /// Loads a package.
-    fn load(&mut self, input: &LoadInput) -> Result<Load<Self::Loaded>, NoMemory>
+    fn load(&mut self, input: &LoadInput) -> Result<Load<Self::Loaded>, Unloaded>
         requires { loads self.old < 2 ^ 63 }
         ensures right { IsLawful input.now → IfOk result (λ answer. IsOutcome input.now (load_text answer)) }
+        ensures circle { result ≡ Err Unloaded.Circle → IsStuck input.now }
         ensures counted { OnOk result (loads self.new ≡ loads self.old + 1) }
         ensures refused { OnErr result (loads self.new ≡ loads self.old) }
         ensures runs { runs self.new ≡ runs self.old };

@@ -2,7 +2,7 @@
 use Rattle.std.proofs.Common.{◌≡◌, ℕ, ◌+◌, Some, None, refl, if◌then◌else◌, List, [], ◌∷◌, ◌++◌, Option, slice_get, set, get_or, map, append_assoc, sym, ap, ◌∙◌, subst}
 use Rattle.std.proofs.lemmas.Option.{slice_get_within, slice_get-get_or}
 use Rattle.action_graph.specs.declared.kit.LoadInput.{LoadInput}
-use Rattle.action_graph.specs.Judging.{IsLawful, IsOutcome}
+use Rattle.action_graph.specs.Judging.{IsLawful, IsOutcome, IsStuck}
 use Rattle.action_graph.specs.Nodes.{Named, load_texts, pairs}
 use Rattle.action_graph.proofs.NodeLemmas.{one_load}
 use Rattle.fact_cache.specs.declared.texts.Input.{Input}
@@ -14,9 +14,10 @@ use Rattle.gv_driver.specs.Trees.{IsTree}
 use Rattle.gv_driver.specs.Loads.{IsLoadOf, load_input}
 use Rattle.gv_driver.specs.Caches.{IsHonest, is_found, left_of}
 use Rattle.gv_driver.specs.Tables.{answer_text, answer_in, cost, load_from, pair_at, IsKeyOf, IsTable, IsReady}
-use Rattle.gv_driver.specs.Runs.{Performs}
+use Rattle.gv_driver.specs.Whole.{AreFaces}
+use Rattle.gv_driver.specs.Runs.{MeetsCircle, Performs}
 use Rattle.gv_driver.proofs.CacheLaws.{honest-lookup}
-use Rattle.gv_driver.proofs.WholeLaws.{load-lawful}
+use Rattle.gv_driver.proofs.WholeLaws.{faces-of, load-lawful, same_pack}
 use Rattle.gv_driver.proofs.TableLaws.{ready-load, load-key, read-again}
 
 pub pack-at : (tree : List PackageTexts) (table : List (Option Node)) (p : ℕ) (pack : PackageTexts) → IsReady tree table p → pack ≡ get_or tree p pack → slice_get tree p ≡ Some pack
@@ -88,3 +89,18 @@ found-right cache load text honest lawful e =
 pub outcome-from : (load from : LoadInput) (text answer : List ℕ) → load ≡ from → answer ≡ text → (IsLawful load → IsOutcome load text) → IsLawful from → IsOutcome from answer
 outcome-from load from text answer made same right lawful =
     subst (λ (t : List ℕ). IsOutcome from t) (sym same) (subst (λ (l : LoadInput). IsOutcome l text) made (right (subst (λ (l : LoadInput). IsLawful l) (sym made) lawful)))
+
+-- the load of a ready package is stuck
+pub meets-circle : (tree : List PackageTexts) (before : List Entry) (table : List (Option Node)) (p : ℕ) (pack : PackageTexts) → IsTable tree before table → IsReady tree table p → slice_get tree p ≡ Some pack
+    → IsStuck (load_from tree table pack) → MeetsCircle tree before
+meets-circle tree before table p pack is ready at stuck = record {
+  p = p;
+  pack = pack;
+  env = stuck.env;
+  at = at;
+  sound = ap (λ (k : PackageTexts). k.sound) (same_pack tree p pack ready.pack at ready.at) ∙ ready.sound;
+  stuck = stuck.stuck;
+  faces = λ honest.
+      let of : IsLoadOf tree p (load_from tree table pack) = ready-load tree table p pack (is.right honest) at ready in
+      subst (λ (k : PackageTexts). AreFaces tree k.imports stuck.env) (same_pack tree p of.pack pack of.at at) (faces-of tree p (load_from tree table pack) stuck.env of stuck.faces);
+}

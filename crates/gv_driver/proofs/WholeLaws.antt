@@ -15,7 +15,7 @@ use Rattle.action_graph.proofs.JudgingLaws.{judges_once, same_accepts, accepts_p
 use Rattle.fact_cache.specs.declared.texts.Input.{Input}
 use Rattle.gv_driver.specs.declared.tree.PackageTexts.{PackageTexts}
 use Rattle.gv_driver.specs.Trees.{Imports, IsTree}
-use Rattle.gv_driver.specs.Whole.{Checked}
+use Rattle.gv_driver.specs.Whole.{AreFaces, Checked}
 use Rattle.gv_driver.specs.Whole.Checked.{checked}
 use Rattle.gv_driver.specs.Loads.{AreExports, IsExport, IsLoadOf, IsInput, IsPlan}
 use Rattle.gv_driver.proofs.Places.{at-contained, contains-at, element, same-list, same-options}
@@ -78,24 +78,28 @@ face-at (y ∷ ys) (j ∷ env) zero x i h a b =
     subst (λ (z : ConstInterface). IsSpelled z x.1) (same_Some j i b) (subst (λ (z : Named). IsSpelled j z.1) (same_Some y x a) h.0)
 face-at (y ∷ ys) (j ∷ env) (suc k) x i h a b = face-at ys env k x i h.2 a b
 
+-- the interfaces that the texts of a load spell come of the tree
+pub faces-of : (tree : List PackageTexts) (p : ℕ) (load : LoadInput) (env : Env) (is : IsLoadOf tree p load) → AreInterfaces load.env env → AreFaces tree is.pack.imports env
+faces-of tree p load env is faces = record { size = long ∙ is.env.size; each = λ k q i a b. face-checked k q i a b }
+  where
+    long : length env ≡ length load.env
+    long = faces-length load.env env faces
+
+    face-checked : (k q : ℕ) (i : ConstInterface) → slice_get is.pack.imports k ≡ Some q → slice_get env k ≡ Some i → Checked tree q (Accepts i)
+    face-checked k q i a b =
+        let within : k < length env = slice_get_within env k i b in
+        let x = element load.env k (let l : length env ≡ length load.env = long in omega (arith, within, l)) in
+        let ex = is.env.each k q x.0 a x.1 in
+        subst (λ (j : ConstInterface). Checked tree q (Accepts j)) (one_face ex.face i x.0.1 ex.spelled (face-at load.env env k x.0 i faces x.1 b)) ex.good
+
 -- what comes of a package's load is what comes of the package
 pub judged-of : (tree : List PackageTexts) (p : ℕ) (load : LoadInput) (text : List ℕ) → IsLoadOf tree p load → IsOutcome load text → (v : Judged) × Checked tree p v × Tells v text
 judged-of tree p load text is out =
-    let long : length out.env ≡ length load.env = faces-length load.env out.env out.faces in
     let judges : Judges is.pack.path is.pack.files out.env out.judged =
     subst (λ (l : List Named). Judges is.pack.path l out.env out.judged) is.files
     (subst (λ (l : List ℕ). Judges l load.files out.env out.judged) is.path out.judges) in
-    let each : (k q : ℕ) (i : ConstInterface) → slice_get is.pack.imports k ≡ Some q → slice_get out.env k ≡ Some i → Checked tree q (Accepts i) = λ k q i a b.
-    face-checked k q i a b in
-    (out.judged, checked p is.pack out.env out.judged is.at is.sound (long ∙ is.env.size) each judges, out.tells)
-  where
-    face-checked : (k q : ℕ) (i : ConstInterface) → slice_get is.pack.imports k ≡ Some q → slice_get out.env k ≡ Some i → Checked tree q (Accepts i)
-    face-checked k q i a b =
-        let within : k < length out.env = slice_get_within out.env k i b in
-        let long : length out.env ≡ length load.env = faces-length load.env out.env out.faces in
-        let x = element load.env k (omega (arith, within, long)) in
-        let ex = is.env.each k q x.0 a x.1 in
-        subst (λ (j : ConstInterface). Checked tree q (Accepts j)) (one_face ex.face i x.0.1 ex.spelled (face-at load.env out.env k x.0 i out.faces x.1 b)) ex.good
+    let faces : AreFaces tree is.pack.imports out.env = faces-of tree p load out.env is out.faces in
+    (out.judged, checked p is.pack out.env out.judged is.at is.sound faces.size faces.each judges, out.tells)
 
 same-named : (x y : Named) → x.0 ≡ y.0 → x.1 ≡ y.1 → x ≡ y
 same-named x y a b = ap (λ (p : List ℕ). (p, x.1)) a ∙ ap (λ (t : List ℕ). (y.0, t)) b

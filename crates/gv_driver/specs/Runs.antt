@@ -1,13 +1,15 @@
 -- How a run goes on, and what it has done at its end.
-use Rattle.std.specs.Prelude.{◌≡◌, ℕ, ◌+◌, ◌≤◌, ◌<◌, Option, Some, None, List, [], ◌∷◌, ◌++◌, map, drop, length, slice_get, slice_set, sum_by, false}
+use Rattle.std.specs.Prelude.{◌≡◌, ℕ, ◌+◌, ◌≤◌, ◌<◌, Option, Some, None, List, [], ◌∷◌, ◌++◌, map, drop, length, slice_get, slice_set, sum_by, true, false}
 use Rattle.std.specs.List.{Contains}
 use Rattle.need_order.specs.declared.needed.Needed.{Needed}
 use Rattle.fact_cache.specs.declared.texts.Input.{Input}
 use Rattle.fact_cache.specs.declared.list.Entry.{Entry}
+use Rattle.action_graph.specs.Judging.{Env, IsStuckOver}
 use Rattle.gv_driver.specs.declared.tree.PackageTexts.{PackageTexts}
 use Rattle.gv_driver.specs.declared.node.Answer.{Answer}
 use Rattle.gv_driver.specs.declared.node.Node.{Node}
 use Rattle.gv_driver.specs.declared.reply.Judgement.{Judgement}
+use Rattle.gv_driver.specs.Whole.{AreFaces}
 use Rattle.gv_driver.specs.Loads.{IsPlan}
 use Rattle.gv_driver.specs.Caches.{IsHonest, IsRight, IsCacheAfter, IsPartKept, missing_of, is_cached, input_of}
 use Rattle.gv_driver.specs.Tables.{IsTable, IsReady, IsLookedUp, IsRightNode, answer_text, cost, waiting, executed, fresh_inputs}
@@ -79,7 +81,17 @@ pub record Ran (tree : List PackageTexts) (before after : List Entry) (count now
   pub runs : reply.counts.runs ≡ 0
   pub risen : now ≡ count + reply.counts.loads
 
--- A run that memory cut off: no more loads than the tree has missing ones, and only entries of such loads.
+-- A run that was cut off, by want of memory or by a circle: no more loads than the tree has missing ones, and only entries of such loads.
 pub record IsCutOff (tree : List PackageTexts) (before after : List Entry) (count now : ℕ) : Type 0 where
   pub loads : (inputs : List (Option Input)) → IsPlan tree inputs → now ≤ count + length (missing_of before inputs)
   pub cache : (inputs : List (Option Input)) → IsPlan tree inputs → IsPartKept before after inputs
+
+-- A circle: some sound package is stuck over what a run had of its imports. Over an honest cache that is their interfaces, as they come of the tree.
+pub record MeetsCircle (tree : List PackageTexts) (before : List Entry) : Type 0 where
+  pub p : ℕ
+  pub pack : PackageTexts
+  pub env : Env
+  pub at : slice_get tree p ≡ Some pack
+  pub sound : pack.sound ≡ true
+  pub stuck : IsStuckOver pack.path pack.files env
+  pub faces : IsHonest before → AreFaces tree pack.imports env

@@ -1,9 +1,9 @@
 //! Runs over a tree.
-ghost use Rattle.std.specs.Prelude.{◌≡◌, ◌<◌, ◌≤◌, ◌+◌, ◌^◌, ℕ, true, None, Some, IfOk, OnErr, length, replicate, slice_get, sum_by};
+ghost use Rattle.std.specs.Prelude.{◌≡◌, ◌<◌, ◌≤◌, ◌+◌, ◌^◌, ℕ, true, None, Some, Err, IfOk, OnErr, length, replicate, slice_get, sum_by};
 ghost use Rattle.fact_cache.specs.Caches.{is_within, trimmed};
 ghost use Rattle.gv_driver.specs.Trees.{IsTree};
 ghost use Rattle.gv_driver.specs.Caches.{IsHonest};
-ghost use Rattle.gv_driver.specs.Runs.{IsCutOff, Ran};
+ghost use Rattle.gv_driver.specs.Runs.{IsCutOff, MeetsCircle, Ran};
 ghost use Rattle.gv_driver.specs.Standing.{AreVerdictsIn};
 
 use crate::counts::counts;
@@ -13,7 +13,7 @@ use crate::reply::Judgement;
 use crate::report::verdicts;
 use crate::step::run_loads;
 use crate::tree::PackageTexts;
-use action_graph::Kit;
+use action_graph::{Kit, Unloaded};
 use fact_cache::Cache;
 use gv_base::{NoMemory, Row};
 use std::alloc::Global;
@@ -35,7 +35,7 @@ fn run_with<K: Kit>(
     tree: &[PackageTexts],
     cache: &mut Cache,
     kit: &mut K,
-) -> Result<Judgement, NoMemory>
+) -> Result<Judgement, Unloaded>
     requires tree { IsTree tree.now }
     requires few { length tree.now < 2 ^ 32 }
     requires room { K.loads kit.old ≤ 2 ^ 62 }
@@ -44,6 +44,7 @@ fn run_with<K: Kit>(
     ensures stand { IfOk result (λ reply. AreVerdictsIn tree.now reply.verdicts) }
     ensures ran { IsHonest cache.old → IfOk result (λ reply. Ran tree.now cache.old (trimmed cache.new) (K.loads kit.old) (K.loads kit.new) reply) }
     ensures cut_off { IsHonest cache.old → OnErr result (IsCutOff tree.now cache.old (trimmed cache.new) (K.loads kit.old) (K.loads kit.new)) }
+    ensures circle { result ≡ Err Unloaded.Circle → MeetsCircle tree.now cache.old }
     ensures honest { IsHonest cache.old → IsHonest cache.new }
 {
     let mut table = none_done(alloc, tree.len())?;
@@ -57,14 +58,14 @@ fn run_with<K: Kit>(
     })
 }
 
-/// The same, and then the oldest entries are dropped until the limits hold, also where memory was wanting.
+/// The same, and then the oldest entries are dropped until the limits hold, however it ended.
 #[tactic(auto, using(crate::proofs::CacheLaws::honest_trimmed, crate::proofs::CacheLaws::trimmed_is_within))]
 fn run_within<K: Kit>(
     alloc: Global,
     tree: &[PackageTexts],
     cache: &mut Cache,
     kit: &mut K,
-) -> Result<Judgement, NoMemory>
+) -> Result<Judgement, Unloaded>
     requires tree { IsTree tree.now }
     requires few { length tree.now < 2 ^ 32 }
     requires room { K.loads kit.old ≤ 2 ^ 62 }
@@ -73,6 +74,7 @@ fn run_within<K: Kit>(
     ensures stand { IfOk result (λ reply. AreVerdictsIn tree.now reply.verdicts) }
     ensures ran { IsHonest cache.old → IfOk result (λ reply. Ran tree.now cache.old cache.new (K.loads kit.old) (K.loads kit.new) reply) }
     ensures cut_off { IsHonest cache.old → OnErr result (IsCutOff tree.now cache.old cache.new (K.loads kit.old) (K.loads kit.new)) }
+    ensures circle { result ≡ Err Unloaded.Circle → MeetsCircle tree.now cache.old }
     ensures honest { IsHonest cache.old → IsHonest cache.new }
     ensures within { is_within cache.new ≡ true }
 {
@@ -84,14 +86,15 @@ fn run_within<K: Kit>(
 /// Judges a tree with the first of the kits, and with what the cache has; what was executed is kept. It returns
 /// over any cache, after at most as many loads as there are packages, with a verdict for each package whose marks
 /// stand in the package's files. Where the cache is honest, the verdicts are
-/// those of the sources, exactly the missing loads are executed, and their entries stand behind the old ones. However it
+/// those of the sources, exactly the missing loads are executed, and their entries stand behind the old ones. Where
+/// it answers that rules go in a circle, some package of the tree is stuck. However it
 /// ends, the oldest entries are then dropped until the cache's limits hold.
 pub fn run<K: Kit>(
     alloc: Global,
     tree: &[PackageTexts],
     cache: &mut Cache,
     kits: &mut [K],
-) -> Result<Judgement, NoMemory>
+) -> Result<Judgement, Unloaded>
     requires tree { IsTree tree.now }
     requires few { length tree.now < 2 ^ 32 }
     requires some { 0 < length kits.old }
@@ -101,6 +104,7 @@ pub fn run<K: Kit>(
     ensures stand { IfOk result (λ reply. AreVerdictsIn tree.now reply.verdicts) }
     ensures ran { IsHonest cache.old → IfOk result (λ reply. Ran tree.now cache.old cache.new (sum_by K.loads kits.old) (sum_by K.loads kits.new) reply) }
     ensures cut_off { IsHonest cache.old → OnErr result (IsCutOff tree.now cache.old cache.new (sum_by K.loads kits.old) (sum_by K.loads kits.new)) }
+    ensures circle { result ≡ Err Unloaded.Circle → MeetsCircle tree.now cache.old }
     ensures honest { IsHonest cache.old → IsHonest cache.new }
     ensures within { is_within cache.new ≡ true }
 {

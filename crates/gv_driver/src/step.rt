@@ -1,12 +1,12 @@
 //! Carrying out the loads of a run.
-ghost use Rattle.std.specs.Prelude.{◌≡◌, ◌+◌, ◌<◌, ◌^◌, ℕ, IfOk, OnOk, OnErr, length};
-ghost use Rattle.action_graph.specs.Judging.{IsLawful, IsOutcome};
+ghost use Rattle.std.specs.Prelude.{◌≡◌, ◌+◌, ◌<◌, ◌^◌, ℕ, Err, IfOk, OnOk, OnErr, length};
+ghost use Rattle.action_graph.specs.Judging.{IsLawful, IsOutcome, IsStuck};
 ghost use Rattle.need_order.specs.Graphs.{IsOrder};
 ghost use Rattle.gv_driver.specs.Trees.{Imports, IsTree};
 ghost use Rattle.gv_driver.specs.Loads.{load_input};
 ghost use Rattle.gv_driver.specs.Caches.{IsHonest, left_of};
 ghost use Rattle.gv_driver.specs.Tables.{IsReady, IsTable, answer_text, cost, load_from, waiting};
-ghost use Rattle.gv_driver.specs.Runs.{Goes, Looks, Performs};
+ghost use Rattle.gv_driver.specs.Runs.{Goes, Looks, MeetsCircle, Performs};
 
 use crate::answer::{answer_of, read_answer};
 use crate::input::{key_of, load_of};
@@ -15,9 +15,8 @@ use crate::order::load_order;
 use crate::parts::cached;
 use crate::ready::is_ready;
 use crate::tree::PackageTexts;
-use action_graph::Kit;
+use action_graph::{Kit, Unloaded};
 use fact_cache::Cache;
-use gv_base::NoMemory;
 use need_order::Needed;
 use std::alloc::Global;
 
@@ -28,12 +27,13 @@ fn loaded<K: Kit>(
     kit: &mut K,
     table: &[Option<Node>],
     pack: &PackageTexts,
-) -> Result<Answer, NoMemory>
+) -> Result<Answer, Unloaded>
     requires { K.loads kit.old < 2 ^ 63 }
     ensures counts { OnOk result (K.loads kit.new ≡ K.loads kit.old + 1) }
     ensures refused { OnErr result (K.loads kit.new ≡ K.loads kit.old) }
     ensures runs { K.runs kit.new ≡ K.runs kit.old }
     ensures right { IsLawful (load_from tree.now table.now pack.now) → IfOk result (λ answer. IsOutcome (load_from tree.now table.now pack.now) (answer_text answer)) }
+    ensures circle { result ≡ Err Unloaded.Circle → IsStuck (load_from tree.now table.now pack.now) }
 {
     let input = load_of(alloc, tree, table, pack)?;
     let load = kit.load(&input)?;
@@ -48,13 +48,14 @@ fn node_of<K: Kit>(
     kit: &mut K,
     table: &[Option<Node>],
     pack: &PackageTexts,
-) -> Result<Node, NoMemory>
+) -> Result<Node, Unloaded>
     requires { K.loads kit.old < 2 ^ 63 }
     ensures fresh { IfOk result (λ n. n.fresh ≡ left_of cache.now (load_input (load_from tree.now table.now pack.now))) }
     ensures counts { IfOk result (λ n. K.loads kit.new ≡ K.loads kit.old + cost n.fresh) }
     ensures refused { OnErr result (K.loads kit.new ≡ K.loads kit.old) }
     ensures runs { K.runs kit.new ≡ K.runs kit.old }
     ensures right { IsHonest cache.now → IsLawful (load_from tree.now table.now pack.now) → IfOk result (λ n. IsOutcome (load_from tree.now table.now pack.now) (answer_text n.answer)) }
+    ensures circle { result ≡ Err Unloaded.Circle → IsStuck (load_from tree.now table.now pack.now) }
 {
     let found = cached(alloc, tree, cache, table, pack)?;
     match found {
@@ -84,7 +85,7 @@ fn perform<K: Kit>(
     kit: &mut K,
     table: &mut Vec<Option<Node>>,
     at: usize,
-) -> Result<(), NoMemory>
+) -> Result<(), Unloaded>
     requires tree { IsTree tree.now }
     requires room { K.loads kit.old < 2 ^ 63 }
     requires table { IsTable tree.now cache.now table.old.items }
@@ -93,6 +94,7 @@ fn perform<K: Kit>(
     ensures table { OnErr result (table.new.items ≡ table.old.items) }
     ensures count { OnErr result (K.loads kit.new ≡ K.loads kit.old) }
     ensures runs { K.runs kit.new ≡ K.runs kit.old }
+    ensures circle { result ≡ Err Unloaded.Circle → MeetsCircle tree.now cache.now }
 {
     let node = node_of(alloc, tree, cache, kit, table, &tree[at])?;
     table[at] = Some(node);
@@ -107,7 +109,7 @@ fn look<K: Kit>(
     kit: &mut K,
     table: &mut Vec<Option<Node>>,
     at: usize,
-) -> Result<(), NoMemory>
+) -> Result<(), Unloaded>
     requires tree { IsTree tree.now }
     requires room { K.loads kit.old < 2 ^ 63 }
     requires table { IsTable tree.now cache.now table.old.items }
@@ -115,6 +117,7 @@ fn look<K: Kit>(
     ensures looks { OnOk result (Looks tree.now at table.old.items table.new.items) }
     ensures goes { Goes tree.now cache.now table.old.items table.new.items (K.loads kit.old) (K.loads kit.new) }
     ensures runs { K.runs kit.new ≡ K.runs kit.old }
+    ensures circle { result ≡ Err Unloaded.Circle → MeetsCircle tree.now cache.now }
 {
     if !is_ready(tree, table, at) {
         return Ok(());
@@ -131,7 +134,7 @@ fn run_in_order<K: Kit>(
     kit: &mut K,
     table: &mut Vec<Option<Node>>,
     order: &[Needed],
-) -> Result<(), NoMemory>
+) -> Result<(), Unloaded>
     requires tree { IsTree tree.now }
     requires order { IsOrder (Imports tree.now) (length tree.now) order.now }
     requires room { K.loads kit.old + waiting table.old.items < 2 ^ 63 }
@@ -139,6 +142,7 @@ fn run_in_order<K: Kit>(
     ensures goes { Goes tree.now cache.now table.old.items table.new.items (K.loads kit.old) (K.loads kit.new) }
     ensures done { OnOk result ((p : ℕ) → IsReady tree.now table.new.items p → ⊥) }
     ensures runs { K.runs kit.new ≡ K.runs kit.old }
+    ensures circle { result ≡ Err Unloaded.Circle → MeetsCircle tree.now cache.now }
 {
     for next in order {
         look(alloc, tree, cache, kit, table, next.vertex as usize)?;
@@ -154,7 +158,7 @@ pub(crate) fn run_loads<K: Kit>(
     cache: &Cache,
     kit: &mut K,
     table: &mut Vec<Option<Node>>,
-) -> Result<(), NoMemory>
+) -> Result<(), Unloaded>
     requires tree { IsTree tree.now }
     requires few { length tree.now < 2 ^ 32 }
     requires room { K.loads kit.old + waiting table.old.items < 2 ^ 63 }
@@ -162,6 +166,7 @@ pub(crate) fn run_loads<K: Kit>(
     ensures goes { Goes tree.now cache.now table.old.items table.new.items (K.loads kit.old) (K.loads kit.new) }
     ensures done { OnOk result ((p : ℕ) → IsReady tree.now table.new.items p → ⊥) }
     ensures runs { K.runs kit.new ≡ K.runs kit.old }
+    ensures circle { result ≡ Err Unloaded.Circle → MeetsCircle tree.now cache.now }
 {
     let order = load_order(alloc, tree)?;
     run_in_order(alloc, tree, cache, kit, table, &order)?;

@@ -2,7 +2,7 @@
 use Rattle.std.proofs.Common.{◌≡◌, ℕ, zero, suc, ◌-◌, List, [], ◌∷◌, ◌++◌, length, take, refl, sym, ap, ◌∙◌, arith, append_assoc, Some}
 use Rattle.std.proofs.lemmas.List.{append-nil, length-append}
 use Rattle.gv_tool.specs.declared.status.Status.{Status}
-use Rattle.gv_tool.specs.declared.status.Status.TheVariants.{Done, Found, Usage, SourceFault, SinkFault, NoMemory, Refused, TooLong, Stuck, NotBuilt}
+use Rattle.gv_tool.specs.declared.status.Status.TheVariants.{Done, Found, Usage, SourceFault, SinkFault, NoMemory, Refused, TooLong, Stuck, NotBuilt, Circle}
 use Rattle.gv_tool.specs.Script.{ending, spelling, NoCommand}
 use Rattle.gv_tool.specs.Judging.{Tree}
 use Rattle.gv_tool.specs.Replies.{Standing}
@@ -49,6 +49,7 @@ ends-whole now n tail said out rest SourceFault a e = absurd a
 ends-whole now n tail said out rest SinkFault a e = absurd a
 ends-whole now n tail said out rest NoMemory a e = absurd a
 ends-whole now n tail said out rest Stuck a e = absurd a
+ends-whole now n tail said out rest Circle a e = absurd a
 
 pub Outcome-whole : (start : Standing) (given out rest : List ℕ) (status : Status) → IsAllDue status → Outcome start given out (Some rest) status → Outcome start (given ++ rest) out (Some []) status
 Outcome-whole start given out rest status a o = record { now = o.now; read = o.read; rest = o.rest ++ rest; said = o.said; reached = Reached-more rest o.reached; ends = ends-whole o.now (length o.read) o.rest o.said out rest status a o.ends }

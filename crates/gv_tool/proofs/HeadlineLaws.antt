@@ -3,7 +3,7 @@ use Rattle.std.proofs.Common.{◌≡◌, ◌⊎◌, inl, inr, ℕ, List, refl, s
 use Rattle.gv_base.specs.Sources.{SourceView}
 use Rattle.gv_base.specs.Sinks.{SinkView}
 use Rattle.gv_tool.specs.declared.status.Status.{Status}
-use Rattle.gv_tool.specs.declared.status.Status.TheVariants.{Done, Found, Usage, SourceFault, SinkFault, NoMemory, Refused, TooLong, Stuck, NotBuilt}
+use Rattle.gv_tool.specs.declared.status.Status.TheVariants.{Done, Found, Usage, SourceFault, SinkFault, NoMemory, Refused, TooLong, Stuck, NotBuilt, Circle}
 use Rattle.gv_tool.specs.Replies.{at_start}
 use Rattle.gv_tool.specs.Turn.{Runs}
 use Rattle.gv_tool.specs.Headline.{Session, EndedBy, number_of, IsAllDue, IsDueOf, IsCutShort, Due}
@@ -31,6 +31,7 @@ only-refused Refused e = refl
 only-refused TooLong e = absurd (omega arith)
 only-refused Stuck e = absurd (omega arith)
 only-refused NotBuilt e = absurd (omega arith)
+only-refused Circle e = absurd (omega arith)
 
 pub only-not_built : (s : Status) → number_of s ≡ 11 → s ≡ NotBuilt
 only-not_built Done e = absurd (omega arith)
@@ -43,6 +44,20 @@ only-not_built Refused e = absurd (omega arith)
 only-not_built TooLong e = absurd (omega arith)
 only-not_built Stuck e = absurd (omega arith)
 only-not_built NotBuilt e = refl
+only-not_built Circle e = absurd (omega arith)
+
+pub only-circle : (s : Status) → number_of s ≡ 12 → s ≡ Circle
+only-circle Done e = absurd (omega arith)
+only-circle Found e = absurd (omega arith)
+only-circle Usage e = absurd (omega arith)
+only-circle SourceFault e = absurd (omega arith)
+only-circle SinkFault e = absurd (omega arith)
+only-circle NoMemory e = absurd (omega arith)
+only-circle Refused e = absurd (omega arith)
+only-circle TooLong e = absurd (omega arith)
+only-circle Stuck e = absurd (omega arith)
+only-circle NotBuilt e = absurd (omega arith)
+only-circle Circle e = refl
 
 pub only-too_long : (s : Status) → number_of s ≡ 9 → s ≡ TooLong
 only-too_long Done e = absurd (omega arith)
@@ -55,6 +70,7 @@ only-too_long Refused e = absurd (omega arith)
 only-too_long TooLong e = refl
 only-too_long Stuck e = absurd (omega arith)
 only-too_long NotBuilt e = absurd (omega arith)
+only-too_long Circle e = absurd (omega arith)
 
 -- the status is that of what is due, or that of an end before it
 pub exact-of : OneReport → (a b : SourceView) (x y : SinkView) (status : Status) (script whole : List ℕ) (due : Status) → Runs a b x y status → a.left ≡ Some script → Due script whole due → (number_of status ≡ number_of due) ⊎ IsCutShort (number_of status)
@@ -76,4 +92,5 @@ exact-of law a b x y status script whole due r e d = go status refl
     go Usage k = absurd (never_usage at_start r.given r.out b.left status r.outcome k)
     go SourceFault k = inr (inr (inl (ap number_of k)))
     go SinkFault k = inr (inr (inr (inl (ap number_of k))))
-    go Stuck k = inr (inr (inr (inr (ap number_of k))))
+    go Stuck k = inr (inr (inr (inr (inl (ap number_of k)))))
+    go Circle k = inr (inr (inr (inr (inr (ap number_of k)))))

@@ -5,7 +5,7 @@ use Rattle.std.specs.Io.KnownBytes.{Consumes}
 use Rattle.gv_tool.specs.declared.word.Word.{Word}
 use Rattle.gv_tool.specs.declared.word.Word.TheVariants.{Put, Del, Check, Stats, End}
 use Rattle.gv_tool.specs.declared.status.Status.{Status}
-use Rattle.gv_tool.specs.declared.status.Status.TheVariants.{Done, Found, Usage, SourceFault, SinkFault, NoMemory, Refused, TooLong, Stuck, NotBuilt}
+use Rattle.gv_tool.specs.declared.status.Status.TheVariants.{Done, Found, Usage, SourceFault, SinkFault, NoMemory, Refused, TooLong, Stuck, NotBuilt, Circle}
 use Rattle.gv_tool.specs.Script.{Fields, Command, ending, spelling, IsLawful, IsBeginning, NoCommand}
 use Rattle.gv_tool.specs.Judging.{Tree, IsBuilt}
 use Rattle.gv_tool.specs.Replies.{Standing, is_run, Carries, Does, at_start}
@@ -150,6 +150,7 @@ whole-of law now n rest said whole SourceFault a e = absurd a
 whole-of law now n rest said whole SinkFault a e = absurd a
 whole-of law now n rest said whole NoMemory a e = absurd a
 whole-of law now n rest said whole Stuck a e = absurd a
+whole-of law now n rest said whole Circle a e = absurd a
 
 -- a script has one end at which all is due
 record Same (out out' : List ℕ) (st st' : Status) : Type 0 where
@@ -170,6 +171,7 @@ ends-single now n rest said out out' Done SourceFault a b e f = absurd b
 ends-single now n rest said out out' Done SinkFault a b e f = absurd b
 ends-single now n rest said out out' Done NoMemory a b e f = absurd b
 ends-single now n rest said out out' Done Stuck a b e f = absurd b
+ends-single now n rest said out out' Done Circle a b e f = absurd b
 ends-single now n rest said out out' Found Done a b e f = absurd (both-found now.found e.2 f.2)
 ends-single now n rest said out out' Found Found a b e f = record { output = e.0 ∙ sym f.0; status = refl }
 ends-single now n rest said out out' Found Refused a b e f = absurd (refused-not-ending n rest f.1 e.1)
@@ -180,6 +182,7 @@ ends-single now n rest said out out' Found SourceFault a b e f = absurd b
 ends-single now n rest said out out' Found SinkFault a b e f = absurd b
 ends-single now n rest said out out' Found NoMemory a b e f = absurd b
 ends-single now n rest said out out' Found Stuck a b e f = absurd b
+ends-single now n rest said out out' Found Circle a b e f = absurd b
 ends-single now n rest said out out' Refused Done a b e f = absurd (refused-not-ending n rest e.1 f.1)
 ends-single now n rest said out out' Refused Found a b e f = absurd (refused-not-ending n rest e.1 f.1)
 ends-single now n rest said out out' Refused Refused a b e f = record { output = e.0 ∙ sym f.0; status = refl }
@@ -190,6 +193,7 @@ ends-single now n rest said out out' Refused SourceFault a b e f = absurd b
 ends-single now n rest said out out' Refused SinkFault a b e f = absurd b
 ends-single now n rest said out out' Refused NoMemory a b e f = absurd b
 ends-single now n rest said out out' Refused Stuck a b e f = absurd b
+ends-single now n rest said out out' Refused Circle a b e f = absurd b
 ends-single now n rest said out out' TooLong Done a b e f = absurd (ending-not-past n rest f.1 e.1)
 ends-single now n rest said out out' TooLong Found a b e f = absurd (ending-not-past n rest f.1 e.1)
 ends-single now n rest said out out' TooLong Refused a b e f = absurd (refused-is-not-past n rest f.1 e.1)
@@ -200,6 +204,7 @@ ends-single now n rest said out out' TooLong SourceFault a b e f = absurd b
 ends-single now n rest said out out' TooLong SinkFault a b e f = absurd b
 ends-single now n rest said out out' TooLong NoMemory a b e f = absurd b
 ends-single now n rest said out out' TooLong Stuck a b e f = absurd b
+ends-single now n rest said out out' TooLong Circle a b e f = absurd b
 ends-single now n rest said out out' NotBuilt Done a b e f = absurd (unbuilt-not-ending now.tree n rest e.1 f.1)
 ends-single now n rest said out out' NotBuilt Found a b e f = absurd (unbuilt-not-ending now.tree n rest e.1 f.1)
 ends-single now n rest said out out' NotBuilt Refused a b e f = absurd (unbuilt-not-refused now.tree n rest e.1 f.1)
@@ -210,11 +215,13 @@ ends-single now n rest said out out' NotBuilt SourceFault a b e f = absurd b
 ends-single now n rest said out out' NotBuilt SinkFault a b e f = absurd b
 ends-single now n rest said out out' NotBuilt NoMemory a b e f = absurd b
 ends-single now n rest said out out' NotBuilt Stuck a b e f = absurd b
+ends-single now n rest said out out' NotBuilt Circle a b e f = absurd b
 ends-single now n rest said out out' Usage st' a b e f = absurd a
 ends-single now n rest said out out' SourceFault st' a b e f = absurd a
 ends-single now n rest said out out' SinkFault st' a b e f = absurd a
 ends-single now n rest said out out' NoMemory st' a b e f = absurd a
 ends-single now n rest said out out' Stuck st' a b e f = absurd a
+ends-single now n rest said out out' Circle st' a b e f = absurd a
 
 -- what is due for a script is one output, and one status
 pub Due-single : OneReport → (script out out' : List ℕ) (st st' : Status) → Due script out st → Due script out' st' → (out ≡ out') × (st ≡ st')
@@ -291,6 +298,7 @@ ends-prefix law script whole now read tail rest said out status d r e = go statu
     go NoMemory e = cut_off e
     go Stuck e = cut_off e
     go TooLong e = equal e.0
+    go Circle e = equal e.0
     go Refused e = same-prefix out whole (e.0 ∙ refused e.1)
     go NotBuilt e = same-prefix out whole (e.0 ∙ unbuilt e.1)
 

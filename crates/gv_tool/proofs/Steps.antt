@@ -12,13 +12,13 @@ use Rattle.gv_tool.specs.declared.word.Word.TheVariants.{End}
 use Rattle.gv_tool.specs.declared.word.Shape.TheVariants.{Bare}
 use Rattle.gv_tool.specs.Words.{shape_of}
 use Rattle.gv_tool.specs.declared.status.Status.{Status}
-use Rattle.gv_tool.specs.declared.status.Status.TheVariants.{Done, Found, Usage, SourceFault, SinkFault, NoMemory, Refused, TooLong, Stuck, NotBuilt}
+use Rattle.gv_tool.specs.declared.status.Status.TheVariants.{Done, Found, Usage, SourceFault, SinkFault, NoMemory, Refused, TooLong, Stuck, NotBuilt, Circle}
 use Rattle.gv_tool.specs.Script.{Fields, bare, at_path, with_file, Fit, Command, ending, spelling, IsLawful, IsBeginning, NoCommand}
 use Rattle.gv_tool.specs.Next.{IsNext, command_of}
-use Rattle.gv_tool.specs.Judging.{IsBuilt, IsHonest}
+use Rattle.gv_tool.specs.Judging.{HasCircle, IsBuilt, IsHonest}
 use Rattle.gv_tool.specs.Replies.{Standing, is_run, Does, Leads, Answered}
 use Rattle.gv_tool.specs.Desk.{standing_of}
-use Rattle.gv_tool.specs.Outcome.{limit, refusal, not_built, IsPrefix, Reached, IsRefused, no_command, cut_short, IsUnbuilt, IsEnding, by_command, IsCutOff, of_replies, of_refusal, of_unbuilt, EndsBy, Outcome}
+use Rattle.gv_tool.specs.Outcome.{limit, refusal, not_built, IsPrefix, Reached, IsRefused, no_command, cut_short, IsUnbuilt, IsCircular, IsEnding, by_command, IsCutOff, of_replies, of_refusal, of_unbuilt, EndsBy, Outcome}
 use Rattle.gv_tool.specs.Turn.{Stands, StandsOrEnds, LeavesReply, IsLastLine, verdict_of}
 
 -- one more command
@@ -111,6 +111,7 @@ Outcome-refused session left said Found h r e = absurd e
 Outcome-refused session left said Usage h r e = absurd e
 Outcome-refused session left said SourceFault h r e = absurd e
 Outcome-refused session left said TooLong h r e = absurd e
+Outcome-refused session left said Circle h r e = absurd e
 Outcome-refused session left said NotBuilt h r e = absurd (let x : Refused ≡ NotBuilt = e.0 in cc)
 Outcome-refused {out = out} session left said SinkFault h r e = Outcome-here session (out ++ said) left SinkFault h (of_refusal r (more-said out said (refusal session.offset) e))
 Outcome-refused {out = out} session left said Stuck h r e = Outcome-here session (out ++ said) left Stuck h (of_refusal r (more-said out said (refusal session.offset) e))
@@ -124,6 +125,7 @@ Outcome-unbuilt session left said Found h r e = absurd e
 Outcome-unbuilt session left said Usage h r e = absurd e
 Outcome-unbuilt session left said SourceFault h r e = absurd e
 Outcome-unbuilt session left said TooLong h r e = absurd e
+Outcome-unbuilt session left said Circle h r e = absurd e
 Outcome-unbuilt session left said Refused h r e = absurd (let x : NotBuilt ≡ Refused = e.0 in cc)
 Outcome-unbuilt {out = out} session left said SinkFault h r e = Outcome-here session (out ++ said) left SinkFault h (of_unbuilt r (more-said out said (not_built session.offset) e))
 Outcome-unbuilt {out = out} session left said Stuck h r e = Outcome-here session (out ++ said) left Stuck h (of_unbuilt r (more-said out said (not_built session.offset) e))
@@ -136,6 +138,16 @@ IsUnbuilt-of session decoded len next run never =
     let w = within-limit session in
     let l : length session.pending ≡ length (spelling (command_of decoded)) + length (drop len session.pending) = ap length next.0.spelled ∙ length-append (spelling (command_of decoded)) (drop len session.pending) in
     record { command = command_of decoded; more = drop len session.pending; lawful = next.0.lawful; run = run; spelled = next.0.spelled; within = omega arith; unbuilt = never }
+
+-- a run at which the rules of a package go in a circle
+IsCircular-of : (session : Session) (decoded : Decoded) (len : ℕ) → IsNext session.pending (Whole decoded len) → is_run decoded.word ≡ true → HasCircle session.desk.files → IsCircular session.desk.files session.offset session.pending
+IsCircular-of session decoded len next run circle =
+    let w = within-limit session in
+    let l : length session.pending ≡ length (spelling (command_of decoded)) + length (drop len session.pending) = ap length next.0.spelled ∙ length-append (spelling (command_of decoded)) (drop len session.pending) in
+    record { command = command_of decoded; more = drop len session.pending; lawful = next.0.lawful; run = run; spelled = next.0.spelled; within = omega arith; circle = circle }
+
+pub Outcome-circle : {start : Standing} {given out : List ℕ} (session : Session) (decoded : Decoded) (len : ℕ) (left : Option (List ℕ)) → Stands start given out session → IsNext session.pending (Whole decoded len) → is_run decoded.word ≡ true → HasCircle session.desk.files → Outcome start given (out ++ []) left Circle
+Outcome-circle {out = out} session decoded len left h next run circle = Outcome-here session (out ++ []) left Circle h (append-nil out, IsCircular-of session decoded len next run circle)
 
 -- no command comes
 pub IsRefused-none : (session : Session) (left : Option (List ℕ)) → NoCommand session.pending → IsRefused session.offset session.pending left
@@ -213,6 +225,7 @@ StandsOrEnds-reply old mid new decoded len reply said left (Some NoMemory) h nex
 StandsOrEnds-reply old mid new decoded len reply said left (Some Refused) h next does p o k l = absurd l.1
 StandsOrEnds-reply old mid new decoded len reply said left (Some TooLong) h next does p o k l = absurd l.1
 StandsOrEnds-reply old mid new decoded len reply said left (Some NotBuilt) h next does p o k l = absurd l.1
+StandsOrEnds-reply old mid new decoded len reply said left (Some Circle) h next does p o k l = absurd l.1
 
 pub empty-list : (xs : List ℕ) → length xs ≡ 0 → xs ≡ []
 empty-list [] e = refl

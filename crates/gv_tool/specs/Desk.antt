@@ -1,15 +1,15 @@
 -- What a session holds, as the place where it stands.
 use Rattle.std.specs.Prelude.{◌≡◌, ℕ, List, true, sum_by}
-use Rattle.const_kit.specs.declared.kit.ConstKit.{ConstKit}
+use Rattle.go_kit.specs.declared.kit.GoKit.{GoKit}
 use Rattle.gv_tool.specs.declared.desk.Desk.{Desk}
 use Rattle.gv_tool.specs.declared.desk.Answer.{Answer}
 use Rattle.gv_tool.specs.declared.desk.Answer.TheVariants.{Reply, NotBuilt}
 use Rattle.gv_tool.specs.Script.{Command}
-use Rattle.gv_tool.specs.Judging.{IsBuilt}
+use Rattle.gv_tool.specs.Judging.{HasCircle, IsBuilt}
 use Rattle.gv_tool.specs.Replies.{Standing, is_run, Runs, Does}
 
 -- how many loads the kits have done
-abbrev pub loads_of : List ConstKit → ℕ
+abbrev pub loads_of : List GoKit → ℕ
 loads_of kits = sum_by (λ kit. kit.loads) kits
 
 abbrev pub standing_of : Desk → Standing
@@ -24,3 +24,7 @@ IsAnswer command old now NotBuilt = (is_run command.word ≡ true) × (IsBuilt o
 abbrev pub IsReport : Standing → Standing → Answer → Type 0
 IsReport old now (Reply text) = Runs old now text
 IsReport old now NotBuilt = (IsBuilt old.tree → ⊥) × (now ≡ old)
+
+-- a run at which the rules of a package of the tree go in a circle
+abbrev pub IsStuckRun : Command → Standing → Type 0
+IsStuckRun command old = (is_run command.word ≡ true) × HasCircle old.tree

@@ -6,7 +6,7 @@ use Rattle.gv_base.specs.Counts.{Rose}
 use Rattle.gv_base.specs.Sources.{SourceView}
 use Rattle.gv_base.specs.Sinks.{SinkView}
 use Rattle.gv_tool.specs.declared.status.Status.{Status}
-use Rattle.gv_tool.specs.declared.status.Status.TheVariants.{Done, Found, Usage, SourceFault, SinkFault, NoMemory, Refused, TooLong, Stuck, NotBuilt}
+use Rattle.gv_tool.specs.declared.status.Status.TheVariants.{Done, Found, Usage, SourceFault, SinkFault, NoMemory, Refused, TooLong, Stuck, NotBuilt, Circle}
 use Rattle.gv_tool.specs.Replies.{at_start}
 use Rattle.gv_tool.specs.Outcome.{IsPrefix, Outcome}
 use Rattle.gv_tool.specs.Turn.{Runs}
@@ -23,12 +23,13 @@ number_of Refused = 8
 number_of TooLong = 9
 number_of Stuck = 10
 number_of NotBuilt = 11
+number_of Circle = 12
 
 -- the name of each status at the place of its number; the two of a session that was read and answered have none
 abbrev pub names : List (List ℕ)
 names =
     [] ∷ [] ∷ codes "usage" ∷ codes "source fault" ∷ [] ∷ [] ∷ codes "sink fault" ∷ codes "no memory"
-    ∷ codes "script refused" ∷ codes "input too long" ∷ codes "sink stuck" ∷ codes "not built" ∷ []
+    ∷ codes "script refused" ∷ codes "input too long" ∷ codes "sink stuck" ∷ codes "not built" ∷ codes "rules in a circle" ∷ []
 
 -- the name of the status of this number, empty where no status has it
 abbrev pub name_of : ℕ → List ℕ
@@ -46,6 +47,7 @@ IsAllDue Refused = Unit {0}
 IsAllDue TooLong = Unit {0}
 IsAllDue Stuck = ⊥
 IsAllDue NotBuilt = Unit {0}
+IsAllDue Circle = ⊥
 
 -- what is due for a script, and with which status: a session that is given all of it
 pub record Due (script out : List ℕ) (status : Status) : Type 0 where
@@ -79,13 +81,13 @@ pub record EndedBy (source source' : SourceView) (sink sink' : SinkView) (status
 abbrev pub IsSession : List (String Global) → Type 0
 IsSession words = map string_bytes words ≡ codes "session" ∷ []
 
--- all that is due went out, or memory was wanting
+-- all that is due went out, or memory was wanting, or the rules of a package go in a circle
 abbrev pub IsComplete : ℕ → Type 0
-IsComplete result = (status : Status) × (result ≡ number_of status) × (IsAllDue status ⊎ (status ≡ NoMemory))
+IsComplete result = (status : Status) × (result ≡ number_of status) × (IsAllDue status ⊎ ((status ≡ NoMemory) ⊎ (status ≡ Circle)))
 
--- the status of want of memory, or of a device that failed or stalled
+-- the status of want of memory, of a circle, or of a device that failed or stalled
 abbrev pub IsCutShort : ℕ → Type 0
-IsCutShort result = (result ≡ 7) ⊎ ((result ≡ 3) ⊎ ((result ≡ 6) ⊎ (result ≡ 10)))
+IsCutShort result = (result ≡ 7) ⊎ ((result ≡ 3) ⊎ ((result ≡ 6) ⊎ ((result ≡ 10) ⊎ (result ≡ 12))))
 
 -- no count of a fault or a stall rose
 pub record NothingRose (before after : SourceView) (held taken : SinkView) : Type 0 where

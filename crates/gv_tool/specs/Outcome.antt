@@ -4,9 +4,9 @@ use Rattle.std.specs.Io.KnownBytes.{IsAtEnd}
 use Rattle.std.specs.Fmt.{decimal}
 use Rattle.gv_base.specs.Counts.{Rose}
 use Rattle.gv_tool.specs.declared.status.Status.{Status}
-use Rattle.gv_tool.specs.declared.status.Status.TheVariants.{Done, Found, Usage, SourceFault, SinkFault, NoMemory, Refused, TooLong, Stuck, NotBuilt}
+use Rattle.gv_tool.specs.declared.status.Status.TheVariants.{Done, Found, Usage, SourceFault, SinkFault, NoMemory, Refused, TooLong, Stuck, NotBuilt, Circle}
 use Rattle.gv_tool.specs.Script.{Command, ending, spelling, IsLawful, IsBeginning, NoCommand}
-use Rattle.gv_tool.specs.Judging.{Tree, IsBuilt}
+use Rattle.gv_tool.specs.Judging.{Tree, HasCircle, IsBuilt}
 use Rattle.gv_tool.specs.Replies.{Standing, is_run, Answered}
 
 -- the most bytes of a script
@@ -46,6 +46,16 @@ pub record IsUnbuilt (tree : Tree) (offset : ℕ) (rest : List ℕ) : Type 0 whe
   pub within : offset + length (spelling command) ≤ limit
   pub unbuilt : IsBuilt tree → ⊥
 
+-- the rest from the offset on begins with a run, and the rules of a package of the tree go in a circle
+pub record IsCircular (tree : Tree) (offset : ℕ) (rest : List ℕ) : Type 0 where
+  pub command : Command
+  pub more : List ℕ
+  pub lawful : IsLawful command
+  pub run : is_run command.word ≡ true
+  pub spelled : rest ≡ spelling command ++ more
+  pub within : offset + length (spelling command) ≤ limit
+  pub circle : HasCircle tree
+
 -- the rest from the offset on ends a session
 pub data IsEnding (offset : ℕ) (rest : List ℕ) (left : Option (List ℕ)) : Type 0 where
   at_end : rest ≡ [] → IsAtEnd left → IsEnding offset rest left
@@ -78,6 +88,7 @@ EndsBy now offset rest said out left Refused = (out ≡ said ++ refusal offset) 
 EndsBy now offset rest said out left TooLong = (out ≡ said) × IsPastLimit offset rest
 EndsBy now offset rest said out left Stuck = IsCutOff now.tree offset rest said out left
 EndsBy now offset rest said out left NotBuilt = (out ≡ said ++ not_built offset) × IsUnbuilt now.tree offset rest
+EndsBy now offset rest said out left Circle = (out ≡ said) × IsCircular now.tree offset rest
 
 -- A session that was given these bytes and let these out: where it stands, and how it ends there.
 pub record Outcome (start : Standing) (given out : List ℕ) (left : Option (List ℕ)) (status : Status) : Type 0 where

@@ -5,7 +5,7 @@ use Rattle.gv_base.specs.Counts.{RoseBy}
 use Rattle.gv_base.specs.Sources.{SourceView}
 use Rattle.gv_base.specs.Sinks.{SinkView}
 use Rattle.gv_tool.specs.declared.status.Status.{Status}
-use Rattle.gv_tool.specs.declared.status.Status.TheVariants.{Done, Found, Usage, SourceFault, SinkFault, NoMemory, Refused, TooLong, Stuck, NotBuilt}
+use Rattle.gv_tool.specs.declared.status.Status.TheVariants.{Done, Found, Usage, SourceFault, SinkFault, NoMemory, Refused, TooLong, Stuck, NotBuilt, Circle}
 use Rattle.gv_tool.specs.declared.session.Session.{Session}
 use Rattle.gv_tool.specs.declared.pieces.Taken.{Taken}
 use Rattle.gv_tool.specs.declared.pieces.Taken.TheVariants.{More, AtEnd, Over, Fault, Full}
@@ -69,6 +69,7 @@ IsOfSink NoMemory = ⊥
 IsOfSink Refused = ⊥
 IsOfSink TooLong = ⊥
 IsOfSink NotBuilt = ⊥
+IsOfSink Circle = ⊥
 
 -- A reply to the command of the first len pending bytes: it went out whole, and they are passed over; or a part of it did.
 abbrev pub LeavesReply : ℕ → List ℕ → List ℕ → Session → Session → Option Status → Type 0
@@ -92,6 +93,7 @@ IsLastLine line wanted said Found = ⊥
 IsLastLine line wanted said Usage = ⊥
 IsLastLine line wanted said SourceFault = ⊥
 IsLastLine line wanted said TooLong = ⊥
+IsLastLine line wanted said Circle = ⊥
 
 pub record SaysLast (sink sink' : SinkView) (text : List ℕ) (wanted result : Status) : Type 0 where
   pub said : List ℕ
@@ -139,3 +141,4 @@ IsLast SinkFault = ⊥
 IsLast NoMemory = ⊥
 IsLast TooLong = ⊥
 IsLast Stuck = ⊥
+IsLast Circle = ⊥

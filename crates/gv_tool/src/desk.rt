@@ -1,15 +1,16 @@
 //! The state of a session, and what a command does to it.
-ghost use Rattle.std.specs.Prelude.{◌≡◌, ◌≢◌, ◌≤◌, ◌+◌, ◌^◌, IfOk, []};
+ghost use Rattle.std.specs.Prelude.{◌≡◌, ◌≢◌, ◌≤◌, ◌+◌, ◌^◌, Err, IfOk, []};
 ghost use Rattle.gv_base.specs.Paths.{IsPath};
 ghost use Rattle.analysis_core.specs.Replies.{stats_text};
-ghost use Rattle.gv_tool.specs.Judging.{IsHonest};
+ghost use Rattle.gv_tool.specs.Judging.{HasCircle, IsHonest};
 
 use crate::fieldset::Fields;
 use crate::script::Command;
 use crate::word::Word;
+use action_graph::Unloaded;
 use analysis_core::Counts;
-use const_kit::ConstKit;
 use fact_cache::{Cache, Key};
+use go_kit::GoKit;
 use gv_base::{Bytes, Files, NoMemory};
 use report_text::stats;
 use std::alloc::Global;
@@ -31,7 +32,7 @@ pub struct Desk {
     pub found: bool,
     pub cache: Cache,
     pub counts: Counts,
-    pub kits: [ConstKit; 1],
+    pub kits: [GoKit; 1],
 }
 
 /// The numbers before any run.
@@ -62,7 +63,7 @@ fn silence(alloc: Global) -> Answer
 
 impl Desk {
     ghost use Rattle.gv_base.specs.Files.{put_file, del_file};
-    ghost use Rattle.gv_tool.specs.Desk.{standing_of, loads_of, IsAnswer, IsReport};
+    ghost use Rattle.gv_tool.specs.Desk.{standing_of, loads_of, IsAnswer, IsReport, IsStuckRun};
     ghost use Rattle.gv_tool.specs.Next.{command_of};
     ghost use Rattle.gv_tool.specs.Script.{IsLawful};
     ghost use Rattle.gv_tool.specs.Replies.{at_start, with_tree};
@@ -79,7 +80,7 @@ impl Desk {
             found: false,
             cache: Cache::with_key(alloc, key),
             counts: NO_COUNTS,
-            kits: [ConstKit::new(alloc)],
+            kits: [GoKit::new(alloc)],
         }
     }
 
@@ -106,11 +107,12 @@ impl Desk {
     }
 
     /// Reports on the tree. The kit does at most 1,024 loads.
-    fn check(&mut self, alloc: Global) -> Result<Answer, NoMemory>
+    fn check(&mut self, alloc: Global) -> Result<Answer, Unloaded>
         requires room { loads_of self.old.kits ≤ 2 ^ 62 }
         ensures bound { loads_of self.new.kits ≤ loads_of self.old.kits + 1024 }
         ensures honest { IsHonest self.old.cache → IsHonest self.new.cache }
         ensures report { IsHonest self.old.cache → IfOk result (λ answer. IsReport (standing_of self.old) (standing_of self.new) answer) }
+        ensures circle { IsHonest self.old.cache → result ≡ Err Unloaded.Circle → HasCircle self.old.files }
     {
         let answer = report_on(alloc, &self.files, &mut self.cache, &mut self.kits)?;
         match answer {
@@ -132,17 +134,21 @@ impl Desk {
     }
 
     /// Carries a command out, and gives the answer to it.
-    pub(crate) fn apply(&mut self, alloc: Global, command: Command<'_>) -> Result<Answer, NoMemory>
+    pub(crate) fn apply(&mut self, alloc: Global, command: Command<'_>) -> Result<Answer, Unloaded>
         requires lawful { IsLawful (command_of command) }
         requires goes { command.word ≢ Word.End }
         requires room { loads_of self.old.kits ≤ 2 ^ 62 }
         ensures bound { loads_of self.new.kits ≤ loads_of self.old.kits + 1024 }
         ensures honest { IsHonest self.old.cache → IsHonest self.new.cache }
         ensures answer { IsHonest self.old.cache → IfOk result (λ answer. IsAnswer (command_of command.entry) (standing_of self.old) (standing_of self.new) answer) }
+        ensures circle { IsHonest self.old.cache → result ≡ Err Unloaded.Circle → IsStuckRun (command_of command.entry) (standing_of self.old) }
     {
         match command.word {
             Word::Put => match command.fields {
-                Fields::With(path, bytes) => self.put(alloc, path, bytes),
+                Fields::With(path, bytes) => {
+                    let answer = self.put(alloc, path, bytes)?;
+                    Ok(answer)
+                }
                 Fields::Plain => unreachable!(),
                 Fields::At(_) => unreachable!(),
             },
@@ -152,7 +158,10 @@ impl Desk {
                 Fields::With(_, _) => unreachable!(),
             },
             Word::Check => self.check(alloc),
-            Word::Stats => self.stats(alloc),
+            Word::Stats => {
+                let answer = self.stats(alloc)?;
+                Ok(answer)
+            }
             Word::End => unreachable!(),
         }
     }

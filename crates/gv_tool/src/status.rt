@@ -25,6 +25,8 @@ pub enum Status {
     Stuck = 10,
     /// The tree at a run isn't in the form that is built.
     NotBuilt = 11,
+    /// The rules of a package of the tree at a run go in a circle.
+    Circle = 12,
 }
 
 /// The name of the status of this number; empty for 0 and 1, and for a number that is no status's.
@@ -40,6 +42,7 @@ pub fn status_name(number: u8) -> &'static str
         9 => "input too long",
         10 => "sink stuck",
         11 => "not built",
+        12 => "rules in a circle",
         _ => "",
     }
 }

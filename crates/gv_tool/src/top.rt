@@ -12,6 +12,7 @@ use crate::pieces::{Taken, take_piece};
 use crate::script::{Next, next_command};
 use crate::session::Session;
 use crate::status::Status;
+use action_graph::Unloaded;
 use fact_cache::Key;
 use gv_base::{Sink, Source};
 use std::alloc::Global;
@@ -65,7 +66,8 @@ fn turn<I: Source, O: Sink>(
             match session.desk.apply(alloc, command) {
                 Ok(Answer::Reply(reply)) => tell(session, len, reply.as_slice(), output),
                 Ok(Answer::NotBuilt) => Some(stop(alloc, session, output)),
-                Err(_) => Some(Status::NoMemory),
+                Err(Unloaded::NoMemory) => Some(Status::NoMemory),
+                Err(Unloaded::Circle) => Some(Status::Circle),
             }
         }
         Next::Refused => Some(refuse(alloc, session, output)),

@@ -4,9 +4,9 @@
 #[cfg(test)]
 mod action_graph_tests;
 #[cfg(test)]
-mod const_kit_tests;
-#[cfg(test)]
 mod fact_cache_tests;
+#[cfg(test)]
+mod go_kit_tests;
 #[cfg(test)]
 mod report_text_tests;
 #[cfg(test)]

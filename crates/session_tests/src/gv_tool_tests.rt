@@ -54,8 +54,8 @@ const SCRIPTS: [Case; 25] = [
     (b"del a:b\n", b"script refused at 0\n", 8),
     (b"Check\n", b"script refused at 0\n", 8),
     (b"check\r\n", b"script refused at 0\n", 8),
-    (b"put a/a.go 21\npackage a\n\nvar x int\n\nstats\ncheck\n", b"nodes 0, missing 0, loads 0, runs 0\nnot built at 42\n", 11),
-    (b"check\nput a/a.go 21\npackage a\n\nvar x int\n\ndel a/a.go\ncheck\nput go.mod 0\n\ncheck\nend\n", b"packages 0, errors 0\npackages 0, errors 0\nnot built at 73\n", 11),
+    (b"put a/a.go 21\npackage a\n\nvar x = 1\n\nstats\ncheck\n", b"nodes 0, missing 0, loads 0, runs 0\nnot built at 42\n", 11),
+    (b"check\nput a/a.go 21\npackage a\n\nvar x = 1\n\ndel a/a.go\ncheck\nput go.mod 0\n\ncheck\nend\n", b"packages 0, errors 0\npackages 0, errors 0\nnot built at 73\n", 11),
     (b"stats\n", b"nodes 0, missing 0, loads 0, runs 0\n", 0),
     (b"stats \n", b"script refused at 0\n", 8),
     (b"stat\n", b"script refused at 0\n", 8),
@@ -68,7 +68,7 @@ const TREES: [Case; 15] = [
     (b"put a/a.go 39\npackage a\n\nconst A = B + 1\nconst B = A\n\ncheck\n", b"a/a.go:3:7: E4 declaration cycle\na/a.go:4:7: E4 declaration cycle\npackages 1, errors 2\n", 1),
     (b"put a/a.go 35\npackage a\n\nconst A = Z\nconst A = 1\n\ncheck\n", b"a/a.go:3:11: E3 undefined\na/a.go:4:7: E1 redeclared\npackages 1, errors 2\n", 1),
     (b"put a/a.go 77\npackage a\n\nconst A = 170141183460469231731687303715884105727\nconst B = A + 1\n\ncheck\n", b"a/a.go:4:11: outside profile: wide\npackages 1, errors 1\n", 1),
-    (b"put a/a.go 21\npackage a\n\nvar x int\n\ncheck\n", b"not built at 36\n", 11),
+    (b"put a/a.go 21\npackage a\n\nvar x = 1\n\ncheck\n", b"not built at 36\n", 11),
     (b"put a/a.go 39\npackage a\n\nconst A = B\nconst B = B + 1\n\ncheck\n", b"a/a.go:4:7: E4 declaration cycle\npackages 1, errors 1\n", 1),
     (b"put a/b.go 23\npackage a\n\nconst A = 1\n\nput a/a.go 35\npackage a\n\nconst A = 2\nconst B = C\n\nput a/c.go 23\npackage a\n\nconst C = B\n\ncheck\n", b"a/a.go:4:7: E4 declaration cycle\na/b.go:3:7: E1 redeclared\na/c.go:3:7: E4 declaration cycle\npackages 1, errors 3\n", 1),
     (b"put a/a.go 45\npackage a\n\nconst A = 1 +\n\t2 + A0\nconst A0 = 3\nput a/a_test.go 1\nx\nput a/_a.go 1\nx\nput a/notes 1\nx\nput testdata/a.go 1\nx\ncheck\n", b"packages 1, errors 0\n", 0),
@@ -323,7 +323,7 @@ fn reads_and_writes_by_std(rt: HostRuntime) -> Result<(), Fail> {
 }
 
 /// Each status, its number and its name.
-const STATUSES: [(Status, u8, &str); 10] = [
+const STATUSES: [(Status, u8, &str); 11] = [
     (Status::Done, 0, ""),
     (Status::Found, 1, ""),
     (Status::Usage, 2, "usage"),
@@ -334,6 +334,7 @@ const STATUSES: [(Status, u8, &str); 10] = [
     (Status::TooLong, 9, "input too long"),
     (Status::Stuck, 10, "sink stuck"),
     (Status::NotBuilt, 11, "not built"),
+    (Status::Circle, 12, "rules in a circle"),
 ];
 
 #[test]
@@ -342,7 +343,7 @@ fn names_each_status(rt: HostRuntime) -> Result<(), Fail> {
         assert_eq!(rt; status as u8, number);
         assert_eq!(rt; status_name(number), name);
     }
-    for number in [4, 5, 12, 255] {
+    for number in [4, 5, 13, 255] {
         assert_eq!(rt; status_name(number), "");
     }
     Ok(())

@@ -1,5 +1,5 @@
 -- The files of a sound package: their trees and heads, their one name, and what they import.
-use Rattle.std.proofs.Common.{◌≡◌, ℕ, zero, suc, ◌<◌, Bool, true, false, cond, ◌||◌, Option, Some, None, List, [], ◌∷◌, ◌++◌, length, map, slice_get, get_or, bytes_eq, refl, sym, ap, ◌∙◌, subst, arith}
+use Rattle.std.proofs.Common.{◌≡◌, ℕ, zero, suc, ◌<◌, ◌≤◌, ◌^◌, Bool, true, false, cond, ◌||◌, Option, Some, None, List, [], ◌∷◌, ◌++◌, length, map, slice_get, get_or, bytes_eq, refl, sym, ap, ◌∙◌, subst, arith}
 use Rattle.std.specs.List.{Contains, filter, flat_map, list_any}
 use Rattle.std.proofs.lemmas.Option.{same_Some, slice_get_within, get_or_from_slice_get}
 use Rattle.std.proofs.lemmas.List.Concat.{flat_map-cons}
@@ -15,8 +15,7 @@ use Rattle.go_tree.specs.declared.tree.FileTree.{FileTree}
 use Rattle.parse_file.specs.Verdict.{IsParsed}
 use Rattle.parse_file.specs.declared.verdict.FileVerdict.{FileVerdict}
 use Rattle.parse_file.specs.declared.verdict.FileVerdict.TheVariants as verdict
-use Rattle.const_tree.specs.Form.{IsConstantFile}
-use Rattle.const_check.specs.Packages.{Package as Sources}
+use Rattle.check_pkg.specs.Packages.{Package as Sources, package_of as sources_of}
 use Rattle.import_graph.specs.declared.pack.Package.{Package}
 use Rattle.import_graph.specs.Packages.{paths_of, is_broken, head_at, is_missing, first_name, clash_in, clashes, counts, lines_in, lines_of, imports_path, missing_at, missing}
 use Rattle.import_graph.proofs.ListLemmas.{any-get, get-any, map-get, get-map}
@@ -47,11 +46,11 @@ tree_in (Some v) = tree_by v
 -- what a sound package's file is
 pub record IsFine (text : List ℕ) (t : FileTree) (h : Head) : Type 0 where
   pub parsed : IsParsed text t
-  pub constants : IsConstantFile t
+  pub few : length t.nodes ≤ 2 ^ 32
   pub head : h ≡ head_of t text
 
 fine-by : (e : Entry) (v : FileVerdict) (h : Head) → Some h ≡ head_in e (Some v) → IsRead e (Some v) → IsOfForm (Some v) → IsFine e.1 (tree_by v) h
-fine-by e (verdict.Parsed t) h is read form = record { parsed = read.1; constants = form; head = same_Some h (head_of t e.1) is }
+fine-by e (verdict.Parsed t) h is read form = record { parsed = read.1; few = form.few; head = same_Some h (head_of t e.1) is }
 fine-by e (verdict.Lexical offset why) h is read form = cc
 fine-by e (verdict.Syntax offset) h is read form = cc
 fine-by e (verdict.TooDeep offset) h is read form = cc
@@ -106,21 +105,20 @@ map-twice f g (x ∷ xs) = ap (λ l. g (f x) ∷ l) (map-twice f g xs)
 abbrev pub trees-of : List (Option FileVerdict) → List ℕ → List FileTree
 trees-of verdicts files = map (λ n. tree_in (get_or verdicts n None)) files
 
--- the package of the files of a package none of which is broken
-pub package-of : (tree : List Entry) (verdicts : List (Option FileVerdict)) (heads : List (Option Head)) (files : List ℕ) → AreRead tree verdicts → AreHeads tree verdicts heads → AreOfForm verdicts
-    → is_broken heads files ≡ false → IsPackageOf (map (file_numbered tree) files) (record { files = map (file_numbered tree) files; trees = trees-of verdicts files })
-package-of tree verdicts heads files read headed form whole =
+-- the package of a path and of the files of a package none of which is broken
+pub package-of : (tree : List Entry) (verdicts : List (Option FileVerdict)) (heads : List (Option Head)) (path : List ℕ) (files : List ℕ) → AreRead tree verdicts → AreHeads tree verdicts heads → AreOfForm verdicts
+    → is_broken heads files ≡ false → IsPackageOf path (map (file_numbered tree) files) (sources_of path (map (file_numbered tree) files) (trees-of verdicts files))
+package-of tree verdicts heads path files read headed form whole =
     let text : ℕ → List ℕ = λ n. (file_numbered tree n).1 in
     let t : ℕ → FileTree = λ n. tree_in (get_or verdicts n None) in
     let fine : (n : ℕ) → Contains files n → IsFineAt tree verdicts heads n = (λ n has. fine-at tree verdicts heads files n read headed form whole has) in
     record {
+      path_is = refl;
       files = refl;
       trees = subst (λ (x : List (List ℕ)). AreParsed x (map t files)) (sym (map-twice (file_numbered tree) text_of files)) (all-parsed text t files (λ n has. (fine n has).fine.parsed));
-      form = record {
-        each = λ f y there.
-            let b = map-get t files f y there in
-            subst IsConstantFile b.2 (fine b.0 (contains-at files f b.0 b.1)).fine.constants;
-      };
+      small = λ f y there.
+          let b = map-get t files f y there in
+          subst (λ (x : FileTree). length x.nodes ≤ 2 ^ 32) b.2 (fine b.0 (contains-at files f b.0 b.1)).fine.few;
     }
 
 -- ---- lists of lists
@@ -166,9 +164,9 @@ record IsNumbered (tree : List Entry) (verdicts : List (Option FileVerdict)) (fi
   tree_is : tree_in (get_or verdicts number None) ≡ t
   text_is : (file_numbered tree number).1 ≡ text
 
-numbered-at : (tree : List Entry) (verdicts : List (Option FileVerdict)) (files : List ℕ) (n : ℕ) (t : FileTree) (text : List ℕ)
-    → IsFileAt (record { files = map (file_numbered tree) files; trees = trees-of verdicts files }) n t text → IsNumbered tree verdicts files n t text
-numbered-at tree verdicts files n t text file =
+numbered-at : (tree : List Entry) (verdicts : List (Option FileVerdict)) (path : List ℕ) (files : List ℕ) (n : ℕ) (t : FileTree) (text : List ℕ)
+    → IsFileAt (sources_of path (map (file_numbered tree) files) (trees-of verdicts files)) n t text → IsNumbered tree verdicts files n t text
+numbered-at tree verdicts path files n t text file =
     let a = map-get (λ m. tree_in (get_or verdicts m None)) files n t file.tree in
     let b = map-get text_of (map (file_numbered tree) files) n text file.text in
     let c = map-get (file_numbered tree) files n b.0 b.1 in
@@ -190,8 +188,8 @@ pub record IsFound (heads : List (Option Head)) (files : List ℕ) (packages : L
 
 module _ (tree : List Entry) (verdicts : List (Option FileVerdict)) (heads : List (Option Head)) (files : List ℕ) (read : AreRead tree verdicts) (headed : AreHeads tree verdicts heads)
     (form : AreOfForm verdicts) (whole : is_broken heads files ≡ false) where
-  abbrev mine : Sources
-  mine = record { files = map (file_numbered tree) files; trees = trees-of verdicts files }
+  abbrev mine : List ℕ → Sources
+  mine path = sources_of path (map (file_numbered tree) files) (trees-of verdicts files)
 
   -- the head of a file of the package
   head-is : (n : ℕ) (t : FileTree) (text : List ℕ) (file : IsNumbered tree verdicts files n t text) → head_at heads file.number ≡ Some (head_of t text)
@@ -210,13 +208,13 @@ module _ (tree : List Entry) (verdicts : List (Option FileVerdict)) (heads : Lis
       by true told none = (bytes_eq-Decides (head_of t text).name (first_name heads files)).0 told
       by false told none = cc
 
-  pub names-agree : clashes heads files ≡ [] → NamesAgree mine
-  names-agree agree n m one other a b first second =
-      name-is agree n one a (numbered-at tree verdicts files n one a first) ∙ sym (name-is agree m other b (numbered-at tree verdicts files m other b second))
+  pub names-agree : (path : List ℕ) → clashes heads files ≡ [] → NamesAgree (mine path)
+  names-agree path agree n m one other a b first second =
+      name-is agree n one a (numbered-at tree verdicts path files n one a first) ∙ sym (name-is agree m other b (numbered-at tree verdicts path files m other b second))
 
-  pub import-found : (packages : List Package) (path : List ℕ) → missing heads (paths_of packages) files ≡ [] → ImportsPath mine path → IsFound heads files packages path
-  import-found packages path found i =
-      let file = numbered-at tree verdicts files i.n i.tree i.text i.at in
+  pub import-found : (packages : List Package) (own path : List ℕ) → missing heads (paths_of packages) files ≡ [] → ImportsPath (mine own) path → IsFound heads files packages path
+  import-found packages own path found i =
+      let file = numbered-at tree verdicts own files i.n i.tree i.text i.at in
       let lines : head_at heads file.number ≡ Some (head_of i.tree i.text) = head-is i.n i.tree i.text file in
       let kept : Contains (filter counts (head_of i.tree i.text).imports) i.line = keep-filter counts (head_of i.tree i.text).imports i.line i.leads i.has in
       let there : slice_get (lines_in (head_at heads file.number)) kept.0 ≡ Some i.line =

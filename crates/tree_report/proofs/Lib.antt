@@ -1,7 +1,9 @@
+pub mod MentionLemmas
 pub mod LimitLemmas
 pub mod ReadLemmas
 pub mod LineLemmas
 pub mod OnceLemmas
+pub mod FormLemmas
 pub mod SourceLemmas
 pub mod HeadLemmas
 pub mod TreeLemmas

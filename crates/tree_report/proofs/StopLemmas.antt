@@ -1,4 +1,4 @@
--- Runs over the files of a tree that memory cut off.
+-- Runs over the files of a tree that were cut off.
 use Rattle.std.proofs.Common.{◌≡◌, ℕ, Option, List, map, subst}
 use Rattle.std.specs.Prelude.{Result, Ok, Err, OnErr}
 use Rattle.gv_base.specs.Files.{Entry}

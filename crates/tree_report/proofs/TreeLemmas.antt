@@ -7,7 +7,7 @@ use Rattle.std.proofs.lemmas.List.Kept.{AllPairs-from_increasing}
 use Rattle.gv_base.specs.Files.{Entry, AreInOrder, is_before}
 use Rattle.go_tree.specs.declared.head.Head.{Head}
 use Rattle.parse_file.specs.declared.verdict.FileVerdict.{FileVerdict}
-use Rattle.const_check.specs.Packages.{Package as Sources}
+use Rattle.check_pkg.specs.Packages.{Package as Sources, package_of as sources_of}
 use Rattle.import_graph.specs.declared.pack.PackState.{PackState}
 use Rattle.import_graph.specs.declared.pack.PackState.TheVariants.{Broken, NameClash, MissingImport, ImportCycle, Sound}
 use Rattle.import_graph.specs.declared.pack.Package.{Package}
@@ -48,20 +48,20 @@ source-of tree verdicts heads packages k p ordered form at sound =
       few = subst (λ (l : List Named). length l < 2 ^ 32) (sym kept) (files-few tree p.path form.within.few);
       short = subst (λ (l : List Named). All (λ text. length text ≤ 2 ^ 24) (map text_of l)) (sym kept)
           (texts-of-files (λ text. length text ≤ 2 ^ 24) tree p.path (λ n d lt. let small = form.within.small n d lt in omega (arith, small)));
-      pack = record { files = map (file_numbered tree) p.files; trees = trees-of verdicts p.files };
-      of = package-of tree verdicts heads p.files form.read form.headed form.form whole.parsed;
-      agree = names-agree tree verdicts heads p.files form.read form.headed form.form whole.parsed whole.agree;
+      pack = sources_of p.path (map (file_numbered tree) p.files) (trees-of verdicts p.files);
+      of = package-of tree verdicts heads p.path p.files form.read form.headed form.form whole.parsed;
+      agree = names-agree tree verdicts heads p.files form.read form.headed form.form whole.parsed p.path whole.agree;
     }
 
 -- what a sound package's files import is among its imports
 imports-of : (tree : List Entry) (verdicts : List (Option FileVerdict)) (heads : List (Option Head)) (packages : List Package) (k : ℕ) (p : Package) (of : Sources) (path : List ℕ) → IsForm tree verdicts heads packages
-    → slice_get packages k ≡ Some p → is_sound p.state ≡ true → IsPackageOf (map (file_numbered tree) p.files) of → ImportsPath of path → IsAmong (map (texts_of tree) packages) p.imports path
+    → slice_get packages k ≡ Some p → is_sound p.state ≡ true → IsPackageOf p.path (map (file_numbered tree) p.files) of → ImportsPath of path → IsAmong (map (texts_of tree) packages) p.imports path
 imports-of tree verdicts heads packages k p of path form at sound is_of imported =
     let is : IsPackage tree heads packages k p = form.packed.each k p at in
     let whole : IsWhole heads (paths_of packages) p.files = sound-whole _ heads (paths_of packages) p.files p.state sound is.state in
-    let mine = package-of tree verdicts heads p.files form.read form.headed form.form whole.parsed in
-    let same : of ≡ record { files = map (file_numbered tree) p.files; trees = trees-of verdicts p.files } = one-package (map (file_numbered tree) p.files) of _ is_of mine in
-    let found = import-found tree verdicts heads p.files form.read form.headed form.form whole.parsed packages path whole.found (subst (λ (s : Sources). ImportsPath s path) same imported) in (
+    let mine = package-of tree verdicts heads p.path p.files form.read form.headed form.form whole.parsed in
+    let same : of ≡ sources_of p.path (map (file_numbered tree) p.files) (trees-of verdicts p.files) = one-package p.path (map (file_numbered tree) p.files) of _ is_of mine in
+    let found = import-found tree verdicts heads p.files form.read form.headed form.form whole.parsed packages p.path path whole.found (subst (λ (s : Sources). ImportsPath s path) same imported) in (
       found.q,
       texts_of tree found.other,
       (is.imports found.q).1 (whole.parsed, (found.other, found.at, found.imported)),
@@ -100,7 +100,7 @@ is-tree tree verdicts heads packages ordered form = record {
       (source-of tree verdicts heads packages p found.0 ordered form found.1 (ap (λ (x : PackageTexts). x.sound) found.2 ∙ sound));
   imports = λ p pack of path at sound is_of imported.
       let found = map-get (texts_of tree) packages p pack at in
-      let here : IsPackageOf (map (file_numbered tree) found.0.files) of = subst (λ (x : PackageTexts). IsPackageOf x.files of) (sym found.2) is_of in
+      let here : IsPackageOf found.0.path (map (file_numbered tree) found.0.files) of = subst (λ (x : PackageTexts). IsPackageOf x.path x.files of) (sym found.2) is_of in
       subst (λ (x : PackageTexts). IsAmong (map (texts_of tree) packages) x.imports path) found.2
       (imports-of tree verdicts heads packages p found.0 of path form found.1 (ap (λ (x : PackageTexts). x.sound) found.2 ∙ sound) here imported);
 }

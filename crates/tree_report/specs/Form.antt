@@ -1,17 +1,18 @@
--- The trees that are built: those of whose source files each is refused by the scanner or the parser, or is a file of
--- imports and constants.
-use Rattle.std.specs.Prelude.{◌≡◌, ℕ, ◌≤◌, ◌||◌, Bool, true, false, Option, Some, None, List, length, map, slice_get, codes, sum_by, bytes_eq, nat_eq}
-use Rattle.std.specs.List.{All, filter, starts_with}
+-- The trees that are built: those of whose source files each is refused by the scanner or the parser, or is a file of imports, constants,
+-- types, variables without values, and functions and methods without bodies; a package that another imports has imports and constants alone.
+use Rattle.std.specs.Prelude.{◌≡◌, ℕ, ◌≤◌, ◌||◌, Bool, true, false, Option, Some, None, List, length, map, slice_get, get_or, codes, sum_by, bytes_eq, nat_eq}
+use Rattle.std.specs.List.{All, filter, list_all, starts_with}
 use Rattle.gv_base.specs.Files.{Entry}
 use Rattle.go_tree.specs.Head.{head_of}
 use Rattle.go_tree.specs.declared.head.Head.{Head}
 use Rattle.parse_file.specs.Verdict.{IsVerdict}
 use Rattle.parse_file.specs.declared.verdict.FileVerdict.{FileVerdict}
 use Rattle.parse_file.specs.declared.verdict.FileVerdict.TheVariants as file
-use Rattle.const_tree.specs.Form.{IsConstantFile}
 use Rattle.import_graph.specs.Sources.{is_source}
 use Rattle.import_graph.specs.Packages.{ArePackages}
 use Rattle.import_graph.specs.declared.pack.Package.{Package}
+use Rattle.tree_report.specs.Declarations.{IsDeclarationFile, has_constants_alone}
+use Rattle.tree_report.specs.Mentions.{selects_apart}
 
 -- the path of a file that a run knows no meaning for yet: `go.mod`, and what stands under `std`
 abbrev pub is_early : List ℕ → Bool
@@ -66,9 +67,9 @@ pub record AreHeads (tree : List Entry) (verdicts : List (Option FileVerdict)) (
   pub size : length heads ≡ length tree
   pub each : (n : ℕ) (entry : Entry) (verdict : Option FileVerdict) (head : Option Head) → slice_get tree n ≡ Some entry → slice_get verdicts n ≡ Some verdict → slice_get heads n ≡ Some head → head ≡ head_in entry verdict
 
--- a file that isn't refused is of imports and constants
+-- a file that isn't refused is of declarations
 abbrev pub FitsForm : FileVerdict → Type 0
-FitsForm (file.Parsed tree) = IsConstantFile tree
+FitsForm (file.Parsed tree) = IsDeclarationFile tree
 FitsForm (file.Lexical offset why) = Unit {0}
 FitsForm (file.Syntax offset) = Unit {0}
 FitsForm (file.TooDeep offset) = Unit {0}
@@ -81,15 +82,43 @@ IsOfForm (Some verdict) = FitsForm verdict
 abbrev pub AreOfForm : List (Option FileVerdict) → Type 0
 AreOfForm verdicts = (n : ℕ) (verdict : Option FileVerdict) → slice_get verdicts n ≡ Some verdict → IsOfForm verdict
 
+-- a file that isn't refused has imports and constants alone
+abbrev pub is_constant_verdict : FileVerdict → Bool
+is_constant_verdict (file.Parsed tree) = has_constants_alone tree
+is_constant_verdict (file.Lexical offset why) = true
+is_constant_verdict (file.Syntax offset) = true
+is_constant_verdict (file.TooDeep offset) = true
+
+abbrev pub is_constant_file : Option FileVerdict → Bool
+is_constant_file None = true
+is_constant_file (Some verdict) = is_constant_verdict verdict
+
+-- so have the files of a package; and which packages are such
+abbrev pub is_constant_package : List (Option FileVerdict) → Package → Bool
+is_constant_package verdicts p = list_all (λ n. is_constant_file (get_or verdicts n None)) p.files
+
+abbrev pub constant_packages : List (Option FileVerdict) → List Package → List Bool
+constant_packages verdicts packages = map (is_constant_package verdicts) packages
+
+-- the packages that a package imports are such
+abbrev pub imports_constants : List Bool → Package → Bool
+imports_constants flags p = list_all (λ q. get_or flags q true) p.imports
+
+-- Each package that another imports has imports and constants alone: an interface tells of no other declarations yet.
+abbrev pub all_import_constants : List (Option FileVerdict) → List Package → Bool
+all_import_constants verdicts packages = list_all (imports_constants (constant_packages verdicts packages)) packages
+
 -- The tree is of the form; its files have these verdicts and heads, and these are its packages.
 pub record IsForm (tree : List Entry) (verdicts : List (Option FileVerdict)) (heads : List (Option Head)) (packages : List Package) : Type 0 where
   pub plain : All (λ entry. is_early entry.0 ≡ false) tree
   pub within : AreWithinLimits (source_texts tree)
   pub read : AreRead tree verdicts
   pub form : AreOfForm verdicts
+  pub apart : selects_apart tree verdicts ≡ true
   pub headed : AreHeads tree verdicts heads
   pub packed : ArePackages tree heads packages
   pub few : length packages ≤ most_packages
+  pub imported : all_import_constants verdicts packages ≡ true
 
 -- the tree is of the form
 abbrev pub IsBuilt : List Entry → Type 0

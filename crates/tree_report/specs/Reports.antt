@@ -12,7 +12,8 @@ pub use Rattle.gv_driver.specs.Caches.{IsHonest}
 use Rattle.gv_driver.specs.Caches.{IsCacheAfter, missing_of}
 use Rattle.gv_driver.specs.Loads.{IsPlan}
 use Rattle.gv_driver.specs.Reports.{IsReport}
-use Rattle.gv_driver.specs.Runs.{IsCutOff, some_in}
+use Rattle.gv_driver.specs.Runs.{IsCutOff, MeetsCircle, some_in}
+use Rattle.gv_driver.specs.Whole.{HasStuck}
 use Rattle.analysis_core.specs.declared.command.Command.TheVariants.{Check}
 use Rattle.analysis_core.specs.declared.reply.Reply.{Reply}
 use Rattle.analysis_core.specs.Replies.{check_reply, file_numbered, is_found, reply_text}
@@ -78,9 +79,26 @@ abbrev pub IsSafeAnswer : List Entry → List Kept → List Kept → ℕ → ℕ
 IsSafeAnswer tree before after count now NotBuilt = (IsBuilt tree → ⊥) × ((after ≡ before) × (now ≡ count))
 IsSafeAnswer tree before after count now (Told report) = IsSafe tree report
 
--- After want of memory: no package was looked at, and nothing has changed; or the tree is of the form, at most the missing loads of its
+-- After want of memory, or a circle: no package was looked at, and nothing has changed; or the tree is of the form, at most the missing loads of its
 -- packages were executed, and the cache has gained the entries of the first of them alone, within its limits.
 pub data IsStopped (tree : List Entry) (before after : List Kept) (count now : ℕ) : Type 0 where
   not_run : after ≡ before → now ≡ count → IsStopped tree before after count now
   in_run : (verdicts : List (Option FileVerdict)) (heads : List (Option Head)) (packages : List Package) → IsForm tree verdicts heads packages
       → IsCutOff (map (texts_of tree) packages) before after count now → IsStopped tree before after count now
+
+-- A circle in a tree of the form, over any cache: some sound package is stuck over what the run had of its imports.
+pub record MetCircle (tree : List Entry) (before : List Kept) : Type 0 where
+  pub verdicts : List (Option FileVerdict)
+  pub heads : List (Option Head)
+  pub packages : List Package
+  pub form : IsForm tree verdicts heads packages
+  pub meets : MeetsCircle (map (texts_of tree) packages) before
+
+-- The rules of a package go in a circle: the tree is of the form, and some sound package, all of whose imports are accepted, is stuck over their
+-- interfaces. What comes of its imports comes of their sources.
+pub record HasCircle (tree : List Entry) : Type 0 where
+  pub verdicts : List (Option FileVerdict)
+  pub heads : List (Option Head)
+  pub packages : List Package
+  pub form : IsForm tree verdicts heads packages
+  pub stuck : HasStuck (map (texts_of tree) packages)

@@ -1,8 +1,12 @@
 //! The files and the packages of a tree of the form.
-ghost use Rattle.std.specs.Prelude.{◌≡◌, IfOk, All, false};
-ghost use Rattle.tree_report.specs.Form.{source_texts, AreRead, AreOfForm, is_early, AreWithinLimits};
+ghost use Rattle.std.specs.Prelude.{◌≡◌, ◌≤◌, IfOk, All, true, false, length};
+ghost use Rattle.import_graph.specs.Packages.{ArePackages};
+ghost use Rattle.tree_report.specs.Form.{source_texts, AreRead, AreHeads, AreOfForm, is_early, AreWithinLimits};
 ghost use Rattle.tree_report.specs.Formed.{IsFormed};
+ghost use Rattle.tree_report.specs.Mentions.{selects_apart};
 
+use crate::apart::selects_apart;
+use crate::imported::all_import_constants;
 use crate::limits::{are_plain, are_within_limits, source_texts};
 use crate::read::{are_of_form, heads, read_all};
 use go_tree::Head;
@@ -22,6 +26,35 @@ pub struct Formed {
     pub packages: Vec<Package>,
 }
 
+/// The same of files and packages, if each package that another imports has constants alone.
+fn checked(
+    alloc: Global,
+    files: &Files,
+    verdicts: Vec<Option<FileVerdict>>,
+    heads: Vec<Option<Head>>,
+    packages: Vec<Package>,
+) -> Result<Option<Formed>, NoMemory>
+    requires plain { All (λ entry. is_early entry.0 ≡ false) files.now }
+    requires within { AreWithinLimits (source_texts files.now) }
+    requires read { AreRead files.now verdicts.items }
+    requires form { AreOfForm verdicts.items }
+    requires apart { selects_apart files.now verdicts.items ≡ true }
+    requires headed { AreHeads files.now verdicts.items heads.items }
+    requires packed { ArePackages files.now heads.items packages.items }
+    requires few { length packages.items ≤ 1024 }
+    ensures { IfOk result (λ formed. IsFormed files.now formed) }
+{
+    let imported = all_import_constants(alloc, &verdicts, &packages)?;
+    if !imported {
+        return Ok(None);
+    }
+    Ok(Some(Formed {
+        verdicts,
+        heads,
+        packages,
+    }))
+}
+
 /// The same with the packages, if they aren't too many.
 fn packed(
     alloc: Global,
@@ -32,6 +65,7 @@ fn packed(
     requires within { AreWithinLimits (source_texts files.now) }
     requires read { AreRead files.now verdicts.items }
     requires form { AreOfForm verdicts.items }
+    requires apart { selects_apart files.now verdicts.items ≡ true }
     ensures { IfOk result (λ formed. IsFormed files.now formed) }
 {
     let heads = heads(alloc, files, &verdicts)?;
@@ -39,11 +73,28 @@ fn packed(
     if packages.len() > MOST_PACKAGES {
         return Ok(None);
     }
-    Ok(Some(Formed {
-        verdicts,
-        heads,
-        packages,
-    }))
+    let formed = checked(alloc, files, verdicts, heads, packages)?;
+    Ok(formed)
+}
+
+/// The same of files of the form, if what stands before dots is apart from what they declare.
+fn parted(
+    alloc: Global,
+    files: &Files,
+    verdicts: Vec<Option<FileVerdict>>,
+) -> Result<Option<Formed>, NoMemory>
+    requires plain { All (λ entry. is_early entry.0 ≡ false) files.now }
+    requires within { AreWithinLimits (source_texts files.now) }
+    requires read { AreRead files.now verdicts.items }
+    requires form { AreOfForm verdicts.items }
+    ensures { IfOk result (λ formed. IsFormed files.now formed) }
+{
+    let apart = selects_apart(alloc, files, &verdicts)?;
+    if !apart {
+        return Ok(None);
+    }
+    let formed = packed(alloc, files, verdicts)?;
+    Ok(formed)
 }
 
 /// The same of a tree within the limits.
@@ -56,7 +107,7 @@ fn read_form(alloc: Global, files: &Files) -> Result<Option<Formed>, NoMemory>
     if !are_of_form(&verdicts) {
         return Ok(None);
     }
-    let formed = packed(alloc, files, verdicts)?;
+    let formed = parted(alloc, files, verdicts)?;
     Ok(formed)
 }
 

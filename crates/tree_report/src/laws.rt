@@ -4,7 +4,7 @@ ghost use Rattle.gv_base.specs.Files.{AreInOrder, Entry};
 ghost use Rattle.typed_tree.specs.RuleTexts.{rule_text, limit_text};
 ghost use Rattle.typed_tree.specs.declared.rule.Limit.{Limit};
 ghost use Rattle.typed_tree.specs.declared.rule.Rule.{Rule};
-ghost use Rattle.const_check.specs.Refusals.{limit_number};
+ghost use Rattle.check_pkg.specs.Faults.{limit_number};
 ghost use Rattle.fact_cache.specs.declared.list.Entry.{Entry as Kept};
 ghost use Rattle.tree_report.specs.Existence.{AllHaveOutcomes, HasReport};
 ghost use Rattle.tree_report.specs.Form.{IsBuilt};

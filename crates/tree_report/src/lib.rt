@@ -1,12 +1,16 @@
 //! What a run replies to a tree of files.
 #![tactic(auto)]
 
+mod apart;
+mod declarations;
 mod files;
 mod formed;
+mod imported;
 mod laws;
 mod limits;
 mod lines;
 mod marks;
+mod mentions;
 mod outcomes;
 mod print;
 mod read;

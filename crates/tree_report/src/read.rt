@@ -3,7 +3,7 @@ ghost use Rattle.std.specs.Prelude.{◌≡◌, ◌≤◌, ◌↔◌, ◌^◌, tr
 ghost use Rattle.import_graph.specs.Sources.{is_source};
 ghost use Rattle.tree_report.specs.Form.{source_texts, IsRead, AreRead, head_by, head_in, AreHeads, FitsForm, IsOfForm, AreOfForm};
 
-use const_tree::is_constant_file;
+use crate::declarations::is_declaration_file;
 use go_tree::Head;
 use gv_base::{Files, NoMemory};
 use import_graph::is_source;
@@ -92,7 +92,7 @@ fn fits(verdict: &FileVerdict) -> bool
     ensures { IsTrue result ↔ FitsForm verdict.now }
 {
     match verdict {
-        FileVerdict::Parsed(tree) => is_constant_file(tree),
+        FileVerdict::Parsed(tree) => is_declaration_file(tree),
         FileVerdict::Lexical { .. } => true,
         FileVerdict::Syntax { .. } => true,
         FileVerdict::TooDeep { .. } => true,

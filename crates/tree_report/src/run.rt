@@ -1,16 +1,16 @@
 //! The report of a tree.
-ghost use Rattle.std.specs.Prelude.{◌≡◌, ◌<◌, ◌≤◌, ◌+◌, ◌^◌, ℕ, true, Some, length, slice_get, sum_by, IfOk, OnErr};
+ghost use Rattle.std.specs.Prelude.{◌≡◌, ◌<◌, ◌≤◌, ◌+◌, ◌^◌, ℕ, true, Some, Err, length, slice_get, sum_by, IfOk, OnErr};
 ghost use Rattle.fact_cache.specs.Caches.{is_within};
 ghost use Rattle.import_graph.specs.Packages.{paths_of};
 ghost use Rattle.import_graph.specs.Tables.{AreAscending};
 ghost use Rattle.tree_report.specs.Formed.{Holds, IsReplyOf};
-ghost use Rattle.tree_report.specs.Reports.{IsHonest, IsAnswered, IsSafe, IsSafeAnswer, IsStopped, Reports};
+ghost use Rattle.tree_report.specs.Reports.{HasCircle, IsHonest, IsAnswered, IsSafe, IsSafeAnswer, IsStopped, MetCircle, Reports};
 
 use crate::formed::{Formed, form_of};
 use crate::print::{TreeReport, printed};
 use crate::states::{Found, error_lines};
 use crate::texts::all_texts;
-use action_graph::Kit;
+use action_graph::{Kit, Unloaded};
 use analysis_core::Reply;
 use fact_cache::Cache;
 use gv_base::{Bytes, Files, NoMemory, Row, files_are_in_order};
@@ -75,7 +75,7 @@ fn report_formed<K: Kit>(
     formed: &Formed,
     cache: &mut Cache,
     kits: &mut [K],
-) -> Result<TreeReport, NoMemory>
+) -> Result<TreeReport, Unloaded>
     requires form { Holds files.now formed.now }
     requires some { 0 < length kits.old }
     requires room { (k : ℕ) (kit : K) → slice_get kits.old k ≡ Some kit → K.loads kit ≤ 2 ^ 62 }
@@ -85,6 +85,8 @@ fn report_formed<K: Kit>(
     ensures told { IsHonest cache.old → IfOk result (Reports files.now cache.old cache.new) }
     ensures cut_off { IsHonest cache.old → OnErr result (IsStopped files.now cache.old cache.new (sum_by K.loads kits.old) (sum_by K.loads kits.new)) }
     ensures loads { IsHonest cache.old → IfOk result (λ report. sum_by K.loads kits.new ≡ sum_by K.loads kits.old + report.counts.loads) }
+    ensures circle { result ≡ Err Unloaded.Circle → MetCircle files.now cache.old }
+    ensures stuck { IsHonest cache.old → result ≡ Err Unloaded.Circle → HasCircle files.now }
     ensures honest { IsHonest cache.old → IsHonest cache.new }
     ensures within { is_within cache.old ≡ true → is_within cache.new ≡ true }
 {
@@ -97,14 +99,15 @@ fn report_formed<K: Kit>(
 }
 
 /// Reports on a tree with the first of the kits, and with what the cache has; what was executed is kept. Over any cache the form
-/// alone decides whether the tree is built, and each place of the report stands in one of the files. After want of memory no more
+/// alone decides whether the tree is built, and each place of the report stands in one of the files. Where the rules of a package go in a
+/// circle nothing is told of the tree. After that, as after want of memory, no more
 /// was executed than was missing, and the cache has gained entries of what was missing alone. A cache within its limits stays there.
 pub fn report_on<K: Kit>(
     alloc: Global,
     files: &Files,
     cache: &mut Cache,
     kits: &mut [K],
-) -> Result<Answer, NoMemory>
+) -> Result<Answer, Unloaded>
     requires some { 0 < length kits.old }
     requires room { (k : ℕ) (kit : K) → slice_get kits.old k ≡ Some kit → K.loads kit ≤ 2 ^ 62 }
     ensures bound { sum_by K.loads kits.new ≤ sum_by K.loads kits.old + 1024 }
@@ -112,6 +115,8 @@ pub fn report_on<K: Kit>(
     ensures safe { IfOk result (IsSafeAnswer files.now cache.old cache.new (sum_by K.loads kits.old) (sum_by K.loads kits.new)) }
     ensures cut_off { IsHonest cache.old → OnErr result (IsStopped files.now cache.old cache.new (sum_by K.loads kits.old) (sum_by K.loads kits.new)) }
     ensures answered { IsHonest cache.old → IfOk result (IsAnswered files.now cache.old cache.new (sum_by K.loads kits.old) (sum_by K.loads kits.new)) }
+    ensures circle { result ≡ Err Unloaded.Circle → MetCircle files.now cache.old }
+    ensures stuck { IsHonest cache.old → result ≡ Err Unloaded.Circle → HasCircle files.now }
     ensures honest { IsHonest cache.old → IsHonest cache.new }
     ensures within { is_within cache.old ≡ true → is_within cache.new ≡ true }
 {

@@ -1,12 +1,13 @@
-use Rattle.std.proofs.Common.{arith, refl, []}
+use Rattle.std.proofs.Common.{ap, arith, refl, []}
+use Rattle.std.specs.Prelude.{Err}
 use Rattle.std.proofs.lemmas.List.{append-nil}
 use Rattle.gv_tool.specs.Next.{IsNext, command_of}
 use Rattle.gv_tool.specs.declared.script.Next.TheVariants.{Whole, Refused, NeedMore}
 use Rattle.gv_tool.specs.Replies.{Does}
-use Rattle.gv_tool.specs.Desk.{standing_of, IsAnswer}
+use Rattle.gv_tool.specs.Desk.{standing_of, IsAnswer, IsStuckRun}
 use Rattle.gv_tool.specs.declared.desk.Answer.TheVariants.{Reply, NotBuilt}
 use Rattle.gv_base.proofs.Known.{Appends-none, Consumes-none}
-use Rattle.gv_tool.proofs.Steps.{within-limit, Outcome-refused, Outcome-unbuilt, Outcome-finished, IsEnding-of, IsUnbuilt-of, IsRefused-none, Stands-piece, WentOut-full, WentOut-before, StandsOrEnds-reply, PastLimit-over}
+use Rattle.gv_tool.proofs.Steps.{within-limit, Outcome-refused, Outcome-unbuilt, Outcome-circle, Outcome-finished, IsEnding-of, IsUnbuilt-of, IsRefused-none, Stands-piece, WentOut-full, WentOut-before, StandsOrEnds-reply, PastLimit-over}
 use Rattle.gv_tool.proofs.top.turn.Goals as goal
 
 pub returns-then-is_end-clause-turns : goal.returns-then-is_end-clause-turns
@@ -58,8 +59,8 @@ returns-in-Ok-NotBuilt-clause-turns g c =
           rw (append-nil before) (Outcome-unbuilt session source.left r.said c.stop.result s (IsUnbuilt-of session c.in-Whole.command c.in-Whole.len next a.0 a.1) r.line);
     }
 
-pub returns-in-Err-clause-turns : goal.returns-in-Err-clause-turns
-returns-in-Err-clause-turns g c =
+pub returns-in-Err-NoMemory-clause-turns : goal.returns-in-Err-NoMemory-clause-turns
+returns-in-Err-NoMemory-clause-turns g c =
     let source = g.I.Source.view c.args.input.now in record {
       given = [];
       said = [];
@@ -68,6 +69,22 @@ returns-in-Err-clause-turns g c =
       within = let w = within-limit c.args.session.now in omega arith;
       says = Appends-none (g.O.Sink.view c.args.output.now).held;
       goes = λ start before out s. rw (append-nil before) (WentOut-before c.args.session.now source.left s);
+    }
+
+pub returns-in-Err-Circle-clause-turns : goal.returns-in-Err-Circle-clause-turns
+returns-in-Err-Circle-clause-turns g c =
+    let source = g.I.Source.view c.args.input.now in
+    let session = c.args.session.now in record {
+      given = [];
+      said = [];
+      takes = Consumes-none source.left;
+      counts = omega arith;
+      within = let w = within-limit c.args.session.now in omega arith;
+      says = Appends-none (g.O.Sink.view c.args.output.now).held;
+      goes = λ start before out s.
+          let next : IsNext session.pending (Whole c.in-Whole.command c.in-Whole.len) = rw c.as_slice.ensures at c.in-Whole.ensures in
+          let circle : IsStuckRun (command_of c.in-Whole.command) (standing_of session.desk) = c.in-Err-Circle.ensures.circle s.honest (ap Err c.in-Err-Circle.field-0-is) in
+          rw (append-nil before) (Outcome-circle session c.in-Whole.command c.in-Whole.len source.left s next circle.0 circle.1);
     }
 
 pub returns-in-Refused-clause-turns : goal.returns-in-Refused-clause-turns

@@ -4,6 +4,3 @@ use Rattle.run_tests.proofs.tree_report_tests.the_second_run_finds_the_load.Goal
 
 pub put-requires : goal.put-requires
 put-requires g c = path-of_segment (codes "a.go") refl (omega arith) (omega arith)
-
-pub put-requires-2 : goal.put-requires-2
-put-requires-2 g c = path-of_segment (codes "b.go") refl (omega arith) (omega arith)

@@ -1,8 +1,0 @@
-use Rattle.const_marks.specs.Subjects.{shown}
-use Rattle.const_check.proofs.ImportLemmas.{import_gains}
-use Rattle.const_check.proofs.import_refusals.refuse_import.Goals as goal
-
-pub returns : goal.returns
-returns c =
-    import_gains (shown c.args.s.now) c.args.at c.args.name.now c.is_taken-taken.result c.is_unused-unused.result c.place_of-place.result c.args.list.now.items c.refuse_if.new.list.items
-    c.refuse_if-2.new.list.items c.place_of-place.ensures c.is_taken-taken.ensures c.is_unused-unused.ensures c.in_ok-refuse_if.ensures c.in_ok-refuse_if-2.ensures

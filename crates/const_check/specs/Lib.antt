@@ -1,9 +1,0 @@
-pub mod Packages
-pub mod Refusals
-pub mod Interfaces
-pub mod Order
-pub mod Gains
-pub mod Faults
-pub mod Imports
-pub mod Exports
-pub mod Checks

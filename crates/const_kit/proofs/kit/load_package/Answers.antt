@@ -1,7 +1,0 @@
-use Rattle.action_graph.specs.Judging.{load_text}
-use Rattle.const_kit.proofs.LoadLemmas.{unread}
-use Rattle.const_kit.proofs.kit.load_package.Goals as goal
-
-pub returns-in_ok-load-in-None-clause-read : goal.returns-in_ok-load-in-None-clause-read
-returns-in_ok-load-in-None-clause-read c =
-    unread c.args.input.now c.as_slice-files.result.now (load_text c.in_ok-load-in-None.load) c.as_slice-files.ensures (rw c.in-None.is at c.in_ok-read.ensures)

@@ -1,7 +1,0 @@
-use Rattle.std.proofs.Common.{◌≡◌, ℕ, List, take}
-use Rattle.go_tree.specs.Lexeme.{place_of}
-use Rattle.const_marks.specs.Index.{texts_of, found}
-use Rattle.const_marks.proofs.index.index.Given as goal
-
-abbrev pub invariant-loop-place : goal.invariant-loop-place
-invariant-loop-place l = (q : List ℕ) → found l.names q ≡ place_of (take l.place (texts_of l.list)) q

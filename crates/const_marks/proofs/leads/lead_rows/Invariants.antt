@@ -1,6 +1,0 @@
-use Rattle.const_marks.specs.Index.{texts_of}
-use Rattle.const_marks.specs.Rows.{AreRows, leads_in}
-use Rattle.const_marks.proofs.leads.lead_rows.Given as goal
-
-abbrev pub invariant-loop-file : goal.invariant-loop-file
-invariant-loop-file l = AreRows (leads_in l.env.interfaces.now (texts_of l.sources)) l.trees l.rows.items l.file

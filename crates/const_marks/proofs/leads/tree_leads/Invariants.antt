@@ -1,5 +1,0 @@
-use Rattle.const_marks.specs.Rows.{IsRow, lead_for}
-use Rattle.const_marks.proofs.leads.tree_leads.Given as goal
-
-abbrev pub invariant-loop-n : goal.invariant-loop-n
-invariant-loop-n l = IsRow (lead_for l.env.interfaces.now l.source l.tree) l.row.items l.n

@@ -1,0 +1,128 @@
+-- Reading files and export texts one after another.
+use Rattle.std.proofs.Common.{◌≡◌, ℕ, zero, suc, ◌+◌, ◌<◌, ◌≤◌, ◌^◌, List, [], ◌∷◌, ◌++◌, length, take, map, Option, Some, None, MatchOption, IfSome, slice_index_or, All, refl, ap, sym, ◌∙◌, subst, arith}
+use Rattle.std.proofs.lemmas.List.{map-append, get_or-map, length-map, take_all}
+use Rattle.export_data.specs.declared.constants.ConstInterface.{ConstInterface}
+use Rattle.export_data.specs.Spelling.{IsSpelled}
+use Rattle.go_tree.specs.declared.tree.FileTree.{FileTree}
+use Rattle.go_tree.specs.declared.token.Why.{Why}
+use Rattle.parse_file.specs.declared.verdict.FileVerdict.{FileVerdict}
+use Rattle.parse_file.specs.declared.verdict.FileVerdict.TheVariants.{Parsed, Lexical, Syntax, TooDeep}
+use Rattle.parse_file.specs.Verdict.{IsParsed, IsVerdict}
+use Rattle.parse_file.proofs.VerdictLaws.{one_verdict}
+use Rattle.action_graph.specs.Nodes.{Named}
+use Rattle.action_graph.specs.Judging.{Env, AreInterfaces, text_of}
+use Rattle.go_kit.specs.Reading.{IsFileOf, AreFilesOf, IsShort, IsFaceOf}
+
+tree-is : (a b : FileTree) → Parsed a ≡ Parsed b → a ≡ b
+tree-is a b e = cc
+
+-- a text that parses has one tree, which is kept where its nodes can be counted
+pub kept-answer : (text : List ℕ) (tree : FileTree) (r : Option FileTree) → IsParsed text tree → IfSome r (λ kept. (kept ≡ tree) × (length tree.nodes ≤ 2 ^ 32))
+    → (r ≡ None → length tree.nodes ≤ 2 ^ 32 → ⊥) → MatchOption r ((t : FileTree) → IsFileOf text t → ⊥) (λ t. IsFileOf text t)
+kept-answer text tree (Some kept) parsed some none = record {
+  parsed = subst (λ (t : FileTree). IsParsed text t) (sym some.0) parsed;
+  few = subst (λ (t : FileTree). length t.nodes ≤ 2 ^ 32) (sym some.0) some.1;
+}
+kept-answer text tree None parsed some none = λ t h.
+    none refl (subst (λ (s : FileTree). length s.nodes ≤ 2 ^ 32) (tree-is t tree (one_verdict text (Parsed t) (Parsed tree) h.parsed parsed)) h.few)
+
+-- another verdict is of a text that has no tree
+other-verdict : (text : List ℕ) (v : FileVerdict) → IsVerdict text v → ((t : FileTree) → v ≡ Parsed t → ⊥) → (t : FileTree) → IsFileOf text t → ⊥
+other-verdict text v is apart t h = apart t (one_verdict text v (Parsed t) is h.parsed)
+
+pub lexical-none : (text : List ℕ) (offset : ℕ) (why : Why) → IsVerdict text (Lexical offset why) → (t : FileTree) → IsFileOf text t → ⊥
+lexical-none text offset why is = other-verdict text (Lexical offset why) is (λ t e. apart t e) where
+  apart : (t : FileTree) → Lexical offset why ≡ Parsed t → ⊥
+  apart t e = cc
+
+pub syntax-none : (text : List ℕ) (offset : ℕ) → IsVerdict text (Syntax offset) → (t : FileTree) → IsFileOf text t → ⊥
+syntax-none text offset is = other-verdict text (Syntax offset) is (λ t e. apart t e) where
+  apart : (t : FileTree) → Syntax offset ≡ Parsed t → ⊥
+  apart t e = cc
+
+pub deep-none : (text : List ℕ) (offset : ℕ) → IsVerdict text (TooDeep offset) → (t : FileTree) → IsFileOf text t → ⊥
+deep-none text offset is = other-verdict text (TooDeep offset) is (λ t e. apart t e) where
+  apart : (t : FileTree) → TooDeep offset ≡ Parsed t → ⊥
+  apart t e = cc
+
+pub short-answer : (text : List ℕ) (r : Option FileTree) → MatchOption r ((t : FileTree) → IsFileOf text t → ⊥) (λ t. IsFileOf text t)
+    → MatchOption r ((t : FileTree) → IsShort text → IsFileOf text t → ⊥) (λ t. IsFileOf text t)
+short-answer text (Some tree) h = h
+short-answer text None h = λ t short is. h t is
+
+pub take-one-more : {X : Type 0} (xs : List X) (n : ℕ) (d : X) → n < length xs → take (n + 1) xs ≡ take n xs ++ slice_index_or xs n d ∷ []
+take-one-more [] n d lt = absurd (omega (arith, lt))
+take-one-more (x ∷ xs) zero d lt = refl
+take-one-more (x ∷ xs) (suc n) d lt =
+    let e : suc n + 1 ≡ suc (n + 1) = omega arith in
+    rw e (ap (λ l. x ∷ l) (take-one-more xs n d (omega (arith, lt))))
+
+-- one file more
+files-append : (texts : List (List ℕ)) (trees : List FileTree) (text : List ℕ) (tree : FileTree) → AreFilesOf texts trees → IsFileOf text tree → AreFilesOf (texts ++ text ∷ []) (trees ++ tree ∷ [])
+files-append [] [] text tree old new = (new, tt)
+files-append [] (t ∷ ts) text tree old new = absurd old
+files-append (x ∷ xs) [] text tree old new = absurd old
+files-append (x ∷ xs) (t ∷ ts) text tree old new = (old.0, files-append xs ts text tree old.1 new)
+
+pub files-more : (files : List Named) (n : ℕ) (d : Named) (text : List ℕ) (trees new : List FileTree) (tree : FileTree) → d ≡ slice_index_or files n d → text ≡ d.1 → n < length files
+    → AreFilesOf (map text_of (take n files)) trees → IsFileOf text tree → new ≡ trees ++ tree ∷ [] → AreFilesOf (map text_of (take (n + 1) files)) new
+files-more files n d text trees new tree item its lt old read is =
+    let here : IsFileOf (slice_index_or files n d).1 tree = subst (λ (x : List ℕ). IsFileOf x tree) (its ∙ ap text_of item) read in
+    let e : map text_of (take (n + 1) files) ≡ map text_of (take n files) ++ (slice_index_or files n d).1 ∷ [] = ap (map text_of) (take-one-more files n d lt) ∙ map-append text_of (take n files) (slice_index_or files n d ∷ []) in
+    subst (λ ts. AreFilesOf ts new) (sym e)
+    (subst (λ ts. AreFilesOf (map text_of (take n files) ++ (slice_index_or files n d).1 ∷ []) ts) (sym is) (files-append (map text_of (take n files)) trees (slice_index_or files n d).1 tree old here))
+
+-- each of the texts has a tree
+file-at : (texts : List (List ℕ)) (trees : List FileTree) (n : ℕ) → n < length texts → AreFilesOf texts trees → (tree : FileTree) × IsFileOf (slice_index_or texts n []) tree
+file-at [] trees n lt all = absurd (omega (arith, lt))
+file-at (x ∷ xs) [] n lt all = absurd all
+file-at (x ∷ xs) (t ∷ ts) zero lt all = (t, all.0)
+file-at (x ∷ xs) (t ∷ ts) (suc n) lt all = file-at xs ts n (omega (arith, lt)) all.1
+
+pub no-file : (files : List Named) (n : ℕ) (d : Named) (text : List ℕ) → d ≡ slice_index_or files n d → text ≡ d.1 → n < length files → ((tree : FileTree) → IsShort text → IsFileOf text tree → ⊥)
+    → (trees : List FileTree) → All IsShort (map text_of files) → AreFilesOf (map text_of files) trees → ⊥
+no-file files n d text item its lt none trees short all =
+    let bad : (tree : FileTree) → IsShort (slice_index_or files n d).1 → IsFileOf (slice_index_or files n d).1 tree → ⊥ =
+    subst (λ (x : List ℕ). (tree : FileTree) → IsShort x → IsFileOf x tree → ⊥) (its ∙ ap text_of item) none in
+    let e : length (map text_of files) ≡ length files = length-map files text_of in
+    let same : slice_index_or (map text_of files) n [] ≡ (slice_index_or files n d).1 = get_or-map text_of files n d [] lt in
+    let one = file-at (map text_of files) trees n (omega (arith, e, lt)) all in
+    bad one.0 (subst IsShort same (short n [] (omega (arith, e, lt)))) (subst (λ t. IsFileOf t one.0) same one.1)
+
+pub all-files : (files : List Named) (n : ℕ) (trees : List FileTree) → length files ≤ n → AreFilesOf (map text_of (take n files)) trees → AreFilesOf (map text_of files) trees
+all-files files n trees done all = subst (λ fs. AreFilesOf (map text_of fs) trees) (take_all n files done) all
+
+-- the interface, where its path is that beside the text
+pub path-answer : (pair : Named) (face : ConstInterface) (r : Option ConstInterface) → IsSpelled face pair.1 → ((i : ConstInterface) → IsSpelled i pair.1 → i ≡ face)
+    → IfSome r (λ kept. (kept ≡ face) × (face.path ≡ pair.0)) → (r ≡ None → face.path ≡ pair.0 → ⊥) → MatchOption r ((i : ConstInterface) → IsFaceOf pair i → ⊥) (λ i. IsFaceOf pair i)
+path-answer pair face (Some kept) spelled one some none = record {
+  spelled = subst (λ (i : ConstInterface). IsSpelled i pair.1) (sym some.0) spelled;
+  path = ap (λ (i : ConstInterface). i.path) some.0 ∙ some.1;
+}
+path-answer pair face None spelled one some none = λ i h. none refl (ap (λ (x : ConstInterface). x.path) (sym (one i h.spelled)) ∙ h.path)
+
+-- one interface more
+faces-append : (env : List Named) (faces : Env) (x : Named) (i : ConstInterface) → AreInterfaces env faces → IsFaceOf x i → AreInterfaces (env ++ x ∷ []) (faces ++ i ∷ [])
+faces-append [] [] x i old new = (new.spelled, new.path, tt)
+faces-append [] (k ∷ faces) x i old new = absurd old
+faces-append (y ∷ env) [] x i old new = absurd old
+faces-append (y ∷ env) (k ∷ faces) x i old new = (old.0, old.1, faces-append env faces x i old.2 new)
+
+pub faces-more : (env : List Named) (n : ℕ) (d : Named) (faces new : Env) (i : ConstInterface) → d ≡ slice_index_or env n d → n < length env → AreInterfaces (take n env) faces → IsFaceOf d i
+    → new ≡ faces ++ i ∷ [] → AreInterfaces (take (n + 1) env) new
+faces-more env n d faces new i item lt old read is =
+    let here : IsFaceOf (slice_index_or env n d) i = subst (λ (x : Named). IsFaceOf x i) item read in
+    subst (λ xs. AreInterfaces xs new) (sym (take-one-more env n d lt))
+    (subst (λ fs. AreInterfaces (take n env ++ slice_index_or env n d ∷ []) fs) (sym is) (faces-append (take n env) faces (slice_index_or env n d) i old here))
+
+face-at : (env : List Named) (faces : Env) (n : ℕ) (d : Named) → n < length env → AreInterfaces env faces → (i : ConstInterface) × IsFaceOf (slice_index_or env n d) i
+face-at [] faces n d lt all = absurd (omega (arith, lt))
+face-at (x ∷ xs) [] n d lt all = absurd all
+face-at (x ∷ xs) (i ∷ faces) zero d lt all = (i, record { spelled = all.0; path = all.1 })
+face-at (x ∷ xs) (i ∷ faces) (suc n) d lt all = face-at xs faces n d (omega (arith, lt)) all.2
+
+pub no-face : (env : List Named) (n : ℕ) (d : Named) → d ≡ slice_index_or env n d → n < length env → ((i : ConstInterface) → IsFaceOf d i → ⊥) → (faces : Env) → AreInterfaces env faces → ⊥
+no-face env n d item lt bad faces all = let one = face-at env faces n d lt all in bad one.0 (subst (λ (x : Named). IsFaceOf x one.0) (sym item) one.1)
+
+pub all-faces : (env : List Named) (n : ℕ) (faces : Env) → length env ≤ n → AreInterfaces (take n env) faces → AreInterfaces env faces
+all-faces env n faces done all = subst (λ xs. AreInterfaces xs faces) (take_all n env done) all

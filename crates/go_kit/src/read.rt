@@ -1,0 +1,66 @@
+//! The trees of a package's files.
+ghost use Rattle.std.specs.Prelude.{◌≡◌, ◌≤◌, ◌^◌, List, ℕ, All, length, map, IfOk, IfSome, MatchOption, Some, None};
+ghost use Rattle.go_tree.specs.declared.tree.FileTree.{FileTree};
+ghost use Rattle.parse_file.specs.Verdict.{IsVerdict};
+ghost use Rattle.action_graph.specs.Judging.{text_of};
+ghost use Rattle.go_kit.specs.Reading.{IsFileOf, AreFilesOf, IsShort};
+
+use go_tree::FileTree;
+use gv_base::{Bytes, NoMemory, Text};
+use parse_file::{FileVerdict, parse_file};
+use std::alloc::Global;
+
+/// The tree, if its nodes can be counted.
+fn keep_small(tree: FileTree) -> Option<FileTree>
+    ensures kept { IfSome result (λ kept. (kept ≡ tree) × (length tree.nodes ≤ 2 ^ 32)) }
+    ensures none { result ≡ None → length tree.nodes ≤ 2 ^ 32 → ⊥ }
+{
+    if tree.nodes.as_slice().len() <= 1 << 32 {
+        return Some(tree);
+    }
+    None
+}
+
+/// The tree of a text with this verdict, if it has one.
+fn small_tree(text: &[u8], verdict: FileVerdict) -> Option<FileTree>
+    requires { IsVerdict text.now verdict }
+    ensures { MatchOption result ((tree : FileTree) → IsFileOf text.now tree → ⊥) (λ tree. IsFileOf text.now tree) }
+{
+    match verdict {
+        FileVerdict::Parsed(tree) => keep_small(tree),
+        FileVerdict::Lexical { offset: _, why: _ } => None,
+        FileVerdict::Syntax { offset: _ } => None,
+        FileVerdict::TooDeep { offset: _ } => None,
+    }
+}
+
+/// The tree of a text. None where it has more than 2^24 bytes, doesn't parse, or has too many nodes.
+fn read_file(alloc: Global, text: &[u8]) -> Result<Option<FileTree>, NoMemory>
+    ensures { IfOk result (λ read. MatchOption read ((tree : FileTree) → IsShort text.now → IsFileOf text.now tree → ⊥) (λ tree. IsFileOf text.now tree)) }
+{
+    if text.len() > 1 << 24 {
+        return Ok(None);
+    }
+    let verdict = parse_file(alloc, text)?;
+    Ok(small_tree(text, verdict))
+}
+
+/// The trees of some files; None where one has none.
+pub(crate) fn read_files(
+    alloc: Global,
+    files: &[(Text, Bytes)],
+) -> Result<Option<Vec<FileTree>>, NoMemory>
+    ensures { IfOk result (λ read. MatchOption read
+        ((trees : List FileTree) → All IsShort (map text_of files.now) → AreFilesOf (map text_of files.now) trees → ⊥)
+        (λ trees. AreFilesOf (map text_of files.now) trees.items)) }
+{
+    let mut trees = Vec::new(alloc);
+    for file in files {
+        let read = read_file(alloc, file.1.as_slice())?;
+        match read {
+            Some(tree) => trees.push(tree)?,
+            None => return Ok(None),
+        }
+    }
+    Ok(Some(trees))
+}

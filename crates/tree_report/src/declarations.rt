@@ -1,0 +1,235 @@
+//! Which files have imports, constants and declarations without values and bodies alone.
+ghost use Rattle.std.specs.Prelude.{◌≡◌, ◌↔◌, IsTrue};
+ghost use Rattle.std.specs.List.{list_all};
+ghost use Rattle.const_tree.specs.Form.{is_of, is_unary, has_unary, has_binary, node_is, part_is};
+ghost use Rattle.const_tree.specs.declared.form.Class.TheVariants as class;
+ghost use Rattle.tree_report.specs.Declarations.{is_constant_kind, is_typed_kind, is_declared_kind, fits_kind, is_star, is_star_at, part_is_star, has_no_star, stars_are_types, fits_node, IsDeclarationFile, has_constants_alone};
+
+use const_eval::Operator;
+use const_tree::{binary_operator, unary_operator};
+use go_tree::{FileTree, Node, NodeKind};
+use package_objects::{node_of, part_of};
+
+/// The most nodes of a file.
+const MOST_NODES: usize = 4_294_967_296;
+
+fn is_constant_kind(kind: NodeKind) -> bool
+    ensures { result ≡ is_constant_kind kind }
+{
+    match kind {
+        NodeKind::Package
+        | NodeKind::Import
+        | NodeKind::ImportGroup
+        | NodeKind::ImportPath
+        | NodeKind::ImportDot
+        | NodeKind::ImportNamed
+        | NodeKind::Const
+        | NodeKind::ConstGroup
+        | NodeKind::ConstNames
+        | NodeKind::ConstValues
+        | NodeKind::ConstTyped
+        | NodeKind::Names
+        | NodeKind::Exprs
+        | NodeKind::Name
+        | NodeKind::Selector
+        | NodeKind::Paren
+        | NodeKind::Unary
+        | NodeKind::Binary
+        | NodeKind::Int
+        | NodeKind::Float
+        | NodeKind::Imag
+        | NodeKind::Rune
+        | NodeKind::Text => true,
+        _ => false,
+    }
+}
+
+fn is_typed_kind(kind: NodeKind) -> bool
+    ensures { result ≡ is_typed_kind kind }
+{
+    match kind {
+        NodeKind::Var
+        | NodeKind::VarGroup
+        | NodeKind::VarTyped
+        | NodeKind::TypeDecl
+        | NodeKind::TypeGroup
+        | NodeKind::Defined
+        | NodeKind::Alias
+        | NodeKind::FuncDecl
+        | NodeKind::MethodDecl
+        | NodeKind::Params
+        | NodeKind::Param
+        | NodeKind::SpreadParam
+        | NodeKind::Variadic
+        | NodeKind::Star
+        | NodeKind::ArrayType
+        | NodeKind::SliceType
+        | NodeKind::MapType
+        | NodeKind::ChanType
+        | NodeKind::SendChan
+        | NodeKind::RecvChan
+        | NodeKind::FuncType
+        | NodeKind::StructType
+        | NodeKind::Field
+        | NodeKind::Embedded
+        | NodeKind::EmbeddedPointer
+        | NodeKind::InterfaceType
+        | NodeKind::Method => true,
+        _ => false,
+    }
+}
+
+fn is_declared_kind(kind: NodeKind) -> bool
+    ensures { result ≡ is_declared_kind kind }
+{
+    is_constant_kind(kind) || is_typed_kind(kind)
+}
+
+fn is_unary(op: Operator) -> bool
+    ensures { result ≡ is_unary op }
+{
+    match op {
+        Operator::Not | Operator::Add | Operator::Subtract | Operator::Xor => true,
+        _ => false,
+    }
+}
+
+fn has_unary(tree: &FileTree, node: &Node) -> bool
+    ensures { result ≡ has_unary tree.now node.now }
+{
+    match unary_operator(tree, node) {
+        Some(op) => is_unary(op),
+        None => false,
+    }
+}
+
+fn has_binary(tree: &FileTree, node: &Node) -> bool
+    ensures { result ≡ has_binary tree.now node.now }
+{
+    match binary_operator(tree, node) {
+        Some(_) => true,
+        None => false,
+    }
+}
+
+fn is_name(kind: NodeKind) -> bool
+    ensures { result ≡ is_of class.Name kind }
+{
+    match kind {
+        NodeKind::Name => true,
+        _ => false,
+    }
+}
+
+fn is_name_at(nodes: &[Node], n: u32) -> bool
+    ensures { result ≡ node_is class.Name nodes.now n }
+{
+    match node_of(nodes, n) {
+        Some(node) => is_name(node.kind),
+        None => false,
+    }
+}
+
+/// Whether a name stands before the dot of a selector.
+fn selects_by_name(nodes: &[Node], node: &Node) -> bool
+    ensures { result ≡ part_is class.Name nodes.now node.now 0 }
+{
+    match part_of(node, 0) {
+        Some(n) => is_name_at(nodes, n),
+        None => false,
+    }
+}
+
+fn is_star(kind: NodeKind) -> bool
+    ensures { result ≡ is_star kind }
+{
+    match kind {
+        NodeKind::Star => true,
+        _ => false,
+    }
+}
+
+fn is_star_at(nodes: &[Node], n: u32) -> bool
+    ensures { result ≡ is_star_at nodes.now n }
+{
+    match node_of(nodes, n) {
+        Some(node) => is_star(node.kind),
+        None => false,
+    }
+}
+
+fn part_is_star(nodes: &[Node], node: &Node, i: usize) -> bool
+    ensures { result ≡ part_is_star nodes.now node.now i }
+{
+    match part_of(node, i) {
+        Some(n) => is_star_at(nodes, n),
+        None => false,
+    }
+}
+
+fn has_no_star(nodes: &[Node], node: &Node) -> bool
+    ensures { result ≡ has_no_star nodes.now node.now }
+{
+    node.parts.as_slice().iter().all(|n| !is_star_at(nodes, *n))
+}
+
+/// Whether no `*` stands before a value.
+fn stars_are_types(nodes: &[Node], node: &Node) -> bool
+    ensures { result ≡ stars_are_types node.now.kind nodes.now node.now }
+{
+    match node.kind {
+        NodeKind::Unary | NodeKind::Binary | NodeKind::Exprs | NodeKind::Paren => {
+            has_no_star(nodes, node)
+        }
+        NodeKind::ConstValues => !part_is_star(nodes, node, 1),
+        NodeKind::ConstTyped => !part_is_star(nodes, node, 2),
+        NodeKind::ArrayType => !part_is_star(nodes, node, 0),
+        _ => true,
+    }
+}
+
+fn fits_kind(tree: &FileTree, node: &Node) -> bool
+    ensures { result ≡ fits_kind node.now.kind tree.now node.now }
+{
+    match node.kind {
+        NodeKind::Unary => has_unary(tree, node),
+        NodeKind::Binary => has_binary(tree, node),
+        NodeKind::Selector => selects_by_name(tree.nodes.as_slice(), node),
+        kind => is_declared_kind(kind),
+    }
+}
+
+fn fits_node(tree: &FileTree, node: &Node) -> bool
+    ensures { result ≡ fits_node tree.now node.now }
+{
+    fits_kind(tree, node) && stars_are_types(tree.nodes.as_slice(), node)
+}
+
+fn all_fit(tree: &FileTree) -> bool
+    ensures { result ≡ list_all (fits_node tree.now) tree.now.nodes }
+{
+    tree.nodes
+        .as_slice()
+        .iter()
+        .all(|node| fits_node(tree, node))
+}
+
+/// Whether a file has imports, constants and declarations without values and bodies alone.
+pub fn is_declaration_file(tree: &FileTree) -> bool
+    ensures { IsTrue result ↔ IsDeclarationFile tree.now }
+{
+    if tree.nodes.as_slice().len() > MOST_NODES {
+        return false;
+    }
+    all_fit(tree)
+}
+
+/// Whether a file has imports and constants alone.
+pub fn has_constants_alone(tree: &FileTree) -> bool
+    ensures { result ≡ has_constants_alone tree.now }
+{
+    tree.nodes
+        .as_slice()
+        .iter()
+        .all(|node| is_constant_kind(node.kind))
+}
