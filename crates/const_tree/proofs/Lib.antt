@@ -1,3 +1,1 @@
 pub mod ListLemmas
-pub mod PlaceLaws
-pub mod ConstantLaws

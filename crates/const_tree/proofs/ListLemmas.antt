@@ -1,22 +1,28 @@
--- What is gathered or tested number by number.
-use Rattle.std.proofs.Common.{◌≡◌, ℕ, zero, suc, ◌+◌, ◌≤◌, ◌<◌, ◌==◌, nat_le, ◌&&◌, if◌then◌else◌, Bool, true, false, List, [], ◌∷◌, ◌++◌, take, slice_get, slice_index_or, length, Option, Some, None, below_more, refl, sym, ap, ◌∙◌, subst, arith}
-use Rattle.std.specs.Option.{option_map_or}
+-- What is gathered or found number by number.
+use Rattle.std.proofs.Common.{◌≡◌, ℕ, zero, suc, ◌+◌, ◌≤◌, ◌<◌, ◌⊎◌, nat_le, if◌then◌else◌, true, false, List, [], ◌∷◌, ◌++◌, slice_get, slice_index_or, length, Option, Some, None, inl, inr, below_more, refl, sym, ap, ◌∙◌, subst, arith}
 use Rattle.std.proofs.lemmas.Bool.{le-leb, lt-leb}
-use Rattle.std.proofs.lemmas.List.{take_more}
 use Rattle.std.proofs.lemmas.Option.{slice_get-get_or, get_or_from_slice_get}
 use Rattle.go_tree.specs.declared.tree.Node.{Node}
 use Rattle.package_objects.specs.Declares.{gather, source_after, source_with}
 use Rattle.package_objects.proofs.GatherLemmas.{gather_on, next_is}
 use Rattle.const_tree.specs.declared.constant.Spec.{Spec}
-use Rattle.const_tree.specs.declared.constant.Constant.{Constant}
-use Rattle.const_tree.specs.declared.place.Place.{Place}
-use Rattle.const_tree.specs.Constants.{spec_for, nth_spec, specs_in, constants_of, constants_at, first_from, AreBefore}
-use Rattle.const_tree.specs.Places.{first_for, put_at, Puts}
-use Rattle.const_tree.specs.Form.{every}
+use Rattle.const_tree.specs.Constants.{spec_for, nth_spec, first_from, AreBefore}
 
--- one number more is tested
-pub every_on : (test : ℕ → Bool) (n : ℕ) (was now : Bool) → was ≡ every test n → now ≡ (was && test n) → now ≡ every test (n + 1)
-every_on test n was now so is = is ∙ (ap (λ b. b && test n) so ∙ ap (λ k. every test k) (next_is n))
+append_cases : {X : Type 0} (xs ys : List X) (o : ℕ) (d : X) → slice_get (xs ++ ys) o ≡ Some d → ((i : ℕ) × (slice_get xs i ≡ Some d)) ⊎ ((j : ℕ) × (slice_get ys j ≡ Some d))
+append_cases [] ys o d h = inr (o, h)
+append_cases (x ∷ xs) ys zero d h = inl (0, h)
+append_cases (x ∷ xs) ys (suc o) d h = elim (append_cases xs ys o d h) [
+  | inl (i, e) ↦ inl (suc i, e)
+  | inr later ↦ inr later
+]
+
+-- what is gathered comes of some number
+pub gather_cases : {X : Type 0} (g : ℕ → List X) (n o : ℕ) (d : X) → slice_get (gather g n) o ≡ Some d → (i : ℕ) × (j : ℕ) × (i < n) × (slice_get (g i) j ≡ Some d)
+gather_cases g zero o d h = absurd cc
+gather_cases g (suc n) o d h = elim (append_cases (gather g n) (g n) o d h) [
+  | inl (i, e) ↦ (let rest = gather_cases g n i d e in (rest.0, rest.1, (let low = rest.2 in omega arith), rest.3))
+  | inr (j, e) ↦ (n, j, omega arith, e)
+]
 
 -- the specification whose list counts, and the specifications of one more
 pub specs_on : (nodes : List Node) (node : Node) (i : ℕ) (source newer : Option ℕ) (old mid new : List Spec)
@@ -30,35 +36,8 @@ specs_on nodes node i source newer old mid new was now out is = (newer_is ∙ ap
   added : new ≡ mid ++ nth_spec nodes node i
   added = is ∙ ap (λ o. mid ++ spec_for (slice_get node.parts i) i o) newer_is
 
--- the constants of one more specification
-pub constant_step : (file : ℕ) (nodes : List Node) (specs : List Spec) (i : ℕ) (spec : Spec) (out new : List Constant)
-    → specs ≡ specs_in nodes → i < length specs → spec ≡ slice_index_or specs i spec → new ≡ out ++ constants_of file nodes spec → new ≡ out ++ constants_at file nodes i
-constant_step file nodes specs i spec out new are low at is =
-    is ∙ ap (λ o. out ++ option_map_or (constants_of file nodes) o [])
-    (sym (ap (λ xs. slice_get xs i) (sym are) ∙ (slice_get-get_or specs i spec low ∙ ap Some (sym at))))
-
--- the first place for a node, with one place more
-first_by : (b : Bool) (p : Place) → (if b then Some p else None) ≡ put_at None b p
-first_by true p = refl
-first_by false p = refl
-
-first_more : (n : ℕ) (places : List Place) (p : Place) → first_for n (places ++ p ∷ []) ≡ put_at (first_for n places) (p.node == n) p
-first_more n [] p = first_by (p.node == n) p
-first_more n (x ∷ places) p = by (first_more n places p) (x.node == n) where
-  by : first_for n (places ++ p ∷ []) ≡ put_at (first_for n places) (p.node == n) p
-      → (b : Bool) → (if b then Some x else first_for n (places ++ p ∷ [])) ≡ put_at (if b then Some x else first_for n places) (p.node == n) p
-  by more true = refl
-  by more false = more
-
-pub row_step : (places : List Place) (i : ℕ) (p : Place) (old new : List (Option Place)) (count : ℕ) → length old ≡ count → i < length places → p ≡ slice_index_or places i p
-    → ((n : ℕ) → n < count → slice_index_or old n None ≡ first_for n (take i places)) → Puts old new p
-    → (n : ℕ) → n < count → slice_index_or new n None ≡ first_for n (take (i + 1) places)
-row_step places i p old new count size low at before puts n within =
-    puts.each n (omega arith) ∙ (ap (λ o. put_at o (p.node == n) p) (before n within)
-    ∙ (sym (first_more n (take i places) p) ∙ ap (λ xs. first_for n xs) (sym (take_more places i p low ∙ ap (λ x. take i places ++ x ∷ []) (sym at)))))
-
 -- what is tested of each item
-pub each_more : {X : Type 0} (P : ℕ → X → Type 0) (xs ys : List X) (i : ℕ) (d : X) → ys ≡ xs → d ≡ slice_index_or ys i d → P i d
+each_more : {X : Type 0} (P : ℕ → X → Type 0) (xs ys : List X) (i : ℕ) (d : X) → ys ≡ xs → d ≡ slice_index_or ys i d → P i d
     → ((k : ℕ) → k < i → (x : X) → slice_get xs k ≡ Some x → P k x) → (k : ℕ) → k < i + 1 → (x : X) → slice_get xs k ≡ Some x → P k x
 each_more {X} P xs ys i d same at here before =
     below_more (λ k. (x : X) → slice_get xs k ≡ Some x → P k x) i before
@@ -96,6 +75,3 @@ pub past : {X : Type 0} (xs : List X) (i : ℕ) → length xs ≤ i → slice_ge
 past [] i low = refl
 past (x ∷ xs) zero low = absurd (omega arith)
 past (x ∷ xs) (suc i) low = past xs i (omega arith)
-
-pub before_later : (specs : List Spec) (at n : ℕ) → AreBefore specs at n → AreBefore specs at (n + 1)
-before_later specs at n before j h s there = let low = before j h s there in omega arith

@@ -1,16 +1,12 @@
--- The constants that a package's files declare (Go 1.17, "Constant declarations", "Iota").
-use Rattle.std.specs.Prelude.{◌≡◌, ℕ, suc, ◌<◌, ◌==◌, nat_le, if◌then◌else◌, Bool, true, false, List, [], ◌∷◌, length, Option, Some, None, slice_get, option_and_then, option_map}
+-- Constant specifications, and what each declares (Go 1.17, "Constant declarations", "Iota").
+use Rattle.std.specs.Prelude.{◌≡◌, ℕ, suc, ◌<◌, nat_le, if◌then◌else◌, Bool, true, false, List, [], ◌∷◌, length, Option, Some, None, slice_get, option_and_then, option_map}
 use Rattle.std.specs.Option.{option_map_or}
-use Rattle.go_tree.specs.declared.tree.FileTree.{FileTree}
 use Rattle.go_tree.specs.declared.tree.Node.{Node}
 use Rattle.go_tree.specs.declared.tree.NodeKind.{NodeKind}
 use Rattle.go_tree.specs.declared.tree.NodeKind.TheVariants as k
-use Rattle.go_tree.specs.declared.tree.NodeRef.{NodeRef}
 use Rattle.object_order.specs.declared.spot.Root.{Root}
-use Rattle.object_order.specs.Spots.{place}
 use Rattle.package_objects.specs.Declares.{gather, items, part, kind_at, source_after, list_of}
 use Rattle.const_tree.specs.declared.constant.Spec.{Spec}
-use Rattle.const_tree.specs.declared.constant.Constant.{Constant}
 
 -- ---- specifications
 
@@ -56,41 +52,6 @@ is_bare _ = false
 
 abbrev pub is_repeated : List Node → Spec → Bool
 is_repeated nodes spec = is_bare (kind_at nodes spec.node)
-
--- ---- constants
-
--- the constant of the name at a place of a specification, with the node of the value at that place
-abbrev pub constant_at : ℕ → List Node → Spec → ℕ → ℕ → Constant
-constant_at file nodes spec i n = record {
-  name = place file n;
-  spec = spec;
-  typing = typing_of nodes spec;
-  value = slice_get (values_of nodes spec) i;
-  copied = is_repeated nodes spec;
-}
-
-abbrev pub constant_for : ℕ → List Node → Spec → ℕ → Option ℕ → List Constant
-constant_for file nodes spec i None = []
-constant_for file nodes spec i (Some n) = constant_at file nodes spec i n ∷ []
-
-abbrev pub nth_constant : ℕ → List Node → Spec → ℕ → List Constant
-nth_constant file nodes spec i = constant_for file nodes spec i (slice_get (names_of nodes spec) i)
-
-abbrev pub constants_of : ℕ → List Node → Spec → List Constant
-constants_of file nodes spec = gather (nth_constant file nodes spec) (length (names_of nodes spec))
-
-abbrev pub constants_at : ℕ → List Node → ℕ → List Constant
-constants_at file nodes i = option_map_or (constants_of file nodes) (slice_get (specs_in nodes) i) []
-
-abbrev pub constants_in : ℕ → List Node → List Constant
-constants_in file nodes = gather (constants_at file nodes) (length (specs_in nodes))
-
-abbrev pub constants_by : List FileTree → ℕ → List Constant
-constants_by trees file = option_map_or (λ (tree : FileTree). constants_in file tree.nodes) (slice_get trees file) []
-
--- The constants of a package, in order of file and place.
-abbrev pub constants : List FileTree → List Constant
-constants trees = gather (constants_by trees) (length trees)
 
 -- ---- nodes and specifications
 

@@ -1,4 +1,2 @@
 pub mod Operators
-pub mod Form
 pub mod Constants
-pub mod Places

@@ -1,5 +1,5 @@
 -- The operators of unary and binary expressions (Go 1.17, "Operators").
-use Rattle.std.specs.Prelude.{ℕ, ◌-◌, Option, Some, None, slice_get, option_and_then}
+use Rattle.std.specs.Prelude.{ℕ, ◌-◌, Option, None, slice_get, option_and_then}
 use Rattle.go_tree.specs.declared.token.Token.{Token}
 use Rattle.go_tree.specs.declared.token.TokenKind.{TokenKind}
 use Rattle.go_tree.specs.declared.token.TokenKind.TheVariants as t

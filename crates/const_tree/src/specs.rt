@@ -1,7 +1,7 @@
 //! The specifications of a file's constant declarations.
 ghost use Rattle.std.specs.Prelude.{◌≡◌, ◌+◌, ◌++◌, ◌≤◌, ◌<◌, ℕ, length, slice_get, slice_index_or, None, IfOk, OnOk};
 ghost use Rattle.std.specs.Option.{option_copied};
-ghost use Rattle.package_objects.specs.Declares.{gather, source_after};
+ghost use Rattle.package_objects.specs.Declares.{gather};
 ghost use Rattle.const_tree.specs.Constants.{is_declaration, spec_for, nth_spec, specs_of, specs_at, specs_in, first_from, AreBefore};
 
 use crate::constant::Spec;
@@ -58,7 +58,7 @@ fn add_of(nodes: &[Node], node: &Node, out: &mut Vec<Spec>) -> Result<(), NoMemo
 }
 
 /// The node of a number.
-pub(crate) fn nth_node(nodes: &[Node], n: usize) -> Option<&Node>
+fn nth_node(nodes: &[Node], n: usize) -> Option<&Node>
     ensures { option_copied result ≡ slice_get nodes.now n }
 {
     nodes.get(n)

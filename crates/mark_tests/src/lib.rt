@@ -1,4 +1,4 @@
-//! Tests of `typed_tree` by its public calls: the marks of expressions and places. There is nothing else here.
+//! Tests of `typed_tree` by its public calls: the marks of literals and predeclared names. There is nothing else here.
 #![tactic(auto)]
 
 #[cfg(test)]

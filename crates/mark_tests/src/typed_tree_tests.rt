@@ -1,87 +1,23 @@
-//! Rows of expressions at all judges, and each call on its happy path.
-ghost use Rattle.typed_tree.specs.Basics.{HasBasics};
-
+//! Literals, predeclared names and texts in rows, and each call on its happy path.
 mod rows;
 mod words;
 
-use go_tree::NodeRef;
-use gv_base::{Const, Kind};
+use gv_base::Const;
 use std::alloc::Global;
-use std::process::Abort;
 use std::test::Fail;
-use type_model::TypeTable;
+use type_model::{Term, TypeId};
 use typed_tree::{
-    Annotation, Limit, Mark, Marked, Mode, Rule, Want, basic, error_type, judge_binary,
-    judge_blank, judge_constant, judge_import, judge_int, judge_place, judge_predeclared,
-    judge_rune, judge_selector, judge_spec, judge_text, judge_unary, judge_use, universe_table,
-    wanted_type,
+    Limit, Mark, Rule, Want, basic, judge_blank, judge_int, judge_predeclared, judge_rune,
+    judge_text, universe_table,
 };
-use words::{kind, mark, operator, plain, says, want, wanted};
-
-/// `x op y = mark`
-fn binary_row(rt: &impl Abort, alloc: Global, t: &TypeTable, row: &str) -> Result<(), Fail>
-    requires { HasBasics t.now }
-{
-    let mut words = row.split(" ");
-    let a = mark(rt, alloc, words.next().unwrap_or(""))?;
-    let op = operator(rt, words.next().unwrap_or(""));
-    let b = mark(rt, alloc, words.next().unwrap_or(""))?;
-    let _equals = words.next();
-    let m = judge_binary(alloc, t, op, &a, &b)?;
-    assert!(rt; says(rt, &m, words.next().unwrap_or("")), "{row}");
-    Ok(())
-}
-
-/// `op x = mark`
-fn unary_row(rt: &impl Abort, alloc: Global, t: &TypeTable, row: &str) -> Result<(), Fail>
-    requires { HasBasics t.now }
-{
-    let mut words = row.split(" ");
-    let op = operator(rt, words.next().unwrap_or(""));
-    let a = mark(rt, alloc, words.next().unwrap_or(""))?;
-    let _equals = words.next();
-    let m = judge_unary(alloc, t, op, &a)?;
-    assert!(rt; says(rt, &m, words.next().unwrap_or("")), "{row}");
-    Ok(())
-}
-
-/// `want type x = mark`
-fn place_row(rt: &impl Abort, alloc: Global, t: &TypeTable, row: &str) -> Result<(), Fail>
-    requires { HasBasics t.now }
-{
-    let mut words = row.split(" ");
-    let want = want(rt, words.next().unwrap_or(""));
-    let to = wanted(rt, words.next().unwrap_or(""));
-    let a = mark(rt, alloc, words.next().unwrap_or(""))?;
-    let _equals = words.next();
-    let m = judge_place(t, want, to, a);
-    assert!(rt; says(rt, &m, words.next().unwrap_or("")), "{row}");
-    Ok(())
-}
-
-fn binary_rows(rt: &impl Abort, alloc: Global, t: &TypeTable, table: &str) -> Result<(), Fail>
-    requires { HasBasics t.now }
-{
-    for row in table.split("; ") {
-        binary_row(rt, alloc, t, row)?;
-    }
-    Ok(())
-}
+use words::{kind, says};
 
 #[test]
-fn expressions_have_their_marks(rt: HostRuntime) -> Result<(), Fail> {
+fn the_predeclared_types_stand_in_a_table(rt: HostRuntime) -> Result<(), Fail> {
     let t = universe_table(rt.alloc())?;
-    binary_rows(&rt, rt.alloc(), &t, rows::EXAMPLES)?;
-    binary_rows(&rt, rt.alloc(), &t, rows::KINDS)?;
-    binary_rows(&rt, rt.alloc(), &t, rows::OPERATORS)?;
-    binary_rows(&rt, rt.alloc(), &t, rows::COMPARISONS)?;
-    binary_rows(&rt, rt.alloc(), &t, rows::SHIFTS)?;
-    binary_rows(&rt, rt.alloc(), &t, rows::SILENT)?;
-    for row in rows::UNARY.split("; ") {
-        unary_row(&rt, rt.alloc(), &t, row)?;
-    }
-    for row in rows::PLACES.split("; ") {
-        place_row(&rt, rt.alloc(), &t, row)?;
+    match t.term(TypeId(18)) {
+        Term::Defined(name) => assert_eq!(rt; name.local, 0),
+        _ => panic!(rt; "error is no defined type"),
     }
     Ok(())
 }
@@ -148,127 +84,16 @@ fn predeclared_types_have_their_numbers(rt: HostRuntime) -> Result<(), Fail> {
         }
     }
     match judge_predeclared(10, 0) {
-        Mark::Good(facts) => assert_eq!(rt; facts.of.0, error_type().0),
+        Mark::Good(facts) => assert_eq!(rt; facts.of.0, 18),
         _ => panic!(rt; "error"),
     }
     Ok(())
 }
 
 #[test]
-fn names_give_what_they_denote(rt: HostRuntime) -> Result<(), Fail> {
-    let one = judge_int(b"1");
-    let wrong = Mark::Bad(Rule(30));
-    for (denoted, wanted) in [
-        (None, "E3"),
-        (Some(&one), "untyped-int:1"),
-        (Some(&wrong), "silent"),
-    ] {
-        let m = judge_use(rt.alloc(), denoted)?;
-        assert!(rt; says(&rt, &m, wanted), "{wanted}");
-    }
+fn a_blank_is_no_value_and_no_type(rt: HostRuntime) {
     assert!(rt; says(&rt, &judge_blank(Want::Type), "E10"));
     assert!(rt; says(&rt, &judge_blank(Want::Operand), "E17"));
-    Ok(())
-}
-
-#[test]
-fn selectors_give_what_they_denote(rt: HostRuntime) -> Result<(), Fail> {
-    let one = judge_int(b"1");
-    let wrong = Mark::Bad(Rule(30));
-    let package = plain(Mode::Package, Kind::UntypedNil);
-    for (part, exported, wanted) in [
-        (&package, None, "E9"),
-        (&package, Some(&one), "untyped-int:1"),
-        (&package, Some(&wrong), "silent"),
-        (&one, None, "E20"),
-        (&wrong, None, "silent"),
-    ] {
-        let m = judge_selector(rt.alloc(), part, exported)?;
-        assert!(rt; says(&rt, &m, wanted), "{wanted}");
-    }
-    Ok(())
-}
-
-/// `typing names values = mark`, where `-` is no type
-fn spec_row(rt: &impl Abort, alloc: Global, t: &TypeTable, row: &str) -> Result<(), Fail>
-    requires { HasBasics t.now }
-{
-    let mut words = row.split(" ");
-    let typing = words.next().unwrap_or("");
-    let names = words.next().unwrap_or("").parse::<usize>()?;
-    let values = words.next().unwrap_or("").parse::<usize>()?;
-    let _equals = words.next();
-    let m = if typing == "-" {
-        judge_spec(t, None, names, values)
-    } else {
-        let of = mark(rt, alloc, typing)?;
-        judge_spec(t, Some(&of), names, values)
-    };
-    assert!(rt; says(rt, &m, words.next().unwrap_or("")), "{row}");
-    Ok(())
-}
-
-/// `typing value = mark`, where `-` is no type
-fn constant_row(rt: &impl Abort, alloc: Global, t: &TypeTable, row: &str) -> Result<(), Fail>
-    requires { HasBasics t.now }
-{
-    let mut words = row.split(" ");
-    let typing = words.next().unwrap_or("");
-    let value = mark(rt, alloc, words.next().unwrap_or(""))?;
-    let _equals = words.next();
-    let m = if typing == "-" {
-        judge_constant(alloc, t, None, &value)?
-    } else {
-        let of = mark(rt, alloc, typing)?;
-        judge_constant(alloc, t, Some(&of), &value)?
-    };
-    assert!(rt; says(rt, &m, words.next().unwrap_or("")), "{row}");
-    Ok(())
-}
-
-#[test]
-fn declarations_have_their_marks(rt: HostRuntime) -> Result<(), Fail> {
-    let t = universe_table(rt.alloc())?;
-    for row in rows::SPECS.split("; ") {
-        spec_row(&rt, rt.alloc(), &t, row)?;
-    }
-    for row in rows::CONSTANTS.split("; ") {
-        constant_row(&rt, rt.alloc(), &t, row)?;
-    }
-    assert!(rt; wanted_type(Some(&judge_predeclared(15, 0))).is_some());
-    assert!(rt; wanted_type(Some(&judge_int(b"1"))).is_none());
-    assert!(rt; says(&rt, &judge_import(None), "novalue"));
-    assert!(rt; says(&rt, &judge_import(Some(Limit::Complex)), "complex"));
-    Ok(())
-}
-
-fn at(file: u32, node: u32) -> NodeRef {
-    NodeRef { file, node }
-}
-
-fn marked(rt: &impl Abort, marks: &Annotation, of: Marked, wanted: &str) -> bool {
-    match marks.mark(of) {
-        Some(m) => says(rt, m, wanted),
-        None => wanted == "none",
-    }
-}
-
-#[test]
-fn each_mark_is_kept_by_itself(rt: HostRuntime) -> Result<(), Fail> {
-    let mut marks = Annotation::new(rt.alloc());
-    assert!(rt; marked(&rt, &marks, Marked::Node(at(1, 2)), "none"));
-    marks.set(Marked::Node(at(1, 2)), Mark::Silent)?;
-    marks.set(Marked::Object(at(1, 2)), Mark::Bad(Rule(4)))?;
-    marks.set(Marked::Copy(at(1, 2), at(1, 3)), Mark::Bad(Rule(30)))?;
-    marks.set(Marked::Copy(at(1, 3), at(1, 2)), Mark::Bad(Rule(31)))?;
-    assert!(rt; marked(&rt, &marks, Marked::Node(at(1, 2)), "silent"));
-    assert!(rt; marked(&rt, &marks, Marked::Node(at(2, 1)), "none"));
-    assert!(rt; marked(&rt, &marks, Marked::Object(at(1, 2)), "E4"));
-    assert!(rt; marked(&rt, &marks, Marked::Copy(at(1, 2), at(1, 3)), "E30"));
-    assert!(rt; marked(&rt, &marks, Marked::Copy(at(1, 3), at(1, 2)), "E31"));
-    marks.set(Marked::Node(at(1, 2)), Mark::Bad(Rule(10)))?;
-    assert!(rt; marked(&rt, &marks, Marked::Node(at(1, 2)), "E10"));
-    Ok(())
 }
 
 #[test]

@@ -1,13 +1,13 @@
-//! A file of three specifications, and what it declares and wants, worked out by hand.
+//! A file of three specifications, and what each declares, worked out by hand.
 use const_eval::Operator;
 use const_tree::{
-    Constant, are_constant_files, constants, is_constant_file, place_row, spec_row, specs_in,
+    binary_operator, is_repeated, name_at, name_count, spec_row, specs_in, typing_of,
+    unary_operator, value_at, value_count,
 };
 use go_tree::{FileTree, Node, NodeKind, Token, TokenKind};
 use gv_base::{NoMemory, Row};
 use std::alloc::Global;
 use std::test::Fail;
-use typed_tree::Want;
 
 /// The nodes of `package p`, `const (A uint8 = 1 << iota; B; C, D = 2, 3)`, each with its parts and its first token.
 const NODES: [(NodeKind, &[u32], u32); 18] = [
@@ -79,65 +79,67 @@ fn tree(alloc: Global, op: Operator) -> Result<FileTree, NoMemory> {
 }
 
 #[test]
-fn constants_in_order(rt: HostRuntime) -> Result<(), Fail> {
+fn specifications_in_order(rt: HostRuntime) -> Result<(), Fail> {
     let alloc = rt.alloc();
-    let mut trees = Vec::new(alloc);
-    trees.push(tree(alloc, Operator::ShiftLeft)?)?;
-    assert!(rt; are_constant_files(&trees));
-    let other = tree(alloc, Operator::Equal)?;
-    assert!(rt; is_constant_file(&other));
-    let list = constants(alloc, &trees)?;
-    // name, specification, iota, type, value, copied
-    let rows: [(u32, u32, u64, Option<u32>, Option<u32>, bool); 4] = [
-        (2, 7, 0, Some(3), Some(6), false),
-        (8, 9, 1, Some(3), Some(6), true),
-        (10, 16, 2, None, Some(13), false),
-        (11, 16, 2, None, Some(14), false),
+    let tree = tree(alloc, Operator::ShiftLeft)?;
+    let nodes = tree.nodes.as_slice();
+    let specs = specs_in(alloc, nodes)?;
+    // node, source, type, names and values with the first of each, whether they are repeated
+    let rows: [(u32, u32, Option<u32>, usize, u32, usize, u32, bool); 3] = [
+        (7, 7, Some(3), 1, 2, 1, 6, false),
+        (9, 7, Some(3), 1, 8, 1, 6, true),
+        (16, 16, None, 2, 10, 2, 13, false),
     ];
-    assert_eq!(rt; list.len(), 4);
-    for at in 0..4 {
-        let (name, spec, iota, typing, value, copied) = rows[at];
-        let found = list[at];
-        assert_eq!(rt; found.name.node, name);
-        assert_eq!(rt; found.spec.node, spec);
-        assert_eq!(rt; found.spec.iota, iota);
-        assert!(rt; found.typing == typing);
-        assert!(rt; found.value == value);
-        assert_eq!(rt; found.copied, copied);
+    assert_eq!(rt; specs.len(), 3);
+    for at in 0..3 {
+        let (node, source, typing, names, name, values, value, repeated) = rows[at];
+        let spec = specs[at];
+        assert_eq!(rt; spec.node, node);
+        assert_eq!(rt; spec.iota, at as u64);
+        assert!(rt; spec.source == Some(source));
+        assert!(rt; typing_of(nodes, spec) == typing);
+        assert_eq!(rt; name_count(nodes, spec), names);
+        assert!(rt; name_at(nodes, spec, 0) == Some(name));
+        assert_eq!(rt; value_count(nodes, spec), values);
+        assert!(rt; value_at(nodes, spec, 0) == Some(value));
+        assert_eq!(rt; is_repeated(nodes, spec), repeated);
     }
     Ok(())
 }
 
 #[test]
-fn places_and_specifications(rt: HostRuntime) -> Result<(), Fail> {
+fn nodes_of_specifications(rt: HostRuntime) -> Result<(), Fail> {
     let alloc = rt.alloc();
     let tree = tree(alloc, Operator::ShiftLeft)?;
-    let row = place_row(alloc, &tree)?;
-    let wants: [(usize, Want, Option<u32>); 6] = [
-        (3, Want::Type, None),
-        (4, Want::Operand, None),
-        (5, Want::Count, None),
-        (6, Want::Constant, Some(3)),
-        (13, Want::Constant, None),
-        (14, Want::Constant, None),
-    ];
-    assert_eq!(rt; row.len(), 18);
-    for (node, want, typing) in wants {
-        match row[node] {
-            Some(place) => assert!(rt; place.want == want && place.typing == typing),
-            None => assert!(rt; false),
-        }
-    }
-    assert!(rt; row[2].is_none() && row[12].is_none());
     let nodes = tree.nodes.as_slice();
     let specs = specs_in(alloc, nodes)?;
-    let specs = spec_row(alloc, nodes, &specs)?;
+    let row = spec_row(alloc, nodes, &specs)?;
+    assert_eq!(rt; row.len(), 18);
     for (node, spec) in [(6, 7), (8, 9), (14, 16)] {
-        match specs[node] {
+        match row[node] {
             Some(found) => assert_eq!(rt; found.node, spec),
             None => assert!(rt; false),
         }
     }
-    assert!(rt; specs[17].is_none());
+    assert!(rt; row[17].is_none());
+    Ok(())
+}
+
+#[test]
+fn operators_of_nodes(rt: HostRuntime) -> Result<(), Fail> {
+    let alloc = rt.alloc();
+    for op in [Operator::ShiftLeft, Operator::Equal] {
+        let tree = tree(alloc, op)?;
+        let parts = [4, 5].to_vec(alloc)?;
+        let shown = Node {
+            kind: NodeKind::Binary,
+            first: 5,
+            last: 6,
+            parts: Row::new(parts),
+        };
+        // the first token, and the one before the right operand
+        assert!(rt; unary_operator(&tree, &shown) == Some(op));
+        assert!(rt; binary_operator(&tree, &shown) == Some(op));
+    }
     Ok(())
 }

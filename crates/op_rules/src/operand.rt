@@ -66,7 +66,7 @@ pub fn value_at(s: &State, value: Option<ConstId>) -> Option<&Const>
     ensures { option_copied result ≡ constant_at s.now.constants.items value }
 {
     match value {
-        Some(id) => s.constants.get(id.0),
+        Some(id) => s.constants.get(id.0 as usize),
         None => None,
     }
 }

@@ -3,8 +3,9 @@
 use Rattle.std.specs.Prelude.{◌≡◌, ◌≤◌, ◌^◌, ℕ, Bool, true, false, not, ◌&&◌, ◌||◌, List, length, slice_get}
 use Rattle.std.specs.List.{list_all}
 use Rattle.std.specs.Option.{option_map_or}
-use Rattle.const_tree.specs.Form.{has_unary, has_binary, part_is}
-use Rattle.const_tree.specs.declared.form.Class.TheVariants as c
+use Rattle.const_eval.specs.declared.operator.Operator.{Operator}
+use Rattle.const_eval.specs.declared.operator.Operator.TheVariants as op
+use Rattle.const_tree.specs.Operators.{unary_operator, binary_operator}
 use Rattle.go_tree.specs.declared.tree.FileTree.{FileTree}
 use Rattle.go_tree.specs.declared.tree.Node.{Node}
 use Rattle.go_tree.specs.declared.tree.NodeKind.{NodeKind}
@@ -72,11 +73,38 @@ is_typed_kind _ = false
 abbrev pub is_declared_kind : NodeKind → Bool
 is_declared_kind kind = is_constant_kind kind || is_typed_kind kind
 
+-- ---- operators and selectors
+
+-- the unary operators of constants
+abbrev pub is_unary : Operator → Bool
+is_unary op.Not = true
+is_unary op.Add = true
+is_unary op.Subtract = true
+is_unary op.Xor = true
+is_unary _ = false
+
+abbrev pub has_unary : FileTree → Node → Bool
+has_unary tree node = option_map_or is_unary (unary_operator tree node) false
+
+abbrev pub has_binary : FileTree → Node → Bool
+has_binary tree node = option_map_or (λ (op : Operator). true) (binary_operator tree node) false
+
+abbrev pub is_name : NodeKind → Bool
+is_name k.Name = true
+is_name _ = false
+
+abbrev pub is_name_at : List Node → ℕ → Bool
+is_name_at nodes n = option_map_or (λ (node : Node). is_name node.kind) (slice_get nodes n) false
+
+-- a name stands before the dot
+abbrev pub selects_by_name : List Node → Node → Bool
+selects_by_name nodes node = option_map_or (is_name_at nodes) (part node 0) false
+
 -- A node is one of such a file: of one of these kinds; an operator is one that constants have, and a name stands before a dot.
 abbrev pub fits_kind : NodeKind → FileTree → Node → Bool
 fits_kind k.Unary tree node = has_unary tree node
 fits_kind k.Binary tree node = has_binary tree node
-fits_kind k.Selector tree node = part_is c.Name tree.nodes node 0
+fits_kind k.Selector tree node = selects_by_name tree.nodes node
 fits_kind kind tree node = is_declared_kind kind
 
 -- ---- `*` before a value

@@ -1,9 +1,7 @@
 //! Which files have imports, constants and declarations without values and bodies alone.
 ghost use Rattle.std.specs.Prelude.{◌≡◌, ◌↔◌, IsTrue};
 ghost use Rattle.std.specs.List.{list_all};
-ghost use Rattle.const_tree.specs.Form.{is_of, is_unary, has_unary, has_binary, node_is, part_is};
-ghost use Rattle.const_tree.specs.declared.form.Class.TheVariants as class;
-ghost use Rattle.tree_report.specs.Declarations.{is_constant_kind, is_typed_kind, is_declared_kind, fits_kind, is_star, is_star_at, part_is_star, has_no_star, stars_are_types, fits_node, IsDeclarationFile, has_constants_alone};
+ghost use Rattle.tree_report.specs.Declarations.{is_constant_kind, is_typed_kind, is_declared_kind, is_unary, has_unary, has_binary, is_name, is_name_at, selects_by_name, fits_kind, is_star, is_star_at, part_is_star, has_no_star, stars_are_types, fits_node, IsDeclarationFile, has_constants_alone};
 
 use const_eval::Operator;
 use const_tree::{binary_operator, unary_operator};
@@ -113,7 +111,7 @@ fn has_binary(tree: &FileTree, node: &Node) -> bool
 }
 
 fn is_name(kind: NodeKind) -> bool
-    ensures { result ≡ is_of class.Name kind }
+    ensures { result ≡ is_name kind }
 {
     match kind {
         NodeKind::Name => true,
@@ -122,7 +120,7 @@ fn is_name(kind: NodeKind) -> bool
 }
 
 fn is_name_at(nodes: &[Node], n: u32) -> bool
-    ensures { result ≡ node_is class.Name nodes.now n }
+    ensures { result ≡ is_name_at nodes.now n }
 {
     match node_of(nodes, n) {
         Some(node) => is_name(node.kind),
@@ -132,7 +130,7 @@ fn is_name_at(nodes: &[Node], n: u32) -> bool
 
 /// Whether a name stands before the dot of a selector.
 fn selects_by_name(nodes: &[Node], node: &Node) -> bool
-    ensures { result ≡ part_is class.Name nodes.now node.now 0 }
+    ensures { result ≡ selects_by_name nodes.now node.now }
 {
     match part_of(node, 0) {
         Some(n) => is_name_at(nodes, n),

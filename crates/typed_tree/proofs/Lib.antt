@@ -1,4 +1,2 @@
-pub mod AnnotationLaws
 pub mod UniverseLaws
-pub mod AssignedLaws
 mod SpecificationFacts

@@ -4,8 +4,5 @@ pub mod Operands
 pub mod Universe
 pub mod Constants
 pub mod Places
-pub mod Assigned
 pub mod Declarations
 pub mod Basics
-pub mod Steps
-pub mod Annotations

@@ -1,12 +1,10 @@
 -- What a mark says, with the type itself in place of its number.
-use Rattle.std.specs.Prelude.{◌≡◌, ℕ, ◌<◌, Bool, true, false, List, Option, None}
+use Rattle.std.specs.Prelude.{◌≡◌, ℕ, ◌<◌, List, Option}
 use Rattle.gv_base.specs.declared.constant.Const.{Const}
-use Rattle.gv_base.specs.declared.constant.Kind.TheVariants.{UntypedNil}
-use Rattle.type_model.specs.GoTypes.{GoType, BasicType, type_at}
+use Rattle.type_model.specs.GoTypes.{GoType, type_at}
 use Rattle.type_model.specs.declared.table.TypeTable.{TypeTable}
 use Rattle.type_model.specs.Tables.{types_in, count}
 use Rattle.typed_tree.specs.declared.mark.Mode.{Mode}
-use Rattle.typed_tree.specs.declared.mark.Mode.TheVariants.{NoValue}
 use Rattle.typed_tree.specs.declared.mark.Facts.{Facts}
 use Rattle.typed_tree.specs.declared.mark.Mark.{Mark}
 use Rattle.typed_tree.specs.declared.mark.Mark.TheVariants.{Good, Bad, Outside, Silent}
@@ -52,12 +50,3 @@ need (Right x) rest = rest x
 need (Wrong rule) rest = Quiet
 need (Beyond limit) rest = Quiet
 need Quiet rest = Quiet
-
--- the first test that fails gives its rule
-abbrev pub test : Bool → Rule → Meaning → Meaning
-test true rule rest = rest
-test false rule rest = Wrong rule
-
--- a node that has no value
-abbrev pub nothing : Meaning
-nothing = Right (record { mode = NoValue; of = BasicType UntypedNil; value = None })

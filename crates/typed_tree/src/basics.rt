@@ -1,6 +1,5 @@
 //! The numbers of the predeclared types in the table of a package.
-ghost use Rattle.std.specs.Prelude.{◌≡◌, ◌<◌};
-ghost use Rattle.type_model.specs.Tables.{count};
+ghost use Rattle.std.specs.Prelude.{◌≡◌};
 ghost use Rattle.typed_tree.specs.Basics.{number_of_kind, error_number};
 
 use gv_base::Kind;

@@ -1,34 +1,19 @@
-//! Marks of the nodes and objects of a package, and the typing rules that give them.
+//! Rules and limits by number, modes and wants, and the marks of literals and predeclared names.
 #![tactic(auto)]
 
-mod annotation;
 mod basics;
-mod binary;
 mod constants;
-mod declaration;
-mod kinds;
-mod laws;
 mod literal;
 mod mark;
-mod operand;
-mod operator;
 mod place;
 mod predeclare;
 mod rule;
-mod selection;
-mod shift;
-mod unary;
 mod universe;
-mod value;
 
-pub use annotation::{Annotation, Marked};
-pub use basics::{basic, error_type};
-pub use binary::judge_binary;
-pub use declaration::{judge_constant, judge_import, judge_spec, wanted_type};
-pub use laws::taken_is_assignable;
+pub use basics::basic;
 pub use literal::{judge_int, judge_rune, judge_text};
 pub use mark::{Facts, Mark, Mode};
-pub use place::{Want, judge_place};
+pub use place::{Want, judge_blank};
 pub use predeclare::universe_table;
 pub use rule::{
     BAD_ARRAY_LENGTH, BAD_CONSTANT_TYPE, BAD_EMBEDDED_TYPE, BAD_INIT, BAD_MAP_KEY, BAD_RECEIVER,
@@ -38,6 +23,4 @@ pub use rule::{
     NOT_EXPORTED_BY_PACKAGE, OPERATOR_NOT_DEFINED, REDECLARED, Rule, SEVERAL_VALUES,
     SHIFTED_OPERAND_IS_NOT_AN_INTEGER, UNDEFINED, UNUSED_IMPORT, WRONG_NUMBER_OF_VALUES,
 };
-pub use selection::{judge_blank, judge_selector, judge_use};
-pub use unary::judge_unary;
 pub use universe::judge_predeclared;

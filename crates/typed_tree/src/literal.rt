@@ -1,5 +1,5 @@
 //! Literals (Go 1.17, "Integer literals", "Rune literals" and "String literals").
-ghost use Rattle.std.specs.Prelude.{◌≡◌, IfOk};
+ghost use Rattle.std.specs.Prelude.{IfOk};
 ghost use Rattle.typed_tree.specs.Basics.{Says};
 ghost use Rattle.typed_tree.specs.Constants.{text_mark, int_literal_mark, rune_literal_mark, text_literal_mark};
 

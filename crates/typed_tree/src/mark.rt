@@ -1,9 +1,6 @@
-//! Marks: what the typing rules say of a node or an object.
-ghost use Rattle.std.specs.Prelude.{◌≡◌, IfOk};
-
+//! Marks: what is said of a literal, a predeclared name or what an import exports.
 use crate::rule::{Limit, Rule};
-use gv_base::{Const, NoMemory};
-use std::alloc::Global;
+use gv_base::Const;
 use type_model::TypeId;
 
 /// What a good node stands for (Go 1.17, "Expressions").
@@ -41,7 +38,7 @@ pub struct Facts {
     pub value: Option<Const>,
 }
 
-/// The mark of a node or an object.
+/// The mark of what stands at a node, whatever the place wants of it.
 #[derive(Drop)]
 pub enum Mark {
     /// It keeps all rules.
@@ -52,61 +49,4 @@ pub enum Mark {
     Outside(Limit),
     /// A part that its rule needs isn't good.
     Silent,
-}
-
-fn copy_constant(alloc: Global, c: &Const) -> Result<Const, NoMemory>
-    ensures { IfOk result (λ copy. copy ≡ c.now) }
-{
-    match c {
-        Const::Truth(b) => Ok(Const::Truth(*b)),
-        Const::Int(n) => Ok(Const::Int(*n)),
-        Const::Text(text) => {
-            let copy = text.copy(alloc)?;
-            Ok(Const::Text(copy))
-        }
-    }
-}
-
-/// The same value again.
-pub fn copy_value(alloc: Global, value: &Option<Const>) -> Result<Option<Const>, NoMemory>
-    ensures { IfOk result (λ copy. copy ≡ value.now) }
-{
-    match value {
-        Some(c) => {
-            let copy = copy_constant(alloc, c)?;
-            Ok(Some(copy))
-        }
-        None => Ok(None),
-    }
-}
-
-impl Facts {
-    /// The same facts again.
-    pub fn copy(&self, alloc: Global) -> Result<Facts, NoMemory>
-        ensures { IfOk result (λ copy. copy ≡ self.now) }
-    {
-        let value = copy_value(alloc, &self.value)?;
-        Ok(Facts {
-            mode: self.mode,
-            of: self.of,
-            value,
-        })
-    }
-}
-
-impl Mark {
-    /// The same mark again.
-    pub fn copy(&self, alloc: Global) -> Result<Mark, NoMemory>
-        ensures { IfOk result (λ copy. copy ≡ self.now) }
-    {
-        match self {
-            Mark::Good(facts) => {
-                let copy = facts.copy(alloc)?;
-                Ok(Mark::Good(copy))
-            }
-            Mark::Bad(rule) => Ok(Mark::Bad(*rule)),
-            Mark::Outside(limit) => Ok(Mark::Outside(*limit)),
-            Mark::Silent => Ok(Mark::Silent),
-        }
-    }
 }

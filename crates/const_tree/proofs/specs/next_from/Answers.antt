@@ -1,4 +1,4 @@
-use Rattle.std.proofs.Common.{◌∙◌, sym, None, slice_index_or, arith, refl}
+use Rattle.std.proofs.Common.{◌∙◌, sym, None, slice_index_or, arith}
 use Rattle.std.proofs.lemmas.Option.{slice_get-get_or}
 use Rattle.const_tree.specs.declared.constant.Spec.{Spec}
 use Rattle.const_tree.proofs.ListLemmas.{before_more, past, first_here, first_none}
