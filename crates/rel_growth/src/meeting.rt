@@ -12,13 +12,13 @@ use std::collections::HashSet;
 use type_growth::is_missing;
 use type_model::{Field, Term, TypeId, TypeTable};
 
-fn has(met: &HashSet<u64>, at: u64) -> bool
+fn has(met: &HashSet<u32>, at: u32) -> bool
     ensures { result ≡ has met.now at }
 {
     met.contains(&at)
 }
 
-fn note(met: &mut HashSet<u64>, at: u64) -> Result<(), NoMemory>
+fn note(met: &mut HashSet<u32>, at: u32) -> Result<(), NoMemory>
     ensures { OnOk result ((n : ℕ) → has met.new n ≡ cond (nat_eq at n) true (has met.old n)) }
 {
     met.insert(at)?;
@@ -33,7 +33,7 @@ fn push(list: &mut Vec<TypeId>, id: TypeId) -> Result<(), NoMemory>
 }
 
 /// Notes and lists a type, where it isn't yet.
-fn visit(met: &mut HashSet<u64>, list: &mut Vec<TypeId>, id: TypeId) -> Result<(), NoMemory>
+fn visit(met: &mut HashSet<u32>, list: &mut Vec<TypeId>, id: TypeId) -> Result<(), NoMemory>
     ensures { OnOk result (IsVisited id (has met.old) list.old.items (has met.new) list.new.items) }
 {
     if has(met, id.0) {
@@ -51,7 +51,7 @@ fn type_listed(list: &[TypeId], at: usize) -> TypeId
     list[at]
 }
 
-fn visit_all(met: &mut HashSet<u64>, list: &mut Vec<TypeId>, ids: &[TypeId]) -> Result<(), NoMemory>
+fn visit_all(met: &mut HashSet<u32>, list: &mut Vec<TypeId>, ids: &[TypeId]) -> Result<(), NoMemory>
     ensures { OnOk result (AreVisited ids.now (length ids.now) (has met.old) list.old.items (has met.new) list.new.items) }
 {
     for k in 0..ids.len() {

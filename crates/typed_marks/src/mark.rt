@@ -4,7 +4,7 @@ use typed_tree::{Limit, Mode, Rule, Want as Demand};
 
 /// The number of a constant in its table.
 #[derive(Clone, Copy, Debug, PartialEq, Eq, Drop)]
-pub struct ConstId(pub usize);
+pub struct ConstId(pub u32);
 
 /// What is known of a good node or object: what it stands for, its type, its value where it is a constant, and its final type, which an
 /// untyped operand takes from its place (Go 1.17, "Constants", "Conversions").

@@ -85,6 +85,15 @@ fn add_block(
     Ok(())
 }
 
+/// How many cells blocks of these spans take, if so many can be counted; only how much memory is asked for rests on it.
+fn cells_of(spans: &[Span]) -> usize {
+    let mut nodes: usize = 0;
+    for k in 0..spans.len() {
+        nodes = nodes.saturating_add(spans[k].end.saturating_sub(spans[k].low));
+    }
+    nodes.saturating_mul(6)
+}
+
 fn span_at(spans: &[Span], k: usize) -> Span
     requires { k < length spans.now }
     ensures { slice_get spans.now k ≡ Some result }
@@ -119,8 +128,8 @@ impl State {
         ensures cells { IfOk result (λ s. length s.cells.items ≡ room spans.now) }
         ensures unmarked { IfOk result (λ s. (i : Item) → IsItem s.blocks.items i → so_far s i ≡ None) }
     {
-        let mut blocks = Vec::new(alloc);
-        let mut cells = Vec::new(alloc);
+        let mut blocks = Vec::with_capacity(alloc, spans.len())?;
+        let mut cells = Vec::with_capacity(alloc, cells_of(spans))?;
         for k in 0..spans.len() {
             let span = span_at(spans, k);
             add_block(&mut blocks, &mut cells, span)?;
@@ -192,7 +201,7 @@ impl State {
         Ok(added)
     }
 
-    /// Adds a constant to the table, and answers its number. The marks say what they said.
+    /// Adds a constant to the table, and answers its number; 2^32 constants are answered as want of memory. The marks say what they said.
     pub fn add_constant(&mut self, constant: Const) -> Result<ConstId, NoMemory>
         requires { IsState self.old }
         ensures grown { OnOk result (HasGrown self.old self.new) }
@@ -201,9 +210,12 @@ impl State {
         ensures constants { OnOk result (self.new.constants.items ≡ self.old.constants.items ++ constant ∷ []) }
         ensures cells { self.new.cells ≡ self.old.cells }
     {
-        let id = ConstId(self.constants.len());
+        let count = self.constants.len();
+        if count > 4_294_967_295 {
+            return Err(NoMemory);
+        }
         self.constants.push(constant)?;
-        Ok(id)
+        Ok(ConstId(count as u32))
     }
 
     /// Declares a defined type with its underlying type and its methods, and marks an item that has no mark as what declares it.

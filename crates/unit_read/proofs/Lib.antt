@@ -1,4 +1,5 @@
 pub mod CellLemmas
+pub mod EntryLemmas
 pub mod EnvironmentLemmas
 pub mod IndexLemmas
 pub mod NameLemmas

@@ -1,3 +1,4 @@
+pub mod Entries
 pub mod Environments
 pub mod Exports
 pub mod Imports

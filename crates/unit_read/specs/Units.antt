@@ -29,8 +29,8 @@ use Rattle.unit_read.specs.Places.{place_of}
 use Rattle.unit_read.specs.Passages.{passages}
 
 -- The path of a package, the texts and trees of its files in the order of their paths, what the uses in them denote, and the interfaces to
--- which imports lead: of two of one path the first counts; which of the names that it declares are declared before in their block, and which
--- are cyclic: they need themselves; and of which type a node declares a method.
+-- which imports lead: of two of one path the first counts; which of the names that it declares are declared before in their block, which are
+-- cyclic: they need themselves, and which are circular: they are no types, and lead back to themselves; and of which type a node declares a method.
 pub record Unit : Type 0 where
   pub path : List ℕ
   pub texts : List (List ℕ)
@@ -39,6 +39,7 @@ pub record Unit : Type 0 where
   pub env : List ConstInterface
   pub redeclared : NodeRef → Bool
   pub cyclic : NodeRef → Bool
+  pub circular : NodeRef → Bool
   pub owner : NodeRef → Option NodeRef
 
 -- ---- nodes and tokens

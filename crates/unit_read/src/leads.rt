@@ -116,8 +116,8 @@ fn tree_leads(
     requires { IsEnvironment env.now }
     ensures { IfOk result (λ row. IsRow (lead_for env.now.interfaces.now source.now tree.now) row.items (length tree.now.nodes)) }
 {
-    let mut row = Vec::new(alloc);
     let nodes = tree.nodes.as_slice();
+    let mut row = Vec::with_capacity(alloc, nodes.len())?;
     for n in 0..nodes.len() {
         let lead = lead_in(alloc, env, source, tree, &nodes[n])?;
         row.push(lead)?;

@@ -83,7 +83,7 @@ fn all_standing(alloc: Global, nodes: &[Node]) -> Result<Vec<Standing>, NoMemory
     requires { length nodes.now ≤ 2 ^ 32 }
     ensures { IfOk result (λ list. list.items ≡ all_standing nodes.now) }
 {
-    let mut out = Vec::new(alloc);
+    let mut out = Vec::with_capacity(alloc, nodes.len())?;
     for n in 0..nodes.len() {
         add_at(nodes, n as u32, &mut out)?;
     }

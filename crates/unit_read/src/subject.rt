@@ -5,12 +5,15 @@ ghost use Rattle.std.specs.Str.{bytes_eq};
 ghost use Rattle.object_order.specs.Views.{group_in};
 ghost use Rattle.type_model.specs.Tables.{is_same_name};
 ghost use Rattle.unit_read.specs.Units.{text_in, tree_at, nodes_at, node_at, token_at, spelled, object_at, place_at, spec_at, passage_at, name_at, defined, type_name, type_node, copy_at};
+ghost use Rattle.unit_read.specs.Entries.{entry};
 ghost use Rattle.unit_read.specs.Imports.{lead_at};
 ghost use Rattle.unit_read.specs.Members.{is_repeat};
 ghost use Rattle.unit_read.specs.Methods.{methods_of, is_repeated_method};
 ghost use Rattle.unit_read.specs.Subjects.{cell, flag, unit_of, IsRead};
 
+use crate::entries::Entries;
 use crate::environment::Environment;
+use crate::few::entry;
 use crate::first_names::find;
 use crate::lead::Lead;
 use crate::passage::Passage;
@@ -21,11 +24,11 @@ use std::collections::HashMap;
 use type_model::TypeName;
 
 /// A package: its path, its files in the order of their paths, what the uses in them denote, and the interfaces to which imports lead; then
-/// its passages, and a row for each file with what is said of each of its nodes: what it denotes, where it stands, to which specification of
-/// constants it belongs, and to what it leads as an import; the names of its defined types, and the first at package level of each name; and
-/// flags: which names are declared before in their block, which need themselves, and which members of structs and interfaces have the name of
+/// its passages, and a row for each file with what is said of each of its nodes: what it denotes, where it stands; of few of them, to which
+/// specification of constants they belong, and to what they lead as imports; the names of its defined types, and the first at package level of each name; and
+/// flags: which names are declared before in their block, which need themselves, which lead back to themselves, and which members of structs and interfaces have the name of
 /// an earlier one; by which block a list is repeated; and of which type a node declares a method, the methods of each type, as lists whose numbers
-/// stand in the cells of `kin`, and which have the name of an earlier one of their type.
+/// stand in `kin`, and which have the name of an earlier one of their type.
 #[derive(Drop)]
 pub struct Subject<'a> {
     pub path: &'a [u8],
@@ -36,18 +39,19 @@ pub struct Subject<'a> {
     pub passages: Vec<Passage>,
     pub objects: Vec<Vec<Option<Object>>>,
     pub places: Vec<Vec<Option<Place>>>,
-    pub specs: Vec<Vec<Option<Spec>>>,
-    pub leads: Vec<Vec<Option<Lead>>>,
+    pub specs: Vec<Entries<Spec>>,
+    pub leads: Vec<Entries<Lead>>,
     pub defined: Vec<NodeRef>,
-    pub locals: Vec<Vec<Option<usize>>>,
+    pub locals: Vec<Entries<usize>>,
     pub named: HashMap<&'a [u8], NodeRef>,
     pub redeclared: Vec<Vec<bool>>,
     pub cyclic: Vec<Vec<bool>>,
+    pub circular: Vec<Vec<bool>>,
     pub repeats: Vec<Vec<bool>>,
-    pub copies: Vec<Vec<Option<usize>>>,
+    pub copies: Vec<Entries<usize>>,
     pub owners: Vec<Vec<Option<NodeRef>>>,
     pub groups: Vec<Vec<NodeRef>>,
-    pub kin: Vec<Vec<Option<usize>>>,
+    pub kin: Vec<Entries<usize>>,
     pub repeated: Vec<Vec<bool>>,
 }
 
@@ -92,7 +96,7 @@ fn flag_at(row: &Vec<bool>, node: u32) -> bool
 }
 
 /// What a table of flags has for a node.
-fn flag(rows: &Vec<Vec<bool>>, at: NodeRef) -> bool
+pub fn flag(rows: &Vec<Vec<bool>>, at: NodeRef) -> bool
     ensures { result ≡ flag rows.now.items at }
 {
     match row_at(rows, at.file) {
@@ -202,7 +206,7 @@ impl<'a> Subject<'a> {
         requires { IsRead self.now }
         ensures { result ≡ lead_at (unit_of self.now) at }
     {
-        cell(&self.leads, at)
+        entry(&self.leads, at)
     }
 
     /// The specification of constants to which a node belongs.
@@ -210,7 +214,7 @@ impl<'a> Subject<'a> {
         requires { IsRead self.now }
         ensures { result ≡ spec_at (unit_of self.now) at }
     {
-        cell(&self.specs, at)
+        entry(&self.specs, at)
     }
 
     /// The passage of a block.
@@ -223,9 +227,9 @@ impl<'a> Subject<'a> {
 
     /// What tells the defined type that is declared at a node apart from others of its name.
     pub fn local_at(&self, at: NodeRef) -> Option<u64>
-        ensures { result ≡ cell self.now.locals.items at }
+        ensures { result ≡ entry self.now.locals.items at }
     {
-        match cell(&self.locals, at) {
+        match entry(&self.locals, at) {
             Some(local) => Some(local as u64),
             None => None,
         }
@@ -245,6 +249,13 @@ impl<'a> Subject<'a> {
         flag(&self.cyclic, name)
     }
 
+    /// Whether a name that is no type leads back to itself.
+    pub fn is_circular(&self, name: NodeRef) -> bool
+        ensures { result ≡ (unit_of self.now).circular name }
+    {
+        flag(&self.circular, name)
+    }
+
     /// Whether a member of a struct or an interface has the name of an earlier one.
     pub fn is_repeat(&self, at: NodeRef) -> bool
         requires { IsRead self.now }
@@ -258,7 +269,7 @@ impl<'a> Subject<'a> {
         requires { IsRead self.now }
         ensures { result ≡ copy_at (unit_of self.now) spec }
     {
-        cell(&self.copies, spec)
+        entry(&self.copies, spec)
     }
 
     /// The type of which a node declares a method, by the node of its name.
@@ -273,7 +284,7 @@ impl<'a> Subject<'a> {
         requires { IsRead self.now }
         ensures { result.now ≡ methods_of (unit_of self.now) name }
     {
-        match cell(&self.kin, name) {
+        match entry(&self.kin, name) {
             Some(k) => group_in(&self.groups, k),
             None => &[],
         }
