@@ -12,7 +12,7 @@ use Rattle.typed_marks.specs.Meanings.{Meaning}
 use Rattle.rule_words.specs.Asking.{Asks, Rule, ask_each}
 use Rattle.rule_words.proofs.PartLemmas.{Rests, rests_first, rests_more, rests_end, rests_wait}
 use Rattle.decl_rules.specs.Methods.{same_name, is_field_of, all_of, Gives, GivesAll}
-use Rattle.decl_rules.proofs.ListLemmas.{nil_last, dropped_at, dropped_all}
+use Rattle.type_rules.proofs.ListLemmas.{nil_last, dropped_at, dropped_all}
 
 -- ---- fields
 

@@ -1,8 +1,2 @@
-pub mod ListLemmas
-pub mod PartLemmas
-pub mod FieldLemmas
 pub mod UnderLemmas
-pub mod MethodLemmas
-pub mod OrderLemmas
-pub mod JoinLemmas
 pub mod GiveLemmas

@@ -22,7 +22,7 @@ use Rattle.unit_read.specs.Units.{Unit, type_name, named_by, defined, is_this, t
 use Rattle.unit_read.proofs.TypeLemmas.{same_node}
 use Rattle.rule_words.specs.Asking.{Rule, item, stands, mark_ask, under_at, type_item}
 use Rattle.rule_words.specs.Scenes.{type_in, IsTypeOf}
-use Rattle.decl_rules.specs.Good.{known_told}
+use Rattle.rule_words.specs.Good.{known_told}
 use Rattle.decl_rules.specs.Under.{is_given, is_of_node, IsTypeAt}
 
 first_of : (a b : Bool) → (a && b) ≡ true → a ≡ true

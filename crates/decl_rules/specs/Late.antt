@@ -18,7 +18,7 @@ use Rattle.rule_words.specs.Asking.{Rule, mark_ask, under_ask}
 use Rattle.rule_words.specs.Putting.{held}
 use Rattle.rule_words.specs.Words.{test, need_type}
 use Rattle.typed_tree.specs.declared.rule.TheConstants.{BAD_MAP_KEY, BAD_EMBEDDED_TYPE}
-use Rattle.decl_rules.specs.Good.{given}
+use Rattle.rule_words.specs.Good.{given}
 
 -- ---- the key of a map
 

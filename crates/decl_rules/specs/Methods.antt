@@ -14,9 +14,9 @@ use Rattle.typed_marks.specs.Meanings.{Known, Meaning}
 use Rattle.unit_read.specs.Methods.{methods_of, method_name, is_repeated_method}
 use Rattle.unit_read.specs.Units.{Unit, nodes_at, node_at, is_blank}
 use Rattle.rule_words.specs.Asking.{Asks, ask_each, mark_ask}
-use Rattle.decl_rules.specs.Good.{known_told}
-use Rattle.decl_rules.specs.Interfaces.{signature_told, method_with}
-use Rattle.decl_rules.specs.Structs.{owner_of}
+use Rattle.rule_words.specs.Good.{known_told}
+use Rattle.type_rules.specs.Interfaces.{signature_told, method_with}
+use Rattle.type_rules.specs.Structs.{owner_of}
 
 -- ---- fields
 

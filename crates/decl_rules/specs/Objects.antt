@@ -28,12 +28,12 @@ use Rattle.rule_words.specs.Words.{need_type}
 use Rattle.decl_rules.specs.declared.forms.Named.{Named}
 use Rattle.decl_rules.specs.declared.forms.Named.TheVariants as named
 use Rattle.decl_rules.specs.Forms.{named_form}
-use Rattle.decl_rules.specs.Good.{given, known_told}
+use Rattle.rule_words.specs.Good.{given, known_told}
 use Rattle.decl_rules.specs.Late.{map_part, member_part}
 use Rattle.decl_rules.specs.Methods.{has_field}
-use Rattle.decl_rules.specs.Structs.{owner_of}
-use Rattle.decl_rules.specs.Types.{gives_type}
-use Rattle.decl_rules.specs.Signatures.{results_node}
+use Rattle.type_rules.specs.Structs.{owner_of}
+use Rattle.type_rules.specs.Types.{gives_type}
+use Rattle.type_rules.specs.Signatures.{results_node}
 
 -- ---- variables and functions
 

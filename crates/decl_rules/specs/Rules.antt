@@ -28,12 +28,12 @@ use Rattle.decl_rules.specs.declared.forms.Listed.TheVariants as listed
 use Rattle.decl_rules.specs.declared.forms.Line.{Line}
 use Rattle.decl_rules.specs.declared.forms.Line.TheVariants as line
 use Rattle.decl_rules.specs.Forms.{simple_form, member_form, signed_form, listed_form, line_form}
-use Rattle.decl_rules.specs.Types.{star_rule, pointing_rule, slice_rule, chan_rule, map_rule, array_rule, same_rule}
-use Rattle.decl_rules.specs.Signatures.{signature_rule}
-use Rattle.decl_rules.specs.Receivers.{list_rule}
+use Rattle.type_rules.specs.Types.{star_rule, pointing_rule, slice_rule, chan_rule, map_rule, array_rule, same_rule}
+use Rattle.type_rules.specs.Signatures.{signature_rule}
+use Rattle.type_rules.specs.Receivers.{list_rule}
 use Rattle.decl_rules.specs.Specifications.{is_fit, const_rule, var_rule, member_rule}
-use Rattle.decl_rules.specs.Structs.{field_rule, struct_rule}
-use Rattle.decl_rules.specs.Interfaces.{interface_rule}
+use Rattle.type_rules.specs.Structs.{field_rule, struct_rule}
+use Rattle.type_rules.specs.Interfaces.{interface_rule}
 
 -- ---- how parts are read
 

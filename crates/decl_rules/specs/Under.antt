@@ -23,7 +23,7 @@ use Rattle.rule_words.specs.Asking.{Rule, item, mark_ask, under_ask, type_item}
 use Rattle.rule_words.specs.Declaring.{declares, IsDeclaringAt}
 use Rattle.rule_words.specs.Scenes.{type_in, IsTypeOf}
 use Rattle.rule_words.specs.Words.{need_type}
-use Rattle.decl_rules.specs.Good.{given}
+use Rattle.rule_words.specs.Good.{given}
 use Rattle.decl_rules.specs.Methods.{methods_ask, all_of}
 use Rattle.decl_rules.specs.Objects.{placed_ask}
 

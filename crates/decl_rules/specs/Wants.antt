@@ -21,7 +21,7 @@ use Rattle.rule_words.specs.Words.{wanted_in}
 use Rattle.decl_rules.specs.declared.forms.Valuing.{Valuing}
 use Rattle.decl_rules.specs.declared.forms.Valuing.TheVariants as valuing
 use Rattle.decl_rules.specs.Forms.{valuing_form}
-use Rattle.decl_rules.specs.Good.{known_told}
+use Rattle.rule_words.specs.Good.{known_told}
 use Rattle.decl_rules.specs.Specifications.{is_several}
 
 -- whether the parts in a slot are types

@@ -5,13 +5,13 @@ ghost use Rattle.typed_marks.specs.States.{so_far};
 ghost use Rattle.unit_read.specs.Subjects.{unit_of, IsRead};
 ghost use Rattle.rule_words.specs.Scenes.{IsScene, said, IsMarkOf, part_in, IsSeenOf, type_in, IsTypeOf, MayBeTypeOf};
 ghost use Rattle.rule_words.specs.Steps.{step_in, IsStepOf};
-ghost use Rattle.decl_rules.specs.Good.{known_of, AreFactsOf};
+ghost use Rattle.rule_words.specs.Good.{known_of, AreFactsOf};
 ghost use Rattle.decl_rules.specs.Objects.{placed_ask, untyped_constant, typed_constant, of_type, of_part, with_typing, typed_in, constant_in, block_of, constant_by, constant_rule};
 
 use crate::declared::has_constants;
-use crate::good::{good, known, silent};
 use const_tree::{Spec, is_repeated, typing_of, value_at};
 use go_tree::{Node, NodeRef};
+use rule_words::good::{good, known, silent};
 use rule_words::{How, Read, Seen, Step, look, part};
 use type_model::TypeId;
 use type_questions::Found;

@@ -12,12 +12,12 @@ ghost use Rattle.rule_words.specs.Scenes.{type_in, IsTypeOf, MayBeTypeOf};
 ghost use Rattle.rule_words.specs.Steps.{step_in, IsStepOf};
 ghost use Rattle.decl_rules.specs.Specifications.{is_fit, counted_rule, const_rule, may_be_several, is_several, differing, var_rule, declared_name_rule};
 
-use crate::good::{basic_type, broken, good, silent};
 use const_tree::{Spec, name_count, value_count};
 use go_tree::{Node, NodeKind, NodeRef};
 use gv_base::Kind;
 use package_objects::{count, kind_of};
 use rule_words::Step;
+use rule_words::good::{basic_type, broken, good, silent};
 use type_model::{Term, TypeId};
 use typed_marks::{Facts, State};
 use typed_tree::{BAD_CONSTANT_TYPE, DUPLICATE_MEMBER, Mode, WRONG_NUMBER_OF_VALUES};

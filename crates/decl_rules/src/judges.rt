@@ -8,26 +8,26 @@ ghost use Rattle.rule_words.specs.Scenes.{IsScene, part_in, IsSeenOf, parts_in, 
 ghost use Rattle.rule_words.specs.Steps.{step_in, IsStepOf};
 ghost use Rattle.rule_words.specs.Wanting.{wanted_of, IsWantedOf};
 ghost use Rattle.decl_rules.specs.Specifications.{member_rule};
-ghost use Rattle.decl_rules.specs.Types.{same_rule, pointing_rule};
+ghost use Rattle.type_rules.specs.Types.{same_rule, pointing_rule};
 ghost use Rattle.decl_rules.specs.Rules.{decl_rule, simple_rule, simple_of, member_of, in_member, method_rule, signed_rule, listed_rule, limited, import_rule, line_rule, line_of, or_line, or_member, or_listed, or_signed};
 
 use crate::declared::{constants, is_fit, nothing, variables};
-use crate::fields::field;
 use crate::forms::{
     Line, Listed, Member, Signed, Simple, line_form, listed_form, member_form, signed_form,
     simple_form,
 };
-use crate::good::{beyond, broken, part_at, silent};
-use crate::interfaces::interface;
-use crate::receivers::list;
-use crate::signatures::judge_signature;
-use crate::structs::structure;
-use crate::types::{array, chan, map, pointing, same, slice, star};
 use go_tree::{Node, NodeRef};
 use gv_base::NoMemory;
 use package_objects::part_of;
+use rule_words::good::{beyond, broken, part_at, silent};
 use rule_words::{Seen, Step, Wanted};
 use std::alloc::Global;
+use type_rules::fields::field;
+use type_rules::interfaces::interface;
+use type_rules::receivers::list;
+use type_rules::signatures::judge_signature;
+use type_rules::structs::structure;
+use type_rules::types::{array, chan, map, pointing, same, slice, star};
 use typed_marks::State;
 use typed_tree::{DUPLICATE_MEMBER, Limit};
 use unit_read::Subject;

@@ -9,12 +9,12 @@ ghost use Rattle.typed_marks.specs.States.{so_far, IsState};
 ghost use Rattle.unit_read.specs.Subjects.{unit_of};
 ghost use Rattle.rule_words.specs.Scenes.{IsScene, said, IsMarkOf, type_in, IsTypeOf, MayBeTypeOf};
 ghost use Rattle.rule_words.specs.Steps.{step_in, IsStepOf};
-ghost use Rattle.decl_rules.specs.Good.{known_of, AreFactsOf};
+ghost use Rattle.rule_words.specs.Good.{known_of, AreFactsOf};
 ghost use Rattle.decl_rules.specs.Late.{key_of, key_mark, key_rule, map_part, may_be_embedded, embedded_under, embedded_known, embedded_of, embedded_mark, embedded_ask, embedded_rule, member_by, member_of_kind, member_part};
 
-use crate::good::{broken, known, silent};
 use go_tree::{Node, NodeKind, NodeRef};
 use package_objects::part_of;
+use rule_words::good::{broken, known, silent};
 use rule_words::{Asked, Rest, Step, look, under_of};
 use type_model::{Term, TypeId};
 use type_questions::Found;

@@ -10,21 +10,21 @@ ghost use Rattle.unit_read.specs.Methods.{part_name, method_name};
 ghost use Rattle.unit_read.specs.Subjects.{unit_of, IsRead};
 ghost use Rattle.unit_read.specs.Units.{is_blank};
 ghost use Rattle.rule_words.specs.Scenes.{IsScene, said, IsMarkOf, type_in, IsTypeOf};
-ghost use Rattle.decl_rules.specs.Elements.{method_in};
-ghost use Rattle.decl_rules.specs.Good.{known_of, AreFactsOf};
+ghost use Rattle.type_rules.specs.Elements.{method_in};
+ghost use Rattle.rule_words.specs.Good.{known_of, AreFactsOf};
 ghost use Rattle.decl_rules.specs.Methods.{same_name, is_field_of, has_field, is_left_out, is_pointer, first_entry, receiver_entry, signed_method, received_method, told_method, entry_ask, receiver_ask, signature_ask, node_ask, method_ask, methods_ask, Gives, GivesAll};
-ghost use Rattle.decl_rules.specs.Structs.{owner_of};
+ghost use Rattle.type_rules.specs.Structs.{owner_of};
 
-use crate::fields::{is_exported, utf8};
-use crate::good::known;
-use crate::interfaces::{add_with, signature_told};
 use go_tree::{Node, NodeRef};
 use gv_base::NoMemory;
 use package_objects::{node_of, part_of};
+use rule_words::good::known;
 use rule_words::look;
 use std::alloc::Global;
 use type_model::{Field, Method, Term, TypeId};
 use type_questions::Found;
+use type_rules::fields::{is_exported, utf8};
+use type_rules::interfaces::{add_with, signature_told};
 use typed_marks::{Facts, Item, Mark, Stage, State};
 use unit_read::Subject;
 

@@ -10,13 +10,13 @@ ghost use Rattle.decl_rules.specs.Objects.{variable_mark, function_mark, valued_
 
 use crate::constant::judge_constant;
 use crate::forms::{Named, named_form};
-use crate::good::{broken, gives_type, good, known, silent};
 use crate::late::{map_part, member_part};
 use crate::method_names::method_part;
 use crate::refusal::{is_exempt, refusal_of};
 use go_tree::{Node, NodeRef};
 use gv_base::{NoMemory, Text};
 use package_objects::{count, item, part_of};
+use rule_words::good::{broken, gives_type, good, known, silent};
 use rule_words::{Step, look};
 use std::alloc::Global;
 use type_model::{Term, TypeName};

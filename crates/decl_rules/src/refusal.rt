@@ -4,9 +4,9 @@ ghost use Rattle.unit_read.specs.Subjects.{unit_of, IsRead};
 ghost use Rattle.unit_read.specs.Units.{around, is_none, is_top};
 ghost use Rattle.decl_rules.specs.Objects.{is_elsewhere, is_function, part_size, is_bad_init, refusal_of, is_exempt};
 
-use crate::signatures::results_node;
 use go_tree::{Node, NodeKind, NodeRef};
 use package_objects::{node_of, part_count, part_of};
+use type_rules::signatures::results_node;
 use typed_tree::{BAD_INIT, DECLARATION_CYCLE, REDECLARED, Rule};
 use unit_read::Subject;
 

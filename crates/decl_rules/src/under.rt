@@ -12,15 +12,15 @@ ghost use Rattle.rule_words.specs.declared.declaring.Declaring.TheVariants as d;
 ghost use Rattle.rule_words.specs.Asking.{item, stands, mark_ask};
 ghost use Rattle.rule_words.specs.Declaring.{declaring_in, IsDeclaringAt};
 ghost use Rattle.rule_words.specs.Scenes.{IsScene, said, IsMarkOf, type_in, IsTypeOf, MayBeTypeOf};
-ghost use Rattle.decl_rules.specs.Good.{known_of, AreFactsOf};
+ghost use Rattle.rule_words.specs.Good.{known_of, AreFactsOf};
 ghost use Rattle.decl_rules.specs.Objects.{placed_ask};
 ghost use Rattle.decl_rules.specs.Under.{is_given, is_here, is_of_node, written_in, written_type, declared_with, declaring, underlying_rule, written_rule, named_rule, known_rule, own_rule, type_rule, under_rule, IsDeclaringOf};
 
-use crate::good::known;
 use crate::methods::add_methods;
 use go_tree::NodeRef;
 use gv_base::NoMemory;
 use package_objects::part_of;
+use rule_words::good::known;
 use rule_words::{Declaring, look, under_of};
 use std::alloc::Global;
 use type_model::{Term, TypeId, TypeName};

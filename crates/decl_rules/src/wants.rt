@@ -9,18 +9,18 @@ ghost use Rattle.typed_marks.specs.Meanings.{Wishes, Free, wish_in, IsWantWithin
 ghost use Rattle.typed_marks.specs.States.{so_far};
 ghost use Rattle.unit_read.specs.Subjects.{unit_of, IsRead};
 ghost use Rattle.rule_words.specs.Scenes.{IsScene, told_by, IfFound, said, IsMarkOf};
-ghost use Rattle.decl_rules.specs.Good.{known_of, AreFactsOf};
+ghost use Rattle.rule_words.specs.Good.{known_of, AreFactsOf};
 ghost use Rattle.decl_rules.specs.Wants.{is_type_slot, assigned_to, wish_by, file_of, wants, stands_for_several, value_demand, nodes_of_block, declares_names, written_wants, star_demand, star_wants, value_wants, or_value, decl_wants};
 
 use crate::declared::is_several;
 use crate::forms::{Valuing, valuing_form};
-use crate::good::{basic_type, known};
-use crate::types::is_type;
 use go_tree::{Node, NodeKind};
 use gv_base::Kind;
 use package_objects::{count, part_of};
+use rule_words::good::{basic_type, known};
 use rule_words::{look, wanted_by};
 use type_questions::Found;
+use type_rules::types::is_type;
 use typed_marks::{Facts, Item, Mark, Stage, State, Want};
 use typed_tree::Want as Demand;
 use unit_read::{Place, Subject};

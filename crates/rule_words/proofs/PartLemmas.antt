@@ -10,7 +10,8 @@ use Rattle.typed_marks.specs.Meanings.{Meaning}
 use Rattle.unit_read.specs.Units.{Unit}
 use Rattle.rule_words.specs.declared.read.Read.{Read}
 use Rattle.rule_words.specs.declared.seen.Seen.{Seen}
-use Rattle.rule_words.specs.Parts.{Part}
+use Rattle.std.specs.Option.{option_map_or}
+use Rattle.rule_words.specs.Parts.{Part, no_part, part_at}
 use Rattle.rule_words.specs.Asking.{Asks, ask_each}
 use Rattle.rule_words.specs.Scenes.{part_in, parts_in, IsSeenOf, AreSeenOf}
 
@@ -77,3 +78,9 @@ seen_last s [] x all is zero p e = let same : x ≡ p = cc in subst (IsSeenOf s)
 seen_last s [] x all is (suc i) p e = absurd cc
 seen_last s (y ∷ out) x all is zero p e = all 0 p e
 seen_last s (y ∷ out) x all is (suc i) p e = seen_last s out x (λ k q at. all (suc k) q at) is i p e
+
+-- one of the parts that were read
+pub part_among : (s : State) (parts : List Seen) (i : ℕ) → part_at (parts_in s parts) i ≡ option_map_or (part_in s) (slice_get parts i) no_part
+part_among s [] i = refl
+part_among s (p ∷ parts) zero = refl
+part_among s (p ∷ parts) (suc i) = part_among s parts i

@@ -1,6 +1,7 @@
 pub mod Answers
 pub mod Asking
 pub mod Declaring
+pub mod Good
 pub mod Parts
 pub mod Putting
 pub mod Scenes

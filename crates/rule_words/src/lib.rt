@@ -3,6 +3,7 @@
 
 mod answer;
 mod declaring;
+pub mod good;
 mod keeping;
 mod marks;
 mod read;

@@ -9,7 +9,7 @@ use Rattle.typed_marks.specs.States.{so_far}
 use Rattle.unit_read.specs.Subjects.{unit_of}
 use Rattle.rule_words.specs.Asking.{ask_each}
 use Rattle.rule_words.specs.Scenes.{type_in}
-use Rattle.decl_rules.specs.Elements.{method_in}
+use Rattle.type_rules.specs.Elements.{method_in}
 use Rattle.decl_rules.specs.Methods.{method_ask, GivesAll}
 use Rattle.decl_rules.proofs.GiveLemmas.{gathered_first, gathered_more, gathered_wait, gathered_all}
 use Rattle.decl_rules.proofs.methods.add_methods.Goals as goal

@@ -6,7 +6,7 @@ use Rattle.typed_marks.specs.States.{so_far}
 use Rattle.unit_read.specs.Subjects.{unit_of}
 use Rattle.rule_words.specs.Scenes.{type_in}
 use Rattle.rule_words.proofs.PartLemmas.{Rests}
-use Rattle.decl_rules.specs.Elements.{method_in}
+use Rattle.type_rules.specs.Elements.{method_in}
 use Rattle.decl_rules.specs.Methods.{method_ask, all_of}
 use Rattle.decl_rules.proofs.GiveLemmas.{Gathered}
 use Rattle.decl_rules.proofs.methods.add_methods.Given as goal

@@ -5,7 +5,7 @@ use Rattle.typed_marks.specs.States.{so_far}
 use Rattle.unit_read.specs.Subjects.{unit_of}
 use Rattle.rule_words.specs.Asking.{mark_ask}
 use Rattle.rule_words.specs.Scenes.{said}
-use Rattle.decl_rules.specs.Elements.{method_in}
+use Rattle.type_rules.specs.Elements.{method_in}
 use Rattle.decl_rules.specs.Methods.{told_method}
 use Rattle.decl_rules.proofs.GiveLemmas.{gives_told}
 use Rattle.decl_rules.proofs.methods.entry.Goals as goal

@@ -3,7 +3,7 @@ use Rattle.typed_marks.specs.States.{so_far}
 use Rattle.unit_read.specs.Methods.{method_name}
 use Rattle.unit_read.specs.Subjects.{unit_of}
 use Rattle.rule_words.specs.Scenes.{type_in}
-use Rattle.decl_rules.specs.Elements.{method_in}
+use Rattle.type_rules.specs.Elements.{method_in}
 use Rattle.decl_rules.specs.Methods.{is_left_out, signature_ask, Gives}
 use Rattle.decl_rules.proofs.GiveLemmas.{gives_left, gives_kept}
 use Rattle.decl_rules.proofs.methods.node_method.Goals as goal

@@ -4,7 +4,7 @@ use Rattle.typed_marks.specs.States.{so_far}
 use Rattle.unit_read.specs.Subjects.{unit_of}
 use Rattle.unit_read.specs.Units.{nodes_at}
 use Rattle.rule_words.specs.Scenes.{said}
-use Rattle.decl_rules.specs.Elements.{method_in}
+use Rattle.type_rules.specs.Elements.{method_in}
 use Rattle.decl_rules.specs.Methods.{receiver_entry, entry_ask}
 use Rattle.decl_rules.proofs.GiveLemmas.{gives_absent}
 use Rattle.decl_rules.proofs.methods.receiver.Goals as goal

@@ -4,7 +4,7 @@ use Rattle.typed_marks.specs.States.{so_far}
 use Rattle.unit_read.specs.Subjects.{unit_of}
 use Rattle.rule_words.specs.Asking.{mark_ask}
 use Rattle.rule_words.specs.Scenes.{said}
-use Rattle.decl_rules.specs.Elements.{method_in}
+use Rattle.type_rules.specs.Elements.{method_in}
 use Rattle.decl_rules.specs.Methods.{receiver_ask}
 use Rattle.decl_rules.proofs.GiveLemmas.{gives_bind}
 use Rattle.decl_rules.proofs.methods.signature.Goals as goal

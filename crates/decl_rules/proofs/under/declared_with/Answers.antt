@@ -5,7 +5,7 @@ use Rattle.typed_marks.specs.Meanings.{Quiet}
 use Rattle.typed_marks.specs.States.{so_far}
 use Rattle.unit_read.specs.Subjects.{unit_of}
 use Rattle.rule_words.specs.Scenes.{type_in}
-use Rattle.decl_rules.specs.Elements.{method_in}
+use Rattle.type_rules.specs.Elements.{method_in}
 use Rattle.decl_rules.specs.Methods.{methods_ask, all_of}
 use Rattle.decl_rules.specs.Under.{with_methods}
 use Rattle.decl_rules.proofs.GiveLemmas.{told_all, waits_all}

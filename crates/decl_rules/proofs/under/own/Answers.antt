@@ -2,7 +2,7 @@ use Rattle.typed_marks.specs.declared.item.Stage.TheVariants as st
 use Rattle.typed_marks.specs.States.{so_far}
 use Rattle.unit_read.specs.Subjects.{unit_of}
 use Rattle.rule_words.specs.Scenes.{said}
-use Rattle.decl_rules.specs.Good.{known_of}
+use Rattle.rule_words.specs.Good.{known_of}
 use Rattle.decl_rules.proofs.UnderLemmas.{standing}
 use Rattle.decl_rules.proofs.under.own.Goals as goal
 

@@ -1,0 +1,9 @@
+pub mod Elements
+pub mod Interfaces
+pub mod Joining
+pub mod Members
+pub mod Receivers
+pub mod Signatures
+pub mod Structs
+pub mod Taken
+pub mod Types
