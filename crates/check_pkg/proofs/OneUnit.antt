@@ -1,5 +1,6 @@
 -- There is one unit of a package over an environment.
 use Rattle.std.proofs.Common.{◌≡◌, ◌↔◌, ℕ, IsTrue, Bool, true, false, List, slice_get, Option, Some, None, refl, sym, ap, ◌∙◌, subst}
+use Rattle.std.proofs.Math.Path.{fun_ext}
 use Rattle.go_tree.specs.Bindings.{AreInOrder}
 use Rattle.go_tree.specs.declared.bindings.Object.{Object}
 use Rattle.go_tree.specs.declared.tree.FileTree.{FileTree}
@@ -10,8 +11,9 @@ use Rattle.object_order.specs.declared.spot.Entry.{Entry}
 use Rattle.package_needs.proofs.OneLemmas.{same_declared, leads_on, leads_back, same_owner}
 use Rattle.bind.specs.Answers.{AreSpelled}
 use Rattle.unit_read.specs.Units.{Unit, node_at}
+use Rattle.unit_rows.specs.Circular.{AreCircular}
 use Rattle.check_pkg.specs.Packages.{Package, Env, AreNeeds, IsUnit}
-use Rattle.check_pkg.proofs.Uniqueness.{unit_with, Shares, shared, one_unit}
+use Rattle.check_pkg.proofs.Uniqueness.{unit_with, with_flags, Shares, shared, one_unit}
 
 same_truth : (x y : Bool) → (IsTrue x → IsTrue y) → (IsTrue y → IsTrue x) → x ≡ y
 same_truth true true to back = refl
@@ -21,7 +23,7 @@ same_truth false true to back = back refl
 
 -- the unit, with the trees and the uses of another
 abbrev over : Unit → List FileTree → List (NodeRef × Object) → Unit
-over v trees uses = unit_with v.path v.texts trees uses v.env v.redeclared v.cyclic v.owner
+over v trees uses = unit_with v.path v.texts trees uses v.env v.redeclared v.cyclic v.circular v.owner
 
 module _ (u v : Unit) (ordered : AreInOrder u.uses) (one : AreNeeds u) (other : AreNeeds (over v u.trees u.uses)) where
   cyclic_to : (at : NodeRef) (node : Node) → node_at u at ≡ Some node → IsTrue (u.cyclic at) → IsTrue (v.cyclic at)
@@ -53,11 +55,32 @@ module _ (u v : Unit) (ordered : AreInOrder u.uses) (one : AreNeeds u) (other : 
     by (Some node) there =
         same_owner u.uses u.trees ordered one.rows other.rows one.names other.names one.world other.world one.is other.is at (u.owner at) (v.owner at) (one.owned at node there) (other.owned at node there)
 
+-- two lists of flags of what leads back to itself are one
+same_circular : (u : Unit) (f g : NodeRef → Bool) → AreCircular u f → AreCircular u g → (at : NodeRef) → f at ≡ g at
+same_circular u f g one other at = by (node_at u at) refl where
+  by : (o : Option Node) → node_at u at ≡ o → f at ≡ g at
+  by None none = one.others at none ∙ sym (other.others at none)
+  by (Some node) there = same_truth (f at) (g at) (λ h. (other.each at node there).1 ((one.each at node there).0 h)) (λ h. (one.each at node there).1 ((other.each at node there).0 h))
+
 pub the_unit : (p : Package) (env : Env) (a b : Unit) → IsUnit p env a → IsUnit p env b → AreSpelled p.trees p.files → a ≡ b
 the_unit p env a b one other spelled =
-    one_unit p env a b one other spelled (same_cyclic a b one.uses.ordered one.needs needs) (same_owners a b one.uses.ordered one.needs needs) where
+    one_unit p env a b one other spelled (same_cyclic a b one.uses.ordered one.needs needs) (same_circular a a.circular b.circular one.circular turned) owned where
       shares : Shares a b
       shares = shared p env a b one other spelled
 
       needs : AreNeeds (over b a.trees a.uses)
       needs = subst (λ (us : List (NodeRef × Object)). AreNeeds (over b a.trees us)) (sym shares.uses) (subst (λ (ts : List FileTree). AreNeeds (over b ts b.uses)) (sym shares.trees) other.needs)
+
+      owned : (at : NodeRef) → a.owner at ≡ b.owner at
+      owned = same_owners a b one.uses.ordered one.needs needs
+
+      plain : unit_with a.path a.texts a.trees a.uses a.env b.redeclared b.cyclic b.circular b.owner ≡ b
+      plain = with_flags a b b.redeclared b.cyclic b.circular b.owner shares
+
+      -- the flags of the second, as those of the first
+      turned : AreCircular a b.circular
+      turned =
+          let over_b = subst (λ (x : Unit). AreCircular x b.circular) (sym plain) other.circular in
+          let owner : b.owner ≡ a.owner = fun_ext (λ at. sym (owned at)) in
+          let over_a = subst (λ (f : NodeRef → Option NodeRef). AreCircular (unit_with a.path a.texts a.trees a.uses a.env b.redeclared b.cyclic b.circular f) b.circular) owner over_b in
+          record { each = over_a.each; others = over_a.others }

@@ -109,6 +109,7 @@ is_outcome rule path files trees env named uses outcome known ordered bound by =
     env = by.is.env;
     redeclared = by.is.redeclared;
     needs = by.is.needs;
+    circular = by.is.circular;
   };
   comes = by.comes;
 }

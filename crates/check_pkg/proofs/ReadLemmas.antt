@@ -18,6 +18,7 @@ use Rattle.package_needs.specs.Kin.{IsOwnerAt}
 use Rattle.package_needs.specs.Worlds.{IsOrderOf, AreOwners, AreNeedsOf}
 use Rattle.unit_read.specs.Subjects.{cell, flag}
 use Rattle.unit_read.specs.Units.{Unit, nodes_of, is_among}
+use Rattle.unit_rows.specs.Circular.{AreCircular}
 use Rattle.unit_rows.specs.Cyclic.{is_cyclic, all_cyclic}
 use Rattle.unit_rows.specs.Drafts.{package_unit, with_flags}
 use Rattle.unit_rows.specs.Redeclared.{is_redeclared}
@@ -86,16 +87,17 @@ are_needs u order owners of flags own = record {
   marks_of : (at : NodeRef) (node : Node) → slice_get (nodes_of (slice_get u.trees at.file)) at.node ≡ Some node → IsTrue (is_cyclic u.trees order at) ↔ (IsNamed (declared u.trees of.rows) at × Leads (NeedsOf of.world) at at)
   marks_of at node there = marks_cyclic u.uses u.trees order (order_of u.uses u.trees order owners of) at node there
 
-pub is_unit_of : (path : List ℕ) (texts : List (List ℕ)) (trees : List FileTree) (uses : List (NodeRef × Object)) (env : List ConstInterface) (bare u : Unit) (before after redeclared cyclic : List (Vec Bool)) (order : List Needed)
-    (owners : List (Vec (Option NodeRef))) → bare ≡ package_unit path texts trees uses env before after owners → u ≡ with_flags bare redeclared cyclic → ((at : NodeRef) → flag redeclared at ≡ is_redeclared bare at)
-    → AreNeedsOf uses trees order owners → ((at : NodeRef) → flag cyclic at ≡ is_cyclic trees order at) → IsUnitOf path texts trees uses env u
-is_unit_of path texts trees uses env bare u before after redeclared cyclic order owners bare_is u_is again of needs =
-    subst (λ (x : Unit). IsUnitOf path texts trees uses env x) (sym (u_is ∙ ap (λ (x : Unit). with_flags x redeclared cyclic) bare_is)) record {
+pub is_unit_of : (path : List ℕ) (texts : List (List ℕ)) (trees : List FileTree) (uses : List (NodeRef × Object)) (env : List ConstInterface) (bare u : Unit) (before after later redeclared cyclic circular : List (Vec Bool)) (order : List Needed)
+    (owners : List (Vec (Option NodeRef))) → bare ≡ package_unit path texts trees uses env before after later owners → u ≡ with_flags bare redeclared cyclic circular → ((at : NodeRef) → flag redeclared at ≡ is_redeclared bare at)
+    → AreNeedsOf uses trees order owners → ((at : NodeRef) → flag cyclic at ≡ is_cyclic trees order at) → AreCircular bare (flag circular) → IsUnitOf path texts trees uses env u
+is_unit_of path texts trees uses env bare u before after later redeclared cyclic circular order owners bare_is u_is again of needs turn =
+    subst (λ (x : Unit). IsUnitOf path texts trees uses env x) (sym (u_is ∙ ap (λ (x : Unit). with_flags x redeclared cyclic circular) bare_is)) record {
       path = refl;
       texts = refl;
       trees = refl;
       uses = refl;
       env = refl;
       redeclared = λ at. again at ∙ ap (λ (x : Unit). is_redeclared x at) bare_is;
-      needs = are_needs (package_unit path texts trees uses env redeclared cyclic owners) order owners of needs (λ at. refl);
+      needs = are_needs (package_unit path texts trees uses env redeclared cyclic circular owners) order owners of needs (λ at. refl);
+      circular = (let turned = subst (λ (x : Unit). AreCircular x (flag circular)) bare_is turn in record { each = turned.each; others = turned.others });
     }

@@ -17,7 +17,7 @@ use Rattle.object_order.specs.Spots.{place}
 use Rattle.package_objects.specs.Declares.{gather}
 use Rattle.const_tree.specs.declared.constant.Spec.{Spec}
 use Rattle.const_tree.specs.Constants.{specs_in, is_repeated}
-use Rattle.const_tree.proofs.PlaceLaws.{gather_cases}
+use Rattle.const_tree.proofs.ListLemmas.{gather_cases}
 use Rattle.typed_marks.specs.declared.item.Item.{Item}
 use Rattle.typed_marks.specs.declared.item.Span.{Span}
 use Rattle.typed_marks.specs.Meanings.{Meaning}

@@ -89,9 +89,9 @@ sources (t ∷ ts) (e ∷ es) spelled =
 same_uses : (s : Sources) (one other : List Use) → AreBindings s one → AreBindings s other → (z : Use) → Has one z → Has other z
 same_uses s one other a b z (k, at) = stands_in other z ((b z.0 z.1).1 ((a z.0 z.1).0 (contains_at one k z at)))
 
-abbrev pub unit_with : List ℕ → List (List ℕ) → List FileTree → List Use → List ConstInterface → (NodeRef → Bool) → (NodeRef → Bool) → (NodeRef → Option NodeRef) → Unit
-unit_with path texts trees uses env redeclared cyclic owner =
-    record { path = path; texts = texts; trees = trees; uses = uses; env = env; redeclared = redeclared; cyclic = cyclic; owner = owner }
+abbrev pub unit_with : List ℕ → List (List ℕ) → List FileTree → List Use → List ConstInterface → (NodeRef → Bool) → (NodeRef → Bool) → (NodeRef → Bool) → (NodeRef → Option NodeRef) → Unit
+unit_with path texts trees uses env redeclared cyclic circular owner =
+    record { path = path; texts = texts; trees = trees; uses = uses; env = env; redeclared = redeclared; cyclic = cyclic; circular = circular; owner = owner }
 
 -- what two units of one package share
 pub record Shares (a b : Unit) : Type 0 where
@@ -101,14 +101,14 @@ pub record Shares (a b : Unit) : Type 0 where
   pub uses : a.uses ≡ b.uses
   pub env : a.env ≡ b.env
 
-with_flags : (a b : Unit) (redeclared cyclic : NodeRef → Bool) (owner : NodeRef → Option NodeRef) → Shares a b
-    → unit_with a.path a.texts a.trees a.uses a.env redeclared cyclic owner ≡ unit_with b.path b.texts b.trees b.uses b.env redeclared cyclic owner
-with_flags a b redeclared cyclic owner shares =
-    ap (λ (x : List ℕ). unit_with x a.texts a.trees a.uses a.env redeclared cyclic owner) shares.path
-    ∙ (ap (λ (x : List (List ℕ)). unit_with b.path x a.trees a.uses a.env redeclared cyclic owner) shares.texts
-    ∙ (ap (λ (x : List FileTree). unit_with b.path b.texts x a.uses a.env redeclared cyclic owner) shares.trees
-    ∙ (ap (λ (x : List Use). unit_with b.path b.texts b.trees x a.env redeclared cyclic owner) shares.uses
-    ∙ ap (λ (x : List ConstInterface). unit_with b.path b.texts b.trees b.uses x redeclared cyclic owner) shares.env)))
+pub with_flags : (a b : Unit) (redeclared cyclic circular : NodeRef → Bool) (owner : NodeRef → Option NodeRef) → Shares a b
+    → unit_with a.path a.texts a.trees a.uses a.env redeclared cyclic circular owner ≡ unit_with b.path b.texts b.trees b.uses b.env redeclared cyclic circular owner
+with_flags a b redeclared cyclic circular owner shares =
+    ap (λ (x : List ℕ). unit_with x a.texts a.trees a.uses a.env redeclared cyclic circular owner) shares.path
+    ∙ (ap (λ (x : List (List ℕ)). unit_with b.path x a.trees a.uses a.env redeclared cyclic circular owner) shares.texts
+    ∙ (ap (λ (x : List FileTree). unit_with b.path b.texts x a.uses a.env redeclared cyclic circular owner) shares.trees
+    ∙ (ap (λ (x : List Use). unit_with b.path b.texts b.trees x a.env redeclared cyclic circular owner) shares.uses
+    ∙ ap (λ (x : List ConstInterface). unit_with b.path b.texts b.trees b.uses x redeclared cyclic circular owner) shares.env)))
 
 pub shared : (p : Package) (env : Env) (a b : Unit) → IsUnit p env a → IsUnit p env b → AreSpelled p.trees p.files → Shares a b
 shared p env a b one other spelled =
@@ -124,22 +124,23 @@ shared p env a b one other spelled =
       env = one.env ∙ sym other.env;
     }
 
--- two units of a package in which the same nodes are cyclic, and the same methods declared, are one
+-- two units of a package in which the same nodes are cyclic and circular, and the same methods declared, are one
 pub one_unit : (p : Package) (env : Env) (a b : Unit) → IsUnit p env a → IsUnit p env b → AreSpelled p.trees p.files → ((at : NodeRef) → a.cyclic at ≡ b.cyclic at)
-    → ((at : NodeRef) → a.owner at ≡ b.owner at) → a ≡ b
-one_unit p env a b one other spelled same owned = whole where
+    → ((at : NodeRef) → a.circular at ≡ b.circular at) → ((at : NodeRef) → a.owner at ≡ b.owner at) → a ≡ b
+one_unit p env a b one other spelled same turned owned = whole where
   shares : Shares a b
   shares = shared p env a b one other spelled
 
-  plain : unit_with a.path a.texts a.trees a.uses a.env (λ at. false) (λ at. false) (λ at. None) ≡ unit_with b.path b.texts b.trees b.uses b.env (λ at. false) (λ at. false) (λ at. None)
-  plain = with_flags a b (λ at. false) (λ at. false) (λ at. None) shares
+  plain : unit_with a.path a.texts a.trees a.uses a.env (λ at. false) (λ at. false) (λ at. false) (λ at. None) ≡ unit_with b.path b.texts b.trees b.uses b.env (λ at. false) (λ at. false) (λ at. false) (λ at. None)
+  plain = with_flags a b (λ at. false) (λ at. false) (λ at. false) (λ at. None) shares
 
   again : (at : NodeRef) → a.redeclared at ≡ b.redeclared at
   again at = one.redeclared at ∙ (ap (λ (u : Unit). is_redeclared u at) plain ∙ sym (other.redeclared at))
 
   whole : a ≡ b
   whole =
-      ap (λ (f : NodeRef → Bool). unit_with a.path a.texts a.trees a.uses a.env f a.cyclic a.owner) (fun_ext again)
-      ∙ (ap (λ (f : NodeRef → Bool). unit_with a.path a.texts a.trees a.uses a.env b.redeclared f a.owner) (fun_ext same)
-      ∙ (ap (λ (f : NodeRef → Option NodeRef). unit_with a.path a.texts a.trees a.uses a.env b.redeclared b.cyclic f) (fun_ext owned)
-      ∙ with_flags a b b.redeclared b.cyclic b.owner shares))
+      ap (λ (f : NodeRef → Bool). unit_with a.path a.texts a.trees a.uses a.env f a.cyclic a.circular a.owner) (fun_ext again)
+      ∙ (ap (λ (f : NodeRef → Bool). unit_with a.path a.texts a.trees a.uses a.env b.redeclared f a.circular a.owner) (fun_ext same)
+      ∙ (ap (λ (f : NodeRef → Bool). unit_with a.path a.texts a.trees a.uses a.env b.redeclared b.cyclic f a.owner) (fun_ext turned)
+      ∙ (ap (λ (f : NodeRef → Option NodeRef). unit_with a.path a.texts a.trees a.uses a.env b.redeclared b.cyclic b.circular f) (fun_ext owned)
+      ∙ with_flags a b b.redeclared b.cyclic b.circular b.owner shares)))

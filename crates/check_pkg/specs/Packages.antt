@@ -18,6 +18,7 @@ use Rattle.package_needs.specs.Worlds.{IsPackage}
 use Rattle.bind.specs.Denoting.{AreBindings}
 use Rattle.bind.specs.Sources.{Sources, AreFiles}
 use Rattle.unit_read.specs.Units.{Unit, node_at}
+use Rattle.unit_rows.specs.Circular.{AreCircular}
 use Rattle.unit_rows.specs.Redeclared.{is_redeclared}
 
 -- Its path, its files in order of their paths, the path and the bytes of each, and their trees.
@@ -65,7 +66,7 @@ pub record AreNeeds (u : Unit) : Type 0 where
   pub unowned : (at : NodeRef) → node_at u at ≡ None → u.owner at ≡ None
 
 -- What is judged: the package with what its uses denote, over this environment, and with which of its names are declared before in the
--- package block, which need themselves, and whose methods it declares.
+-- package block, which need themselves, which lead back to themselves, and whose methods it declares.
 pub record IsUnit (p : Package) (interfaces : Env) (u : Unit) : Type 0 where
   pub path : u.path ≡ p.path
   pub texts : u.texts ≡ texts_in p
@@ -74,3 +75,4 @@ pub record IsUnit (p : Package) (interfaces : Env) (u : Unit) : Type 0 where
   pub env : u.env ≡ interfaces
   pub redeclared : (at : NodeRef) → u.redeclared at ≡ is_redeclared u at
   pub needs : AreNeeds u
+  pub circular : AreCircular u u.circular

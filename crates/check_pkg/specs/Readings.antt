@@ -5,6 +5,7 @@ use Rattle.go_tree.specs.declared.tree.FileTree.{FileTree}
 use Rattle.go_tree.specs.declared.tree.NodeRef.{NodeRef}
 use Rattle.export_data.specs.declared.constants.ConstInterface.{ConstInterface}
 use Rattle.unit_read.specs.Units.{Unit}
+use Rattle.unit_rows.specs.Circular.{AreCircular}
 use Rattle.unit_rows.specs.Redeclared.{is_redeclared}
 use Rattle.check_pkg.specs.Packages.{AreNeeds}
 
@@ -17,3 +18,4 @@ pub record IsUnitOf (name : List ℕ) (sources : List (List ℕ)) (files : List 
   pub env : u.env ≡ interfaces
   pub redeclared : (at : NodeRef) → u.redeclared at ≡ is_redeclared u at
   pub needs : AreNeeds u
+  pub circular : AreCircular u u.circular

@@ -114,7 +114,7 @@ fn constant_at(constants: &Vec<Const>, value: Option<ConstId>) -> Option<&Const>
     ensures { option_map (λ c. c.now) result ≡ constant_at constants.now.items value }
 {
     match value {
-        Some(id) => constants.get(id.0),
+        Some(id) => constants.get(id.0 as usize),
         None => None,
     }
 }

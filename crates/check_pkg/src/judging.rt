@@ -28,7 +28,7 @@ use crate::refusal::Refusal;
 use crate::sources::{known, texts};
 use crate::universe::first_table;
 use bind::bind;
-use elaborate::{Elaborated, Rules, elaborate};
+use elaborate::{Elaborated, Rules, Stretch, elaborate};
 use export_data::{ConstInterface, ConstOut};
 use go_tree::{Bindings, FileTree};
 use gv_base::{Bytes, NoMemory, Text};
@@ -138,13 +138,18 @@ fn judge(alloc: Global, u: &Subject, s: &State) -> Result<Checked, NoMemory>
 }
 
 /// Marks the items of a package that has been read, and judges it.
-fn judge_unit<R: Rules>(alloc: Global, rules: &R, u: &Subject) -> Result<Outcome, NoMemory>
+fn judge_unit<R: Rules>(
+    alloc: Global,
+    rules: &R,
+    u: &Subject,
+    first: &[Stretch],
+) -> Result<Outcome, NoMemory>
     requires read { IsRead u.now }
     requires few { length u.now.trees.now < 2 ^ 32 }
     ensures { IfOk result (IsOutcome R.rule (unit_of u.now)) }
 {
     let table = first_table(alloc)?;
-    let elaborated = elaborate(alloc, rules, u, table)?;
+    let elaborated = elaborate(alloc, rules, u, table, first)?;
     match elaborated {
         Elaborated::Marked(state) => {
             let checked = judge(alloc, u, &state)?;
@@ -170,8 +175,8 @@ fn judge_read<R: Rules>(
     requires env { IsEnvironment env.now }
     ensures { IfOk result (IsOutcomeBy R.rule path.now (texts_of sources.now) trees.now uses.now env.now.interfaces.now) }
 {
-    let subject = read(alloc, path, sources, trees, uses, env)?;
-    let outcome = judge_unit(alloc, rules, &subject)?;
+    let reading = read(alloc, path, sources, trees, uses, env)?;
+    let outcome = judge_unit(alloc, rules, &reading.subject, &reading.first)?;
     Ok(outcome)
 }
 

@@ -2,6 +2,7 @@
 //! marks are those of any rules.
 #![tactic(auto)]
 
+mod ahead;
 mod block;
 mod exports;
 mod faults;

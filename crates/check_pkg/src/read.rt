@@ -5,33 +5,47 @@ ghost use Rattle.unit_read.specs.Environments.{IsEnvironment};
 ghost use Rattle.unit_read.specs.Index.{texts_of};
 ghost use Rattle.unit_read.specs.Subjects.{unit_of, IsRead};
 ghost use Rattle.unit_rows.specs.Rows.{AreSmall};
+ghost use Rattle.package_needs.specs.Worlds.{AreNeedsOf};
 ghost use Rattle.check_pkg.specs.Readings.{IsUnitOf};
 
-use go_tree::{Bindings, FileTree};
+use crate::ahead::stretches;
+use elaborate::Stretch;
+use go_tree::{Bindings, FileTree, NodeRef};
 use gv_base::NoMemory;
-use package_needs::needs_of;
+use object_order::Needed;
+use package_needs::{Needs, needs_of};
 use std::alloc::Global;
 use unit_read::{Environment, Subject};
-use unit_rows::{cyclic_rows, read_unit, redeclared_rows, with_flags};
+use unit_rows::{circular_rows, cyclic_rows, read_unit, redeclared_rows, with_flags};
 
-/// Reads a package: with which of its names are declared before in the package block, which need themselves, and whose methods it declares.
-pub fn read<'a>(
+/// A package that has been read, and its declarations in the order in which their nodes are marked.
+#[derive(Drop)]
+pub struct Reading<'a> {
+    pub subject: Subject<'a>,
+    pub first: Vec<Stretch>,
+}
+
+/// Reads a package: with which of its names are declared before in the package block, which need themselves, which lead back to themselves, and
+/// whose methods it declares.
+fn subject_of<'a>(
     alloc: Global,
     path: &'a [u8],
     texts: &'a [&'a [u8]],
     trees: &'a [FileTree],
     uses: &'a Bindings,
     env: &'a Environment<'a>,
+    order: &[Needed],
+    owners: Vec<Vec<Option<NodeRef>>>,
 ) -> Result<Subject<'a>, NoMemory>
     requires small { AreSmall trees.now }
     requires few { length trees.now ≤ 2 ^ 32 }
     requires uses { AreInOrder uses.now }
     requires env { IsEnvironment env.now }
+    requires needs { AreNeedsOf uses.now trees.now order.now owners.items }
     ensures read { IfOk result (λ u. IsRead u) }
     ensures of { IfOk result (λ u. IsUnitOf path.now (texts_of texts.now) trees.now uses.now env.now.interfaces.now (unit_of u)) }
 {
-    let needs = needs_of(alloc, uses, trees)?;
-    let cyclic = cyclic_rows(alloc, trees, &needs.order)?;
+    let cyclic = cyclic_rows(alloc, trees, order)?;
     let bare = read_unit(
         alloc,
         path,
@@ -41,8 +55,33 @@ pub fn read<'a>(
         env,
         Vec::new(alloc),
         Vec::new(alloc),
-        needs.owners,
+        Vec::new(alloc),
+        owners,
     )?;
     let redeclared = redeclared_rows(alloc, &bare)?;
-    Ok(with_flags(bare, redeclared, cyclic))
+    let circular = circular_rows(alloc, &bare)?;
+    Ok(with_flags(bare, redeclared, cyclic, circular))
+}
+
+/// Reads a package, with its declarations in an order of need.
+pub fn read<'a>(
+    alloc: Global,
+    path: &'a [u8],
+    texts: &'a [&'a [u8]],
+    trees: &'a [FileTree],
+    uses: &'a Bindings,
+    env: &'a Environment<'a>,
+) -> Result<Reading<'a>, NoMemory>
+    requires small { AreSmall trees.now }
+    requires few { length trees.now ≤ 2 ^ 32 }
+    requires uses { AreInOrder uses.now }
+    requires env { IsEnvironment env.now }
+    ensures read { IfOk result (λ r. IsRead r.subject) }
+    ensures of { IfOk result (λ r. IsUnitOf path.now (texts_of texts.now) trees.now uses.now env.now.interfaces.now (unit_of r.subject)) }
+{
+    let needs = needs_of(alloc, uses, trees)?;
+    let Needs { order, owners } = needs;
+    let subject = subject_of(alloc, path, texts, trees, uses, env, &order, owners)?;
+    let first = stretches(alloc, &subject, &order)?;
+    Ok(Reading { subject, first })
 }

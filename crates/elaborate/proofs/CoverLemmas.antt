@@ -29,7 +29,7 @@ use Rattle.elaborate.proofs.WalkLemmas.{first_declared}
 use Rattle.type_questions.specs.Over.{declared}
 use Rattle.elaborate.specs.Walks.{blocks_of, count_of, says_of, pends_of, item_rule, IsItemOf, answers_last}
 use Rattle.elaborate.specs.Elaborated.{IsAtWork, IsAnnotated, IsInCircle}
-use Rattle.elaborate.specs.Covering.{Went, Ended, IsAtRest, IsCircleAt, IsElaborated, IsNodeOf, IsNodeMarked, AreStagesMarked, AreNodesMarked, AreBlocksMarked}
+use Rattle.elaborate.specs.Covering.{Went, Ended, IsAtRest, IsCircleAt, IsElaborated, IsNodeOf, IsNodeMarked, AreStagesMarked, AreStagesOfNodes, AreNodesOf, AreNodesMarked, AreBlocksMarked}
 
 -- ---- from one package to the same
 
@@ -82,22 +82,32 @@ next_stage block n k x stage is all one other low = elim (less_or_last (stage_nu
 pub all_stages : (block n k : ℕ) (x : Item → Option Meaning) → 6 ≤ k → AreStagesMarked block n k x → IsNodeMarked block n x
 all_stages block n k x enough all stage = all stage (let low = stage_low stage in omega arith)
 
-pub next_node : (block low n : ℕ) (x : Item → Option Meaning) → AreNodesMarked block low n x → IsNodeMarked block n x → AreNodesMarked block low (n + 1) x
-next_node block low n x all one m from before = elim (less_or_last m n before) [
+-- as many as there are
+pub stages_to : (block n k count : ℕ) (x : Item → Option Meaning) → count ≤ k → AreStagesMarked block n k x → AreStagesMarked block n count x
+stages_to block n k count x enough all stage low = all stage (omega arith)
+
+pub next_staged : (block low n count : ℕ) (x : Item → Option Meaning) → AreStagesOfNodes block low n count x → AreStagesMarked block n count x → AreStagesOfNodes block low (n + 1) count x
+next_staged block low n count x all one m from before = elim (less_or_last m n before) [
   | inl less ↦ all m from less
-  | inr last ↦ subst (λ (k : ℕ). IsNodeMarked block k x) (sym last) one
+  | inr last ↦ subst (λ (k : ℕ). AreStagesMarked block k count x) (sym last) one
 ]
 
--- as many as there are
-pub nodes_all : (block low n until : ℕ) (x : Item → Option Meaning) → until ≤ n → AreNodesMarked block low n x → AreNodesMarked block low until x
-nodes_all block low n until x enough all m from before = all m from (omega arith)
+pub staged_to : (block low n until count : ℕ) (x : Item → Option Meaning) → until ≤ n → AreStagesOfNodes block low n count x → AreStagesOfNodes block low until count x
+staged_to block low n until count x enough all m from before = all m from (omega arith)
+
+pub none_staged : (block low count : ℕ) (x : Item → Option Meaning) → AreStagesOfNodes block low low count x
+none_staged block low count x n from before = absurd (omega arith)
+
+-- all of their stages
+pub nodes_whole : (block low until : ℕ) (x : Item → Option Meaning) → AreStagesOfNodes block low until 6 x → AreNodesMarked block low until x
+nodes_whole block low until x all n from before = all_stages block n 6 x (omega arith) (all n from before)
 
 both_hold : (a b : Bool) → a ≡ true → b ≡ true → (a && b) ≡ true
 both_hold true b one other = other
 both_hold false b one other = absurd cc
 
-pub nodes_in : (u : Unit) (number n : ℕ) (block : Block) → slice_get (blocks_of u) number ≡ Some block → block.low ≤ n → n < block.end → IsNodeOf u number n
-nodes_in u number n block at from before stage = ap (λ (o : Option Block). option_map_or (is_in n) o false) at ∙ both_hold (nat_le block.low n) (nat_lt n block.end) (le-leb block.low n from) (lt-ltb n block.end before)
+pub nodes_in : (u : Unit) (number : ℕ) (block : Block) → slice_get (blocks_of u) number ≡ Some block → AreNodesOf u number block.low block.end
+nodes_in u number block at n from before stage = ap (λ (o : Option Block). option_map_or (is_in n) o false) at ∙ both_hold (nat_le block.low n) (nat_lt n block.end) (le-leb block.low n from) (lt-ltb n block.end before)
 
 node_of : (u : Unit) (x : Item → Option Meaning) (i : Item) (block : Block) → slice_get (blocks_of u) i.block ≡ Some block → AreNodesMarked i.block block.low block.end x → IsItemOf u i → IsMarked x i
 node_of u x i block at all is =
@@ -113,11 +123,12 @@ next_block u k block x at all one i low is = elim (less_or_last i.block k low) [
   | inr last ↦ node_of u x i block (ap (slice_get (blocks_of u)) last ∙ at) (subst (λ (b : ℕ). AreNodesMarked b block.low block.end x) (sym last) one) is
 ]
 
+-- a stretch of them
+pub nodes_within : (u : Unit) (number low end some until : ℕ) → low ≤ some → until ≤ end → AreNodesOf u number low end → AreNodesOf u number some until
+nodes_within u number low end some until from before all n over below = all n (omega arith) (omega arith)
+
 pub no_stage : (block n : ℕ) (x : Item → Option Meaning) → AreStagesMarked block n 0 x
 no_stage block n x stage low = absurd (omega arith)
-
-pub no_node : (block low : ℕ) (x : Item → Option Meaning) → AreNodesMarked block low low x
-no_node block low x n from before = absurd (omega arith)
 
 -- as many as there are
 pub blocks_all : (u : Unit) (k count : ℕ) (x : Item → Option Meaning) → count ≤ k → AreBlocksMarked u k x → AreBlocksMarked u count x

@@ -36,7 +36,7 @@ use Rattle.rule_words.specs.Asking.{Rule, type_item, declaration_told, item}
 use Rattle.mark_walk.specs.declared.walk.Walk.{Walk}
 use Rattle.elaborate.specs.Walks.{blocks_of, says_of, pends_of, item_rule, IsItemOf}
 use Rattle.elaborate.specs.Elaborated.{IsAtWork}
-use Rattle.elaborate.specs.Covering.{Went, Ended, AreStagesMarked, AreNodesMarked, AreBlocksMarked}
+use Rattle.elaborate.specs.Covering.{Went, Ended, AreStagesMarked, AreStagesOfNodes, AreNodesMarked, AreBlocksMarked}
 
 -- ---- what is declared by nothing, or waits
 
@@ -92,6 +92,9 @@ ended_as rule u s walk One Other circle turn ended = record {
 
 pub stages_still : (block n count : ℕ) (x y : Item → Option Meaning) → Keeps x y → AreStagesMarked block n count x → AreStagesMarked block n count y
 stages_still block n count x y keeps all stage low = marked_still x y (item stage block n) keeps (all stage low)
+
+pub staged_still : (block low until count : ℕ) (x y : Item → Option Meaning) → Keeps x y → AreStagesOfNodes block low until count x → AreStagesOfNodes block low until count y
+staged_still block low until count x y keeps all n from before = stages_still block n count x y keeps (all n from before)
 
 pub nodes_still : (block low until : ℕ) (x y : Item → Option Meaning) → Keeps x y → AreNodesMarked block low until x → AreNodesMarked block low until y
 nodes_still block low until x y keeps all n from before stage = marked_still x y (item stage block n) keeps (all n from before stage)

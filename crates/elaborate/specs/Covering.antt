@@ -49,6 +49,10 @@ AreStagesMarked block n count so_far = (stage : Stage) → stage_number stage < 
 abbrev pub IsNodeMarked : ℕ → ℕ → (Item → Option Meaning) → Type 0
 IsNodeMarked block n so_far = (stage : Stage) → IsMarked so_far (item stage block n)
 
+-- the first stages of the nodes from one on and before another
+abbrev pub AreStagesOfNodes : ℕ → ℕ → ℕ → ℕ → (Item → Option Meaning) → Type 0
+AreStagesOfNodes block low until count so_far = (n : ℕ) → low ≤ n → n < until → AreStagesMarked block n count so_far
+
 -- the nodes from one on and before another
 abbrev pub AreNodesMarked : ℕ → ℕ → ℕ → (Item → Option Meaning) → Type 0
 AreNodesMarked block low until so_far = (n : ℕ) → low ≤ n → n < until → IsNodeMarked block n so_far
@@ -60,6 +64,14 @@ AreBlocksMarked u count so_far = (i : Item) → i.block < count → IsItemOf u i
 -- there is such a node in the block
 abbrev pub IsNodeOf : Unit → ℕ → ℕ → Type 0
 IsNodeOf u block n = (stage : Stage) → IsItemOf u (item stage block n)
+
+-- there are such nodes, from one on and before another
+abbrev pub AreNodesOf : Unit → ℕ → ℕ → ℕ → Type 0
+AreNodesOf u block low until = (n : ℕ) → low ≤ n → n < until → IsNodeOf u block n
+
+-- nothing is said of the marks
+abbrev pub IsAnything : (Item → Option Meaning) → Type 0
+IsAnything so_far = Prim.Unit {0}
 
 -- what comes of a package: its one annotation, or an item that waits for itself
 abbrev pub IsElaborated : (Unit → Item → Rule) → Subject → Elaborated → Type 0

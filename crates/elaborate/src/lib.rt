@@ -1,7 +1,9 @@
 //! All items of a package are marked by rules, whatever these are.
 #![tactic(auto)]
 
+mod ahead;
 mod answers;
+mod nodes;
 mod questions;
 mod rules;
 mod scene;
@@ -10,5 +12,6 @@ mod steps;
 mod whole;
 mod work;
 
+pub use ahead::Stretch;
 pub use rules::Rules;
 pub use whole::{Elaborated, elaborate};

@@ -32,7 +32,7 @@ fn constant_at<'a>(s: &'a State, value: Option<ConstId>) -> Option<&'a Const>
     ensures { option_copied result ≡ constant_at s.now.constants.items value }
 {
     match value {
-        Some(id) => s.constants.get(id.0),
+        Some(id) => s.constants.get(id.0 as usize),
         None => None,
     }
 }

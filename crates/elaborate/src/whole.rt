@@ -1,27 +1,27 @@
 //! All items of a package.
 ghost use Rattle.std.specs.Prelude.{◌≡◌, ◌<◌, ◌≤◌, ◌+◌, ℕ, Some, None, IfOk, OnOk, length, slice_get};
-ghost use Rattle.mark_walk.specs.Asks.{IsMarked};
 ghost use Rattle.type_model.specs.Tables.{declarations_in};
 ghost use Rattle.type_model.specs.declared.term.TypeName.{TypeName};
 ghost use Rattle.typed_tree.specs.Basics.{HasBasics};
 ghost use Rattle.typed_marks.specs.declared.item.Item.{Item as AnItem};
 ghost use Rattle.typed_marks.specs.declared.item.Block.{Block as ABlock};
-ghost use Rattle.typed_marks.specs.Items.{stage_number, is_in};
 ghost use Rattle.typed_marks.specs.States.{so_far};
 ghost use Rattle.unit_read.specs.Units.{base_of};
 ghost use Rattle.unit_read.specs.Passages.{passages, spans};
 ghost use Rattle.unit_read.specs.Subjects.{unit_of, IsRead};
 ghost use Rattle.elaborate.specs.Walks.{IsItemOf, blocks_of};
 ghost use Rattle.elaborate.specs.Elaborated.{IsAtWork, IsAnnotated, IsInCircle};
-ghost use Rattle.elaborate.specs.Covering.{Went, IsAtRest, Ended, IsNodeOf, IsElaborated, AreStagesMarked, IsNodeMarked, AreNodesMarked, AreBlocksMarked};
+ghost use Rattle.elaborate.specs.Covering.{Went, IsAtRest, Ended, IsElaborated, IsAnything, AreNodesMarked, AreBlocksMarked};
 
+use crate::ahead::{Stretch, mark_ahead};
+use crate::nodes::{NODE_STAGES, STAGES, mark_nodes};
 use crate::rules::Rules;
 use crate::work::Work;
 use gv_base::NoMemory;
-use mark_walk::{Walk, Walked, mark, walk_over};
+use mark_walk::{Walk, walk_over};
 use std::alloc::Global;
 use type_model::TypeTable;
-use typed_marks::{Block, Item, Span, Stage, State};
+use typed_marks::{Block, Item, Span, State};
 use unit_read::{Passage, Subject};
 
 /// What comes of a package's items.
@@ -33,67 +33,41 @@ pub enum Elaborated {
     Circle(State, Item),
 }
 
-/// Marks one item, or answers one that waits for itself.
-fn mark_one<R: Rules>(
+/// Marks the nodes of a block at the stages of nodes.
+fn mark_early<R: Rules>(
     walk: &mut Walk<Item>,
     work: &mut Work<R>,
-    item: Item,
+    number: usize,
+    block: Block,
 ) -> Result<Option<Item>, NoMemory>
     requires work { IsAtWork work.old.subject.now work.old.state }
-    requires item { IsItemOf (unit_of work.old.subject.now) item }
+    requires block { slice_get (blocks_of (unit_of work.old.subject.now)) number ≡ Some block }
     requires rests { IsAtRest (unit_of work.old.subject.now) work.old.state walk.old }
     ensures went { OnOk result (Went R.rule work.old.subject.now work.new.subject.now work.old.state work.new.state) }
-    ensures ended { IfOk result (Ended R.rule (unit_of work.old.subject.now) work.new.state walk.new (λ marks. IsMarked marks item)) }
+    ensures ended { IfOk result (Ended R.rule (unit_of work.old.subject.now) work.new.state walk.new IsAnything) }
 {
-    let walked = mark(walk, work, item)?;
-    match walked {
-        Walked::Marked => Ok(None),
-        Walked::Circle(item) => Ok(Some(item)),
-    }
+    let circle = mark_nodes(walk, work, number, block.low, block.end, NODE_STAGES)?;
+    Ok(circle)
 }
 
-fn stage_of(number: usize) -> Stage
-    requires { number < 6 }
-    ensures { stage_number result ≡ number }
-{
-    match number {
-        0 => Stage::Before,
-        1 => Stage::Wanted,
-        2 => Stage::Judged,
-        3 => Stage::Placed,
-        4 => Stage::Object,
-        _ => Stage::Under,
-    }
-}
-
-/// Marks a node at each stage.
-fn mark_node<R: Rules>(
+/// Marks the nodes of a block at each stage.
+fn mark_whole<R: Rules>(
     walk: &mut Walk<Item>,
     work: &mut Work<R>,
-    block: usize,
-    node: usize,
+    number: usize,
+    block: Block,
 ) -> Result<Option<Item>, NoMemory>
     requires work { IsAtWork work.old.subject.now work.old.state }
-    requires node { IsNodeOf (unit_of work.old.subject.now) block node }
+    requires block { slice_get (blocks_of (unit_of work.old.subject.now)) number ≡ Some block }
     requires rests { IsAtRest (unit_of work.old.subject.now) work.old.state walk.old }
     ensures went { OnOk result (Went R.rule work.old.subject.now work.new.subject.now work.old.state work.new.state) }
-    ensures ended { IfOk result (Ended R.rule (unit_of work.old.subject.now) work.new.state walk.new (IsNodeMarked block node)) }
+    ensures ended { IfOk result (Ended R.rule (unit_of work.old.subject.now) work.new.state walk.new (AreNodesMarked number block.low block.end)) }
 {
-    for number in 0..6 {
-        let item = Item {
-            stage: stage_of(number),
-            block,
-            node,
-        };
-        let circle = mark_one(walk, work, item)?;
-        if let Some(other) = circle {
-            return Ok(Some(other));
-        }
-    }
-    Ok(None)
+    let circle = mark_nodes(walk, work, number, block.low, block.end, STAGES)?;
+    Ok(circle)
 }
 
-/// Marks the nodes of a block.
+/// Marks the nodes of a block: all at the stages of nodes, and then what is declared at them, so that this waits for none of them.
 fn mark_block<R: Rules>(
     walk: &mut Walk<Item>,
     work: &mut Work<R>,
@@ -106,13 +80,12 @@ fn mark_block<R: Rules>(
     ensures went { OnOk result (Went R.rule work.old.subject.now work.new.subject.now work.old.state work.new.state) }
     ensures ended { IfOk result (Ended R.rule (unit_of work.old.subject.now) work.new.state walk.new (AreNodesMarked number block.low block.end)) }
 {
-    for node in block.low..block.end {
-        let circle = mark_node(walk, work, number, node)?;
-        if let Some(other) = circle {
-            return Ok(Some(other));
-        }
+    let early = mark_early(walk, work, number, block)?;
+    if let Some(other) = early {
+        return Ok(Some(other));
     }
-    Ok(None)
+    let circle = mark_whole(walk, work, number, block)?;
+    Ok(circle)
 }
 
 fn block_at(blocks: &[Block], k: usize) -> Block
@@ -138,6 +111,25 @@ fn mark_all<R: Rules>(walk: &mut Walk<Item>, work: &mut Work<R>) -> Result<Optio
         }
     }
     Ok(None)
+}
+
+/// Marks these stretches, then the items of all blocks.
+fn mark_in_turn<R: Rules>(
+    walk: &mut Walk<Item>,
+    work: &mut Work<R>,
+    first: &[Stretch],
+) -> Result<Option<Item>, NoMemory>
+    requires work { IsAtWork work.old.subject.now work.old.state }
+    requires rests { IsAtRest (unit_of work.old.subject.now) work.old.state walk.old }
+    ensures went { OnOk result (Went R.rule work.old.subject.now work.new.subject.now work.old.state work.new.state) }
+    ensures ended { IfOk result (Ended R.rule (unit_of work.old.subject.now) work.new.state walk.new (λ marks. AreBlocksMarked (unit_of work.old.subject.now) (length (blocks_of (unit_of work.old.subject.now))) marks)) }
+{
+    let early = mark_ahead(walk, work, first)?;
+    if let Some(other) = early {
+        return Ok(Some(other));
+    }
+    let circle = mark_all(walk, work)?;
+    Ok(circle)
 }
 
 fn spans_of(alloc: Global, u: &Subject) -> Result<Vec<Span>, NoMemory>
@@ -173,12 +165,14 @@ fn start(alloc: Global, u: &Subject, table: TypeTable) -> Result<State, NoMemory
 }
 
 /// The marks of a package: those of its one annotation by these rules. Where an item waits for itself there is none that can be
-/// found, and that item is answered.
+/// found, and that item is answered. The nodes of these stretches are marked first, in their order: that changes no mark, and
+/// rules wait less where each stretch needs what stands before it alone.
 pub fn elaborate<R: Rules>(
     alloc: Global,
     rules: &R,
     u: &Subject,
     table: TypeTable,
+    first: &[Stretch],
 ) -> Result<Elaborated, NoMemory>
     requires read { IsRead u.now }
     requires basics { HasBasics table }
@@ -193,7 +187,7 @@ pub fn elaborate<R: Rules>(
         state,
     };
     let mut walk = walk_over(alloc, &work)?;
-    let circle = mark_all(&mut walk, &mut work)?;
+    let circle = mark_in_turn(&mut walk, &mut work, first)?;
     match circle {
         Some(item) => Ok(Elaborated::Circle(work.state, item)),
         None => Ok(Elaborated::Marked(work.state)),

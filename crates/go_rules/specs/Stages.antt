@@ -20,7 +20,7 @@ use Rattle.rule_words.specs.Asking.{Asks, Rule, mark_ask, parts_ask}
 use Rattle.rule_words.specs.Parts.{Part}
 use Rattle.rule_words.specs.Words.{Wanted, wanted_in}
 use Rattle.op_rules.specs.Placed.{placed_rule}
-use Rattle.decl_rules.specs.Joining.{element_rule}
+use Rattle.type_rules.specs.Joining.{element_rule}
 use Rattle.decl_rules.specs.Objects.{object_rule}
 use Rattle.decl_rules.specs.Specifications.{declared_name_rule}
 use Rattle.decl_rules.specs.Under.{under_rule}

@@ -12,7 +12,7 @@ use Rattle.object_order.specs.Cases.{NeedsOf}
 use Rattle.object_order.specs.Names.{IsNamed}
 use Rattle.object_order.specs.Paths.{Leads}
 use Rattle.package_objects.specs.Declares.{gather, declared}
-use Rattle.const_tree.proofs.PlaceLaws.{gather_cases}
+use Rattle.const_tree.proofs.ListLemmas.{gather_cases}
 use Rattle.unit_read.specs.Units.{is_among}
 use Rattle.unit_rows.specs.Cyclic.{if_cyclic, nth_cyclic, all_cyclic, is_cyclic, MarksCyclic}
 use Rattle.unit_rows.proofs.NumberLemmas.{among_is, among_there, none_there, only_there}
@@ -26,7 +26,7 @@ behind : {X : Type 0} (xs ys : List X) (j : ℕ) (x : X) → slice_get ys j ≡ 
 behind [] ys j x e = (j, e)
 behind (y ∷ xs) ys j x e = let r = behind xs ys j x e in (suc r.0, r.1)
 
-gather_has : {X : Type 0} (g : ℕ → List X) (n k j : ℕ) (x : X) → k < n → slice_get (g k) j ≡ Some x → (i : ℕ) × (slice_get (gather g n) i ≡ Some x)
+pub gather_has : {X : Type 0} (g : ℕ → List X) (n k j : ℕ) (x : X) → k < n → slice_get (g k) j ≡ Some x → (i : ℕ) × (slice_get (gather g n) i ≡ Some x)
 gather_has g zero k j x low e = absurd (omega arith)
 gather_has {X} g (suc n) k j x low e = by (cases_lt k n) (λ less. gather_has g n k j x less e) where
   by : (k < n) ⊎ (n ≤ k) → ((k < n) → (i : ℕ) × (slice_get (gather g n) i ≡ Some x)) → (i : ℕ) × (slice_get (gather g n ++ g n) i ≡ Some x)
@@ -34,7 +34,7 @@ gather_has {X} g (suc n) k j x low e = by (cases_lt k n) (λ less. gather_has g 
   by (inr more) before = let same : k ≡ n = omega arith in behind (gather g n) (g n) j x (ap (λ (m : ℕ). slice_get (g m) j) (sym same) ∙ e)
 
 -- an item that the order marks
-record IsMarked (order : List Needed) (at : NodeRef) : Type 0 where
+pub record IsMarked (order : List Needed) (at : NodeRef) : Type 0 where
   pub number : ℕ
   pub item : Needed
   pub there : slice_get order number ≡ Some item
@@ -55,13 +55,13 @@ in_nth order i j at h = by (slice_get order i) refl h where
       let both = in_item e j at there in
       record { number = i; item = e; there = is; cyclic = both.0; object = both.1 }
 
-marked : (order : List Needed) (at : NodeRef) → is_among at (all_cyclic order) ≡ true → IsMarked order at
+pub marked : (order : List Needed) (at : NodeRef) → is_among at (all_cyclic order) ≡ true → IsMarked order at
 marked order at h =
     let j = among_is at (all_cyclic order) h in
     let i = gather_cases (nth_cyclic order) (length order) j.0 at j.1 in
     in_nth order i.0 i.1 at i.3
 
-marks : (order : List Needed) (at : NodeRef) → IsMarked order at → is_among at (all_cyclic order) ≡ true
+pub marks : (order : List Needed) (at : NodeRef) → IsMarked order at → is_among at (all_cyclic order) ≡ true
 marks order at m =
     let listed : slice_get (if_cyclic m.item) 0 ≡ Some at = ap (λ (b : Bool). slice_get (if b then m.item.object ∷ [] else []) 0) m.cyclic ∙ ap Some m.object in
     let there : slice_get (nth_cyclic order m.number) 0 ≡ Some at = ap (λ (o : Option Needed). slice_get (option_map_or if_cyclic o []) 0) m.there ∙ listed in

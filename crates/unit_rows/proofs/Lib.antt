@@ -8,3 +8,4 @@ pub mod ListLemmas
 pub mod FlagLemmas
 pub mod CyclicLemmas
 pub mod MethodLemmas
+pub mod CircularLemmas

@@ -15,7 +15,7 @@ use Rattle.package_needs.specs.Groups.{PushesAt}
 use Rattle.package_objects.specs.Declares.{gather}
 use Rattle.unit_read.specs.Methods.{is_first, if_owned, nth_owned, methods_of, all_methods, owners, group_of, nth_group, named_again}
 use Rattle.unit_read.specs.Rows.{AreRows}
-use Rattle.unit_read.specs.Subjects.{cell, kept_methods}
+use Rattle.unit_read.specs.Subjects.{cell, kept_by}
 use Rattle.unit_read.specs.Units.{Unit, node_at, is_this, first_place}
 use Rattle.unit_read.proofs.TypeLemmas.{same_node, key_itself}
 use Rattle.unit_rows.specs.Grouping.{number_of, put_if, PutsBy, put_owned, put_method, nth_put, AreGroups}
@@ -222,15 +222,15 @@ module _ (u : Unit) (kin : List (Vec (Option ℕ))) (groups : List (Vec NodeRef)
         by None gone = owned_absent i gone
         by (Some at) there = owned_is i at there ∙ ap (λ (b : Bool). if b then at ∷ [] else []) (first_none t (owners u) 0 none i (u.owner at) (owner_there i at there))
 
-    kept_node : kept_methods groups kin t ≡ methods_of u t
+    kept_node : kept_by groups (cell kin t) ≡ methods_of u t
     kept_node = by (first_place t (owners u)) refl where
-      by : (o : Option ℕ) → first_place t (owners u) ≡ o → kept_methods groups kin t ≡ methods_of u t
+      by : (o : Option ℕ) → first_place t (owners u) ≡ o → kept_by groups (cell kin t) ≡ methods_of u t
       by None none = ap (λ (o : Option ℕ). option_map_or (group_in groups) o []) (cell_is ∙ none) ∙ sym (none_owned none)
       by (Some k) first = ap (λ (o : Option ℕ). option_map_or (group_in groups) o []) (cell_is ∙ first) ∙ group_is k first
 
-  pub kept_is : (t : NodeRef) → kept_methods groups kin t ≡ methods_of u t
+  pub kept_is : (t : NodeRef) → kept_by groups (cell kin t) ≡ methods_of u t
   kept_is t = by (node_at u t) refl where
-    by : (o : Option Node) → node_at u t ≡ o → kept_methods groups kin t ≡ methods_of u t
+    by : (o : Option Node) → node_at u t ≡ o → kept_by groups (cell kin t) ≡ methods_of u t
     by None none = ap (λ (o : Option ℕ). option_map_or (group_in groups) o []) (number t ∙ ap (in_node t (owners u)) none)
         ∙ sym (ap (λ (o : Option Node). option_map_or (λ (n : Node). gather (nth_owned u t) (length (all_methods u))) o []) none)
     by (Some node) its = kept_node t node its
@@ -296,7 +296,7 @@ grouped u kin groups methods first second types one other all f t o rows p m are
   types_are : types ≡ owners u
   types_are = t ∙ ap (map u.owner) (f ∙ all)
 
-pub kept_all : (u : Unit) (kin : List (Vec (Option ℕ))) (groups : List (Vec NodeRef)) → Grouped u kin groups → (t : NodeRef) → kept_methods groups kin t ≡ methods_of u t
+pub kept_all : (u : Unit) (kin : List (Vec (Option ℕ))) (groups : List (Vec NodeRef)) → Grouped u kin groups → (t : NodeRef) → kept_by groups (cell kin t) ≡ methods_of u t
 kept_all u kin groups g t = kept_is u kin groups g.read g.are t
 
 pub again_all : (u : Unit) (kin : List (Vec (Option ℕ))) (groups : List (Vec NodeRef)) → Grouped u kin groups

@@ -8,7 +8,7 @@ use Rattle.type_model.specs.declared.term.TypeName.{TypeName}
 use Rattle.object_order.specs.Spots.{place}
 use Rattle.object_order.specs.Views.{same_key}
 use Rattle.package_objects.specs.Declares.{part}
-use Rattle.const_tree.proofs.PlaceLaws.{gather_cases}
+use Rattle.const_tree.proofs.ListLemmas.{gather_cases}
 use Rattle.unit_read.specs.Units.{Unit, nodes_at, node_at, is_this, is_among, place_in, is_defined_node, named_node, named, defined_by, defined_at, defined_in, defined, type_name, type_name_at}
 use Rattle.unit_read.proofs.TypeLemmas.{key_itself, same_node}
 use Rattle.unit_rows.specs.Rows.{local_by, local_among}

@@ -14,14 +14,14 @@ use Rattle.unit_read.specs.Units.{Unit, name_at, place_at, is_top}
 
 -- the package of these files, uses, interfaces, flags and types of methods
 abbrev pub package_unit : List ℕ → List (List ℕ) → List FileTree → List (NodeRef × Object) → List ConstInterface → List (Vec Bool) → List (Vec Bool)
-    → List (Vec (Option NodeRef)) → Unit
-package_unit path texts trees uses env redeclared cyclic owners =
-    record { path = path; texts = texts; trees = trees; uses = uses; env = env; redeclared = flag redeclared; cyclic = flag cyclic; owner = cell owners }
+    → List (Vec Bool) → List (Vec (Option NodeRef)) → Unit
+package_unit path texts trees uses env redeclared cyclic circular owners =
+    record { path = path; texts = texts; trees = trees; uses = uses; env = env; redeclared = flag redeclared; cyclic = flag cyclic; circular = flag circular; owner = cell owners }
 
 -- the package with these flags
-abbrev pub with_flags : Unit → List (Vec Bool) → List (Vec Bool) → Unit
-with_flags u redeclared cyclic =
-    record { path = u.path; texts = u.texts; trees = u.trees; uses = u.uses; env = u.env; redeclared = flag redeclared; cyclic = flag cyclic; owner = u.owner }
+abbrev pub with_flags : Unit → List (Vec Bool) → List (Vec Bool) → List (Vec Bool) → Unit
+with_flags u redeclared cyclic circular =
+    record { path = u.path; texts = u.texts; trees = u.trees; uses = u.uses; env = u.env; redeclared = flag redeclared; cyclic = flag cyclic; circular = flag circular; owner = u.owner }
 
 -- the rows of places are made
 abbrev pub IsPlaced : Subject → Type 0

@@ -1,3 +1,4 @@
+pub mod Circular
 pub mod Cyclic
 pub mod Defined
 pub mod Drafts

@@ -35,7 +35,7 @@ fn add_nth(order: &[Needed], i: usize, out: &mut Vec<NodeRef>) -> Result<(), NoM
 }
 
 /// The names that an order of need marks.
-fn all_cyclic(alloc: Global, order: &[Needed]) -> Result<Vec<NodeRef>, NoMemory>
+pub fn all_cyclic(alloc: Global, order: &[Needed]) -> Result<Vec<NodeRef>, NoMemory>
     ensures { IfOk result (λ names. names.items ≡ all_cyclic order.now) }
 {
     let mut out = Vec::new(alloc);

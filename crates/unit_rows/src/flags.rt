@@ -35,7 +35,7 @@ fn is_there(cell: Option<usize>) -> bool
 fn row_flags(alloc: Global, row: &[Option<usize>]) -> Result<Vec<bool>, NoMemory>
     ensures { IfOk result (λ flags. flags.items ≡ map is_some row.now) }
 {
-    let mut flags = Vec::new(alloc);
+    let mut flags = Vec::with_capacity(alloc, row.len())?;
     for cell in row {
         flags.push(is_there(*cell))?;
     }

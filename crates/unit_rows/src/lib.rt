@@ -2,6 +2,7 @@
 #![tactic(auto)]
 
 mod again;
+mod circular;
 mod copies;
 mod cyclic;
 mod firsts;
@@ -20,6 +21,7 @@ mod tables;
 mod top;
 mod types;
 
+pub use circular::circular_rows;
 pub use cyclic::cyclic_rows;
 pub use flags::listed_rows;
 pub use laws::marked_names_need_themselves;

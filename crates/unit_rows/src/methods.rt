@@ -22,7 +22,7 @@ use gv_base::NoMemory;
 use package_needs::{blank_groups, push_at};
 use package_objects::part_of;
 use std::alloc::Global;
-use unit_read::{Subject, cell};
+use unit_read::{Entries, Subject, cell, entry_rows};
 
 fn add_at(s: &Subject, at: NodeRef, out: &mut Vec<NodeRef>) -> Result<(), NoMemory>
     ensures { OnOk result (out.new.items ≡ out.old.items ++ if_method (unit_of s.now) at) }
@@ -122,7 +122,7 @@ fn groups_of(
 #[derive(Drop)]
 pub struct Kin {
     pub groups: Vec<Vec<NodeRef>>,
-    pub kin: Vec<Vec<Option<usize>>>,
+    pub kin: Vec<Entries<usize>>,
     pub repeated: Vec<Vec<bool>>,
 }
 
@@ -196,8 +196,9 @@ pub fn method_rows(alloc: Global, s: &Subject) -> Result<Kin, NoMemory>
 {
     let methods = all_methods(alloc, s)?;
     let owners = owners_of(alloc, s, &methods)?;
-    let kin = first_rows(alloc, s.trees, &owners)?;
-    let groups = groups_of(alloc, &kin, &owners, &methods)?;
+    let cells = first_rows(alloc, s.trees, &owners)?;
+    let groups = groups_of(alloc, &cells, &owners, &methods)?;
+    let kin = entry_rows(alloc, cells)?;
     let list = repeated_methods(alloc, s, &groups)?;
     let repeated = listed_rows(alloc, s.trees, &list)?;
     Ok(Kin {

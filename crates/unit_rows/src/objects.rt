@@ -27,7 +27,7 @@ fn row_of(
     requires few { end ≤ 2 ^ 32 }
     ensures { IfOk result (λ row. IsRow (λ n. object_in uses.now (place file n)) row.items end) }
 {
-    let mut row = Vec::new(alloc);
+    let mut row = Vec::with_capacity(alloc, end)?;
     for node in 0..end {
         row.push(object_of(uses, file, node as u32))?;
     }

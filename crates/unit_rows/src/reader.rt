@@ -19,11 +19,11 @@ use go_tree::{Bindings, FileTree, NodeRef};
 use gv_base::NoMemory;
 use std::alloc::Global;
 use std::collections::HashMap;
-use unit_read::{Environment, Subject, lead_rows, passages};
+use unit_read::{Environment, Subject, entry_rows, lead_rows, passages};
 
 /// Reads a package: its path, the bytes of its files and their trees, what the uses in them denote, the interfaces to which their imports may
-/// lead, and for each node of each file whether it is a name that is declared before in its block, whether it is one that needs itself, and of
-/// which type it declares a method.
+/// lead, and for each node of each file whether it is a name that is declared before in its block, whether it is one that needs itself, whether one
+/// that is no type leads back to itself, and of which type it declares a method.
 pub fn read_unit<'a>(
     alloc: Global,
     path: &'a [u8],
@@ -33,6 +33,7 @@ pub fn read_unit<'a>(
     env: &'a Environment<'a>,
     redeclared: Vec<Vec<bool>>,
     cyclic: Vec<Vec<bool>>,
+    circular: Vec<Vec<bool>>,
     owners: Vec<Vec<Option<NodeRef>>>,
 ) -> Result<Subject<'a>, NoMemory>
     requires small { AreSmall trees.now }
@@ -40,14 +41,17 @@ pub fn read_unit<'a>(
     requires uses { AreInOrder uses.now }
     requires env { IsEnvironment env.now }
     ensures read { IfOk result (λ s. IsRead s) }
-    ensures of { IfOk result (λ s. unit_of s ≡ package_unit path.now (texts_of texts.now) trees.now uses.now env.now.interfaces.now redeclared.items cyclic.items owners.items) }
+    ensures of { IfOk result (λ s. unit_of s ≡ package_unit path.now (texts_of texts.now) trees.now uses.now env.now.interfaces.now redeclared.items cyclic.items circular.items owners.items) }
 {
     let passages = passages(alloc, trees)?;
     let objects = object_rows(alloc, uses, trees)?;
     let places = place_rows(alloc, trees)?;
-    let specs = spec_rows(alloc, trees)?;
-    let leads = lead_rows(alloc, env, texts, trees)?;
-    let copies = copy_rows(alloc, trees, &passages)?;
+    let spec_cells = spec_rows(alloc, trees)?;
+    let specs = entry_rows(alloc, spec_cells)?;
+    let lead_cells = lead_rows(alloc, env, texts, trees)?;
+    let leads = entry_rows(alloc, lead_cells)?;
+    let copy_cells = copy_rows(alloc, trees, &passages)?;
+    let copies = entry_rows(alloc, copy_cells)?;
     let defined = defined(alloc, trees)?;
     let mut s = Subject {
         path,
@@ -65,6 +69,7 @@ pub fn read_unit<'a>(
         named: HashMap::new(alloc),
         redeclared,
         cyclic,
+        circular,
         repeats: Vec::new(alloc),
         copies,
         owners,
@@ -72,7 +77,8 @@ pub fn read_unit<'a>(
         kin: Vec::new(alloc),
         repeated: Vec::new(alloc),
     };
-    let locals = local_rows(alloc, &s)?;
+    let local_cells = local_rows(alloc, &s)?;
+    let locals = entry_rows(alloc, local_cells)?;
     s.locals = locals;
     let named = named_types(alloc, &s)?;
     s.named = named;
@@ -90,13 +96,15 @@ pub fn with_flags<'a>(
     s: Subject<'a>,
     redeclared: Vec<Vec<bool>>,
     cyclic: Vec<Vec<bool>>,
+    circular: Vec<Vec<bool>>,
 ) -> Subject<'a>
     requires { IsRead s }
     ensures read { IsRead result }
-    ensures of { unit_of result ≡ with_flags (unit_of s.entry) redeclared.items cyclic.items }
+    ensures of { unit_of result ≡ with_flags (unit_of s.entry) redeclared.items cyclic.items circular.items }
 {
     let mut s = s;
     s.redeclared = redeclared;
     s.cyclic = cyclic;
+    s.circular = circular;
     s
 }

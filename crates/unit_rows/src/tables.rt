@@ -10,7 +10,7 @@ use std::alloc::Global;
 fn blank_row(alloc: Global, count: usize) -> Result<Vec<Option<usize>>, NoMemory>
     ensures { IfOk result (λ row. IsRow (λ n. None) row.items count) }
 {
-    let mut row = Vec::new(alloc);
+    let mut row = Vec::with_capacity(alloc, count)?;
     for _n in 0..count {
         row.push(None)?;
     }

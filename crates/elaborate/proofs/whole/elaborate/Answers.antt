@@ -10,7 +10,7 @@ returns-in-Some g c =
     let rule = g.R.Rules.rule in
     let u = c.args.u.now in
     let s = c.in_ok-state.state in
-    let next = c.mark_all.new.work in
+    let next = c.mark_in_turn.new.work in
     let made = c.in_ok-circle.ensures in
     let sound = sound_first rule (unit_of u) s c.in_ok-state.ensures.work.blocks c.in_ok-state.ensures.unmarked in (
       scene_for u next.subject.now next.state made.went.unit c.requires.read made.went.work.scene,
@@ -22,7 +22,7 @@ returns g c =
     let rule = g.R.Rules.rule in
     let u = c.args.u.now in
     let s = c.in_ok-state.state in
-    let next = c.mark_all.new.work in
+    let next = c.mark_in_turn.new.work in
     let made = c.in_ok-circle.ensures in
     let sound = sound_first rule (unit_of u) s c.in_ok-state.ensures.work.blocks c.in_ok-state.ensures.unmarked in (
       scene_for u next.subject.now next.state made.went.unit c.requires.read made.went.work.scene,

@@ -1,62 +1,38 @@
-use Rattle.std.proofs.Common.{arith}
-use Rattle.typed_marks.specs.States.{so_far}
+use Rattle.std.proofs.Common.{◌≡◌, ◌∙◌, refl, ap, slice_get}
+use Rattle.unit_read.specs.Units.{Unit}
 use Rattle.unit_read.specs.Subjects.{unit_of}
-use Rattle.elaborate.specs.Covering.{IsNodeMarked, AreNodesMarked}
-use Rattle.elaborate.proofs.WalkLemmas.{went_itself, went_then, nodes_still}
-use Rattle.elaborate.proofs.CoverLemmas.{rest_at, rest_from, node_at, nodes_in, early, ended_well, next_node, nodes_all, no_node}
+use Rattle.elaborate.specs.Walks.{blocks_of}
+use Rattle.elaborate.specs.Covering.{IsAnything, AreNodesMarked}
+use Rattle.elaborate.proofs.WalkLemmas.{went_then, ended_for}
+use Rattle.elaborate.proofs.CoverLemmas.{early, rest_at}
 use Rattle.elaborate.proofs.whole.mark_block.Goals as goal
 
-pub loop-node-init : goal.loop-node-init
-loop-node-init g c =
-    let work = c.args.work.now in
-    record {
-      went = went_itself g.R.Rules.rule work.subject.now work.state c.requires.work;
-      rests = c.requires.rests;
-      marked = no_node c.args.number c.args.block.low (so_far work.state);
-    }
+pub mark_whole-requires-clause-work : goal.mark_whole-requires-clause-work
+mark_whole-requires-clause-work g c = c.in_ok-early.ensures.went.work
 
-pub mark_node-requires-clause-work : goal.mark_node-requires-clause-work
-mark_node-requires-clause-work g c = c.loop-node.invariant.went.work
+pub mark_whole-requires-clause-block : goal.mark_whole-requires-clause-block
+mark_whole-requires-clause-block g c = ap (λ (u : Unit). slice_get (blocks_of u) c.args.number) c.in_ok-early.ensures.went.unit ∙ c.requires.block
 
-pub mark_node-requires-clause-node : goal.mark_node-requires-clause-node
-mark_node-requires-clause-node g c =
-    let u = unit_of c.args.work.now.subject.now in
-    node_at u (unit_of c.loop-node.work.subject.now) c.args.number c.loop-node.node c.loop-node.invariant.went.unit
-    (nodes_in u c.args.number c.loop-node.node c.args.block c.requires.block (omega arith) (omega arith))
-
-pub mark_node-requires-clause-rests : goal.mark_node-requires-clause-rests
-mark_node-requires-clause-rests g c =
-    rest_at (unit_of c.args.work.now.subject.now) (unit_of c.loop-node.work.subject.now) c.loop-node.work.state c.loop-node.walk c.loop-node.invariant.went.unit c.loop-node.invariant.rests
-
-pub loop-node-preserved : goal.loop-node-preserved
-loop-node-preserved g c =
-    let rule = g.R.Rules.rule in
-    let before = c.args.work.now in
-    let now = c.loop-node.work in
-    let next = c.mark_node.new.work in
-    let was = c.loop-node.invariant in
-    let made = c.in_ok-circle.ensures in
-    record {
-      went = went_then rule before.subject.now now.subject.now next.subject.now before.state now.state next.state was.went made.went;
-      rests = rest_from (unit_of before.subject.now) (unit_of now.subject.now) next.state c.mark_node.new.walk was.went.unit (made.ended.rests c.in_default.is);
-      marked = next_node c.args.number c.args.block.low c.loop-node.node (so_far next.state)
-          (nodes_still c.args.number c.args.block.low c.loop-node.node (so_far now.state) (so_far next.state) made.went.goes.keeps was.marked) (made.ended.marked c.in_default.is);
-    }
-
-pub returns-in-Some-clause-went : goal.returns-in-Some-clause-went
-returns-in-Some-clause-went g c =
-    let before = c.args.work.now in
-    let now = c.loop-node.work in
-    let next = c.mark_node.new.work in
-    went_then g.R.Rules.rule before.subject.now now.subject.now next.subject.now before.state now.state next.state c.loop-node.invariant.went c.in_ok-circle.ensures.went
+pub mark_whole-requires-clause-rests : goal.mark_whole-requires-clause-rests
+mark_whole-requires-clause-rests g c =
+    let now = c.mark_early.new in
+    rest_at (unit_of c.args.work.now.subject.now) (unit_of now.work.subject.now) now.work.state now.walk c.in_ok-early.ensures.went.unit (c.in_ok-early.ensures.ended.rests c.in_default.is)
 
 pub returns-in-Some-clause-ended : goal.returns-in-Some-clause-ended
 returns-in-Some-clause-ended g c =
-    early g.R.Rules.rule (unit_of c.args.work.now.subject.now) (unit_of c.loop-node.work.subject.now) c.mark_node.new.work.state c.mark_node.new.walk
-    (IsNodeMarked c.args.number c.loop-node.node) (AreNodesMarked c.args.number c.args.block.low c.args.block.end) c.in_ok-circle.circle c.in-Some.other c.loop-node.invariant.went.unit c.in-Some.is c.in_ok-circle.ensures.ended
+    let now = c.mark_early.new in
+    early g.R.Rules.rule (unit_of c.args.work.now.subject.now) (unit_of c.args.work.now.subject.now) now.work.state now.walk IsAnything (AreNodesMarked c.args.number c.args.block.low c.args.block.end)
+    c.in_ok-early.early c.in-Some.other refl c.in-Some.is c.in_ok-early.ensures.ended
+
+pub returns-clause-went : goal.returns-clause-went
+returns-clause-went g c =
+    let before = c.args.work.now in
+    let now = c.mark_early.new.work in
+    let next = c.mark_whole.new.work in
+    went_then g.R.Rules.rule before.subject.now now.subject.now next.subject.now before.state now.state next.state c.in_ok-early.ensures.went c.in_ok-circle.ensures.went
 
 pub returns-clause-ended : goal.returns-clause-ended
 returns-clause-ended g c =
-    let now = c.loop-node.work in
-    ended_well g.R.Rules.rule (unit_of c.args.work.now.subject.now) now.state c.loop-node.walk (AreNodesMarked c.args.number c.args.block.low c.args.block.end) c.loop-node.invariant.rests
-    (nodes_all c.args.number c.args.block.low c.loop-node.node c.args.block.end (so_far now.state) (omega arith) c.loop-node.invariant.marked)
+    let next = c.mark_whole.new in
+    ended_for g.R.Rules.rule (unit_of c.args.work.now.subject.now) (unit_of c.mark_early.new.work.subject.now) next.work.state next.walk (AreNodesMarked c.args.number c.args.block.low c.args.block.end)
+    c.in_ok-circle.circle c.in_ok-early.ensures.went.unit c.in_ok-circle.ensures.ended

@@ -1,17 +1,17 @@
 use Rattle.std.proofs.Common.{List, ap, ◌∙◌}
 use Rattle.go_tree.specs.declared.tree.NodeRef.{NodeRef}
-use Rattle.unit_read.specs.Subjects.{unit_of}
+use Rattle.unit_read.specs.Subjects.{unit_of, kept_by}
 use Rattle.unit_rows.specs.Tables.{is_listed}
 use Rattle.unit_rows.proofs.MethodLemmas.{grouped, kept_all, again_all}
 use Rattle.unit_rows.proofs.methods.method_rows.Goals as goal
 
 pub returns-clause-methods : goal.returns-clause-methods
-returns-clause-methods c = kept_all (unit_of c.args.s.now) c.in_ok-kin.kin.items c.in_ok-groups.groups.items
-    (grouped (unit_of c.args.s.now) c.in_ok-kin.kin.items c.in_ok-groups.groups.items c.in_ok-methods.methods.items c.deref.result.now c.deref-4.result.now c.in_ok-owners.owners.items c.deref-2.result.now c.deref-3.result.now
-    c.in_ok-methods.ensures c.deref.ensures.value c.in_ok-owners.ensures c.deref-2.ensures.value c.in_ok-kin.ensures c.deref-3.ensures.value c.deref-4.ensures.value c.in_ok-groups.ensures)
+returns-clause-methods c = λ t. ap (kept_by c.in_ok-groups.groups.items) (c.in_ok-kin.ensures t) ∙ kept_all (unit_of c.args.s.now) c.in_ok-cells.cells.items c.in_ok-groups.groups.items
+    (grouped (unit_of c.args.s.now) c.in_ok-cells.cells.items c.in_ok-groups.groups.items c.in_ok-methods.methods.items c.deref.result.now c.deref-4.result.now c.in_ok-owners.owners.items c.deref-2.result.now c.deref-3.result.now
+    c.in_ok-methods.ensures c.deref.ensures.value c.in_ok-owners.ensures c.deref-2.ensures.value c.in_ok-cells.ensures c.deref-3.ensures.value c.deref-4.ensures.value c.in_ok-groups.ensures) t
 
 pub returns-clause-repeated : goal.returns-clause-repeated
 returns-clause-repeated c = λ at. c.in_ok-repeated.ensures at ∙ ap (λ (list : List NodeRef). is_listed c.args.s.now.trees.now list at) (c.deref-5.ensures.value ∙ (c.in_ok-list.ensures
-    ∙ again_all (unit_of c.args.s.now) c.in_ok-kin.kin.items c.in_ok-groups.groups.items
-    (grouped (unit_of c.args.s.now) c.in_ok-kin.kin.items c.in_ok-groups.groups.items c.in_ok-methods.methods.items c.deref.result.now c.deref-4.result.now c.in_ok-owners.owners.items c.deref-2.result.now c.deref-3.result.now
-    c.in_ok-methods.ensures c.deref.ensures.value c.in_ok-owners.ensures c.deref-2.ensures.value c.in_ok-kin.ensures c.deref-3.ensures.value c.deref-4.ensures.value c.in_ok-groups.ensures)))
+    ∙ again_all (unit_of c.args.s.now) c.in_ok-cells.cells.items c.in_ok-groups.groups.items
+    (grouped (unit_of c.args.s.now) c.in_ok-cells.cells.items c.in_ok-groups.groups.items c.in_ok-methods.methods.items c.deref.result.now c.deref-4.result.now c.in_ok-owners.owners.items c.deref-2.result.now c.deref-3.result.now
+    c.in_ok-methods.ensures c.deref.ensures.value c.in_ok-owners.ensures c.deref-2.ensures.value c.in_ok-cells.ensures c.deref-3.ensures.value c.deref-4.ensures.value c.in_ok-groups.ensures)))

@@ -1,11 +1,14 @@
-use Rattle.std.proofs.Common.{ap, ◌∙◌}
+use Rattle.std.proofs.Common.{ap, ◌∙◌, option_map, ◌≡◌}
 use Rattle.unit_read.specs.Index.{texts_of}
 use Rattle.unit_read.specs.Subjects.{top_name}
-use Rattle.unit_read.specs.Units.{named_by}
+use Rattle.unit_read.specs.Units.{named_by, type_name_at}
 use Rattle.unit_rows.specs.Drafts.{package_unit}
 use Rattle.unit_rows.proofs.UseLemmas.{single_in_order}
 use Rattle.unit_rows.proofs.NumberLemmas.{local_there}
 use Rattle.unit_rows.proofs.ReadLemmas.{objects_read, places_read, specs_read, leads_read, copies_read, locals_read}
+use Rattle.unit_read.specs.Entries.{entry}
+use Rattle.type_model.specs.declared.term.TypeName.{TypeName}
+use Rattle.go_tree.specs.declared.tree.NodeRef.{NodeRef}
 use Rattle.unit_rows.proofs.reader.read_unit.Goals as goal
 
 pub object_rows-requires-clause-single : goal.object_rows-requires-clause-single
@@ -13,31 +16,31 @@ object_rows-requires-clause-single c = single_in_order c.args.uses.now c.require
 
 pub local_rows-requires : goal.local_rows-requires
 local_rows-requires c =
-    let u = package_unit c.args.path.now (texts_of c.args.texts.now) c.args.trees.now c.args.uses.now c.args.env.now.interfaces.now c.args.redeclared.items c.args.cyclic.items c.args.owners.items in
+    let u = package_unit c.args.path.now (texts_of c.args.texts.now) c.args.trees.now c.args.uses.now c.args.env.now.interfaces.now c.args.redeclared.items c.args.cyclic.items c.args.circular.items c.args.owners.items in
     places_read u c.in_ok-places.places.items c.in_ok-places.ensures
 
 pub named_types-requires : goal.named_types-requires
 named_types-requires c =
-    let u = package_unit c.args.path.now (texts_of c.args.texts.now) c.args.trees.now c.args.uses.now c.args.env.now.interfaces.now c.args.redeclared.items c.args.cyclic.items c.args.owners.items in
+    let u = package_unit c.args.path.now (texts_of c.args.texts.now) c.args.trees.now c.args.uses.now c.args.env.now.interfaces.now c.args.redeclared.items c.args.cyclic.items c.args.circular.items c.args.owners.items in
     places_read u c.in_ok-places.places.items c.in_ok-places.ensures
 
 pub returns-clause-read : goal.returns-clause-read
 returns-clause-read c =
-    let u = package_unit c.args.path.now (texts_of c.args.texts.now) c.args.trees.now c.args.uses.now c.args.env.now.interfaces.now c.args.redeclared.items c.args.cyclic.items c.args.owners.items in
-    let numbers = locals_read u c.in_ok-defined.defined.items c.in_ok-locals.locals.items c.in_ok-defined.ensures c.in_ok-locals.ensures in
+    let u = package_unit c.args.path.now (texts_of c.args.texts.now) c.args.trees.now c.args.uses.now c.args.env.now.interfaces.now c.args.redeclared.items c.args.cyclic.items c.args.circular.items c.args.owners.items in
+    let numbers : (at : NodeRef) → entry c.in_ok-locals.locals.items at ≡ option_map (λ (n : TypeName). n.local) (type_name_at u at) = λ at. c.in_ok-locals.ensures at ∙ locals_read u c.in_ok-defined.defined.items c.in_ok-local_cells.local_cells.items c.in_ok-defined.ensures c.in_ok-local_cells.ensures at in
     record {
       blocks = c.in_ok-passages.ensures;
       objects = objects_read u c.in_ok-objects.objects.items c.in_ok-objects.ensures;
       places = places_read u c.in_ok-places.places.items c.in_ok-places.ensures;
-      specs = specs_read u c.in_ok-specs.specs.items c.in_ok-specs.ensures;
+      specs = λ at. c.in_ok-specs.ensures at ∙ specs_read u c.in_ok-spec_cells.spec_cells.items c.in_ok-spec_cells.ensures at;
       env = c.requires.env;
-      leads = leads_read u c.in_ok-leads.leads.items c.in_ok-leads.ensures;
+      leads = λ at. c.in_ok-leads.ensures at ∙ leads_read u c.in_ok-lead_cells.lead_cells.items c.in_ok-lead_cells.ensures at;
       types = c.in_ok-defined.ensures;
       locals = λ k at there. numbers at ∙ local_there u k at there;
       inside = numbers;
       repeats = c.in_ok-repeats.ensures;
       methods = c.in_ok-methods.ensures.methods;
       repeated = c.in_ok-methods.ensures.repeated;
-      copies = copies_read u c.deref.result.now c.in_ok-copies.copies.items (c.deref.ensures.value ∙ c.in_ok-passages.ensures) c.in_ok-copies.ensures;
+      copies = λ at. c.in_ok-copies.ensures at ∙ copies_read u c.deref.result.now c.in_ok-copy_cells.copy_cells.items (c.deref.ensures.value ∙ c.in_ok-passages.ensures) c.in_ok-copy_cells.ensures at;
       named = λ q. c.in_ok-named.ensures q ∙ ap (named_by u (top_name u q)) c.in_ok-defined.ensures;
     }

@@ -1,11 +1,11 @@
 use Rattle.typed_marks.specs.States.{so_far}
 use Rattle.unit_read.specs.Subjects.{unit_of}
-use Rattle.elaborate.specs.Covering.{Went, IsAtRest, AreNodesMarked}
-use Rattle.elaborate.proofs.whole.mark_block.Given as goal
+use Rattle.elaborate.specs.Covering.{Went, IsAtRest, AreStagesOfNodes}
+use Rattle.elaborate.proofs.nodes.mark_nodes.Given as goal
 
 abbrev pub invariant-loop-node : goal.invariant-loop-node
 invariant-loop-node g l = record {
   went : Went g.R.Rules.rule l.fn.work.subject.now l.work.subject.now l.fn.work.state l.work.state;
   rests : IsAtRest (unit_of l.fn.work.subject.now) l.work.state l.walk;
-  marked : AreNodesMarked l.number l.fn.block.low l.node (so_far l.work.state);
+  marked : AreStagesOfNodes l.block l.fn.low l.node l.stages (so_far l.work.state);
 }

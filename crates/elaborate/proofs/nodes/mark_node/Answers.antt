@@ -2,11 +2,11 @@ use Rattle.std.proofs.Common.{arith}
 use Rattle.typed_marks.specs.States.{so_far}
 use Rattle.unit_read.specs.Subjects.{unit_of}
 use Rattle.rule_words.specs.Asking.{item}
-use Rattle.elaborate.specs.Covering.{IsNodeMarked}
+use Rattle.elaborate.specs.Covering.{AreStagesMarked}
 use Rattle.mark_walk.specs.Asks.{IsMarked}
 use Rattle.elaborate.proofs.WalkLemmas.{went_itself, went_then, stages_still}
-use Rattle.elaborate.proofs.CoverLemmas.{rest_at, rest_from, item_at, early, ended_well, next_stage, all_stages, no_stage}
-use Rattle.elaborate.proofs.whole.mark_node.Goals as goal
+use Rattle.elaborate.proofs.CoverLemmas.{rest_at, rest_from, item_at, early, ended_well, next_stage, stages_to, no_stage}
+use Rattle.elaborate.proofs.nodes.mark_node.Goals as goal
 
 pub loop-number-init : goal.loop-number-init
 loop-number-init g c =
@@ -53,10 +53,10 @@ returns-in-Some-clause-went g c =
 pub returns-in-Some-clause-ended : goal.returns-in-Some-clause-ended
 returns-in-Some-clause-ended g c =
     early g.R.Rules.rule (unit_of c.args.work.now.subject.now) (unit_of c.loop-number.work.subject.now) c.mark_one.new.work.state c.mark_one.new.walk
-    (λ marks. IsMarked marks (item c.stage_of.result c.args.block c.args.node)) (IsNodeMarked c.args.block c.args.node) c.in_ok-circle.circle c.in-Some.other c.loop-number.invariant.went.unit c.in-Some.is c.in_ok-circle.ensures.ended
+    (λ marks. IsMarked marks (item c.stage_of.result c.args.block c.args.node)) (AreStagesMarked c.args.block c.args.node c.args.stages) c.in_ok-circle.circle c.in-Some.other c.loop-number.invariant.went.unit c.in-Some.is c.in_ok-circle.ensures.ended
 
 pub returns-clause-ended : goal.returns-clause-ended
 returns-clause-ended g c =
     let now = c.loop-number.work in
-    ended_well g.R.Rules.rule (unit_of c.args.work.now.subject.now) now.state c.loop-number.walk (IsNodeMarked c.args.block c.args.node) c.loop-number.invariant.rests
-    (all_stages c.args.block c.args.node c.loop-number.number (so_far now.state) (omega arith) c.loop-number.invariant.marked)
+    ended_well g.R.Rules.rule (unit_of c.args.work.now.subject.now) now.state c.loop-number.walk (AreStagesMarked c.args.block c.args.node c.args.stages) c.loop-number.invariant.rests
+    (stages_to c.args.block c.args.node c.loop-number.number c.args.stages (so_far now.state) (omega arith) c.loop-number.invariant.marked)

@@ -1,7 +1,7 @@
 use Rattle.typed_marks.specs.States.{so_far}
 use Rattle.unit_read.specs.Subjects.{unit_of}
 use Rattle.elaborate.specs.Covering.{Went, IsAtRest, AreStagesMarked}
-use Rattle.elaborate.proofs.whole.mark_node.Given as goal
+use Rattle.elaborate.proofs.nodes.mark_node.Given as goal
 
 abbrev pub invariant-loop-number : goal.invariant-loop-number
 invariant-loop-number g l = record {

@@ -1,0 +1,106 @@
+//! Nodes of a package, stage by stage.
+ghost use Rattle.std.specs.Prelude.{◌≡◌, ◌<◌, ◌≤◌, None, IfOk, OnOk};
+ghost use Rattle.mark_walk.specs.Asks.{IsMarked};
+ghost use Rattle.typed_marks.specs.Items.{stage_number};
+ghost use Rattle.unit_read.specs.Subjects.{unit_of};
+ghost use Rattle.elaborate.specs.Walks.{IsItemOf};
+ghost use Rattle.elaborate.specs.Elaborated.{IsAtWork};
+ghost use Rattle.elaborate.specs.Covering.{Went, IsAtRest, Ended, IsNodeOf, AreNodesOf, AreStagesMarked, AreStagesOfNodes};
+
+use crate::rules::Rules;
+use crate::work::Work;
+use gv_base::NoMemory;
+use mark_walk::{Walk, Walked, mark};
+use typed_marks::{Item, Stage};
+
+/// How many stages there are, and how many of them are those of a node alone: what is declared at it comes after.
+pub const STAGES: usize = 6;
+
+pub const NODE_STAGES: usize = 4;
+
+/// Marks one item, or answers one that waits for itself.
+fn mark_one<R: Rules>(
+    walk: &mut Walk<Item>,
+    work: &mut Work<R>,
+    item: Item,
+) -> Result<Option<Item>, NoMemory>
+    requires work { IsAtWork work.old.subject.now work.old.state }
+    requires item { IsItemOf (unit_of work.old.subject.now) item }
+    requires rests { IsAtRest (unit_of work.old.subject.now) work.old.state walk.old }
+    ensures went { OnOk result (Went R.rule work.old.subject.now work.new.subject.now work.old.state work.new.state) }
+    ensures ended { IfOk result (Ended R.rule (unit_of work.old.subject.now) work.new.state walk.new (λ marks. IsMarked marks item)) }
+{
+    let walked = mark(walk, work, item)?;
+    match walked {
+        Walked::Marked => Ok(None),
+        Walked::Circle(item) => Ok(Some(item)),
+    }
+}
+
+fn stage_of(number: usize) -> Stage
+    requires { number < 6 }
+    ensures { stage_number result ≡ number }
+{
+    match number {
+        0 => Stage::Before,
+        1 => Stage::Wanted,
+        2 => Stage::Judged,
+        3 => Stage::Placed,
+        4 => Stage::Object,
+        _ => Stage::Under,
+    }
+}
+
+/// Marks a node at its first stages, so many of the six.
+fn mark_node<R: Rules>(
+    walk: &mut Walk<Item>,
+    work: &mut Work<R>,
+    block: usize,
+    node: usize,
+    stages: usize,
+) -> Result<Option<Item>, NoMemory>
+    requires work { IsAtWork work.old.subject.now work.old.state }
+    requires node { IsNodeOf (unit_of work.old.subject.now) block node }
+    requires stages { stages ≤ 6 }
+    requires rests { IsAtRest (unit_of work.old.subject.now) work.old.state walk.old }
+    ensures went { OnOk result (Went R.rule work.old.subject.now work.new.subject.now work.old.state work.new.state) }
+    ensures ended { IfOk result (Ended R.rule (unit_of work.old.subject.now) work.new.state walk.new (AreStagesMarked block node stages)) }
+{
+    for number in 0..stages {
+        let item = Item {
+            stage: stage_of(number),
+            block,
+            node,
+        };
+        let circle = mark_one(walk, work, item)?;
+        if let Some(other) = circle {
+            return Ok(Some(other));
+        }
+    }
+    Ok(None)
+}
+
+/// Marks nodes of a block at their first stages, from this node on and before that. The nodes of a part stand before that of the whole.
+pub fn mark_nodes<R: Rules>(
+    walk: &mut Walk<Item>,
+    work: &mut Work<R>,
+    block: usize,
+    low: usize,
+    end: usize,
+    stages: usize,
+) -> Result<Option<Item>, NoMemory>
+    requires work { IsAtWork work.old.subject.now work.old.state }
+    requires nodes { AreNodesOf (unit_of work.old.subject.now) block low end }
+    requires stages { stages ≤ 6 }
+    requires rests { IsAtRest (unit_of work.old.subject.now) work.old.state walk.old }
+    ensures went { OnOk result (Went R.rule work.old.subject.now work.new.subject.now work.old.state work.new.state) }
+    ensures ended { IfOk result (Ended R.rule (unit_of work.old.subject.now) work.new.state walk.new (AreStagesOfNodes block low end stages)) }
+{
+    for node in low..end {
+        let circle = mark_node(walk, work, block, node, stages)?;
+        if let Some(other) = circle {
+            return Ok(Some(other));
+        }
+    }
+    Ok(None)
+}

@@ -1,0 +1,2 @@
+pub mod OpenLemmas
+mod MarkLemmas
