@@ -4,14 +4,13 @@
 
 mod comparison;
 mod expected;
-mod folder;
 mod found;
 mod report;
 mod session;
 mod trees;
 
 use anyhow::Result;
-use folder::names;
+use bundles::names;
 use trees::run_file;
 
 fn main(rt: HostRuntime) -> Result<()> {

@@ -1,8 +1,7 @@
 //! Cases in bundles: texts, and behind them what the product has to say of them.
 use crate::family::Family;
-use crate::folder::names;
 use anyhow::Result;
-use bundles::{Section, sections};
+use bundles::{Section, names, sections};
 use std::fs;
 
 /// The name of a section that says what the answer has to be.

@@ -3,7 +3,6 @@
 
 mod cases;
 mod family;
-mod folder;
 mod heads;
 mod labels;
 mod needs;
@@ -14,11 +13,12 @@ mod types;
 mod uses;
 
 use anyhow::Result;
+use bundles::names;
 use cases::run_bundles;
 use family::family_of;
 
 fn main(rt: HostRuntime) -> Result<()> {
-    for name in folder::names(&rt, ".")?.as_slice() {
+    for name in names(&rt, ".")?.as_slice() {
         match family_of(name.as_str()) {
             Some(family) => run_bundles(&rt, family, name.as_str())?,
             None => println!(rt; "{name}: no family of cases has this name")?,

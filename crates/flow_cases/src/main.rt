@@ -5,14 +5,14 @@
 mod calls;
 mod cases;
 mod comments;
-mod folder;
 mod functions;
 
 use anyhow::Result;
+use bundles::names;
 use std::fs;
 
 fn main(rt: HostRuntime) -> Result<()> {
-    for name in folder::names(&rt, ".")?.as_slice() {
+    for name in names(&rt, ".")?.as_slice() {
         if name.as_str().ends_with(".go") {
             let bytes = fs::read(&rt, name.as_str())?;
             cases::run_file(&rt, rt.alloc(), name.as_str(), bytes.as_slice())?;

@@ -1,0 +1,80 @@
+//! Small trees: the reply and the work of a run, twice, and whether a tree is built.
+use crate::told::{add, said};
+use action_graph::Unloaded;
+use bundles::bytes_of;
+use fact_cache::Cache;
+use go_kit::GoKit;
+use gv_base::{Files, NoMemory};
+use std::alloc::Global;
+use tree_report::{Answer, TreeReport, report_on};
+
+/// Puts a file of one of four paths.
+fn put(files: &mut Files, path: &str, bytes: &[u8]) -> Result<(), NoMemory> {
+    match path {
+        "a.go" => files.put("a.go", bytes),
+        "b.go" => files.put("b.go", bytes),
+        "b/b.go" => files.put("b/b.go", bytes),
+        "b/c.go" => files.put("b/c.go", bytes),
+        _ => Ok(()),
+    }
+}
+
+/// The tree of `PATH TEXT | ..`.
+fn tree_of(alloc: Global, input: &str) -> Result<Files, NoMemory> {
+    let mut files = Files::new(alloc);
+    for part in input.split(" | ") {
+        let (path, text) = part.split_once(" ").unwrap_or((part, ""));
+        let bytes = bytes_of(alloc, text)?;
+        put(&mut files, path, &bytes)?;
+    }
+    Ok(files)
+}
+
+/// What a report says.
+fn report_says(alloc: Global, report: &TreeReport) -> Result<Vec<u8>, NoMemory> {
+    let mut out = report.text.as_slice().to_vec(alloc)?;
+    let text = format!(in alloc; "found {}, {:?}; ", report.found, report.counts)?;
+    add(&mut out, text.as_str())?;
+    Ok(out)
+}
+
+/// What is told of a tree, by a new kit.
+fn told(alloc: Global, files: &Files, cache: &mut Cache) -> Result<Vec<u8>, NoMemory> {
+    let mut kits = [GoKit::new(alloc)];
+    match report_on(alloc, files, cache, &mut kits) {
+        Ok(Answer::NotBuilt) => said(alloc, "not built"),
+        Ok(Answer::Told(report)) => report_says(alloc, &report),
+        Err(Unloaded::NoMemory) => Err(NoMemory),
+        Err(Unloaded::Circle) => said(alloc, "circle"),
+    }
+}
+
+/// What is told of a tree twice, with one cache.
+fn told_twice(alloc: Global, files: &Files) -> Result<Vec<u8>, NoMemory> {
+    let mut cache = Cache::new(alloc);
+    let mut out = told(alloc, files, &mut cache)?;
+    let second = told(alloc, files, &mut cache)?;
+    out.extend_from_slice(&second)?;
+    Ok(out)
+}
+
+/// Whether a tree is built.
+fn is_built(alloc: Global, files: &Files) -> Result<Vec<u8>, NoMemory> {
+    let mut cache = Cache::new(alloc);
+    let mut kits = [GoKit::new(alloc)];
+    match report_on(alloc, files, &mut cache, &mut kits) {
+        Ok(Answer::NotBuilt) => said(alloc, "not built"),
+        Ok(Answer::Told(_)) => said(alloc, "built"),
+        Err(Unloaded::NoMemory) => Err(NoMemory),
+        Err(Unloaded::Circle) => said(alloc, "circle"),
+    }
+}
+
+/// The answer to the input of a case of this file.
+pub fn answer(alloc: Global, name: &str, input: &str) -> Result<Vec<u8>, NoMemory> {
+    let files = tree_of(alloc, input)?;
+    if name == "built" {
+        return is_built(alloc, &files);
+    }
+    told_twice(alloc, &files)
+}

@@ -1,6 +1,0 @@
-use Rattle.std.proofs.Common.{refl, arith, codes}
-use Rattle.gv_base.proofs.PathFacts.{path-of_segment}
-use Rattle.run_tests.proofs.report_text_tests.commands.one_file.Goals as goal
-
-pub put-requires : goal.put-requires
-put-requires c = path-of_segment (codes "a.go") refl (omega arith) (omega arith)
