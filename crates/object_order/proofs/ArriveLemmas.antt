@@ -15,8 +15,8 @@ use Rattle.object_order.specs.Paths.{Path}
 use Rattle.object_order.specs.Spots.{World, place, spot, is_array, is_plain, below, crosses, types, enters, joins, first_part, moves}
 use Rattle.object_order.specs.Orders.{GoesBy, is_needs, ArePassed, Arrives}
 use Rattle.object_order.specs.Cases.{IsPart, Within, itself, deeper, Plainly, at_once, under_plain, IsMention, Mentions, MentionsDirectly, Is, IsRoot, HasMention, IsLength, RestsOn, IsMethodOf, own, by_name, Reaches, ReachedFrom, there, on}
-use Rattle.object_order.proofs.SpotLemmas.{same_some}
 use Rattle.object_order.proofs.GoLemmas.{GoesInto, GoesAcross, GoesUnder, GoesBeside, Goes, goes_into, goes_across, goes_under, goes_beside, moves_to}
+use Rattle.gv_base.proofs.Lists.{same_some}
 
 pub among_chosen : (b : Bool) (x : Mode) → b ≡ true → Among x (if b then x ∷ [] else [])
 among_chosen true x e = inl refl

@@ -5,7 +5,7 @@ use Rattle.std.proofs.Math.ListN.{length-set}
 use Rattle.std.proofs.lemmas.Option.{slice_get_within}
 use Rattle.need_order.specs.declared.needed.Needed as vertex
 use Rattle.object_order.specs.Picks.{flag_in, AreFlags}
-use Rattle.object_order.proofs.SpotLemmas.{same_some}
+use Rattle.gv_base.proofs.Lists.{same_some}
 
 set_here : (flags : List Bool) (n : ℕ) (b : Bool) → n < length flags → flag_in (set flags n b) n ≡ b
 set_here [] n b low = absurd (omega arith)

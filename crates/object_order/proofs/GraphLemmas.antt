@@ -1,6 +1,6 @@
 -- The graph over the numbers of spots leads where the search goes on.
 use Rattle.std.proofs.Common.{◌≡◌, ℕ, List, [], ◌∷◌, slice_get, Some, sym, ◌∙◌, subst, arith}
-use Rattle.std.specs.HashMap.{HashMap}
+use Rattle.object_order.specs.declared.rows.SpotRows.{SpotRows}
 use Rattle.std.proofs.lemmas.Option.{slice_get_within}
 use Rattle.go_tree.specs.Spells.{Among}
 use Rattle.need_order.specs.Graphs as graphs
@@ -8,13 +8,14 @@ use Rattle.object_order.specs.declared.spot.Spot.{Spot}
 use Rattle.object_order.specs.Paths.{Path, Leads}
 use Rattle.object_order.specs.Searches.{IsExplored}
 use Rattle.object_order.specs.Orders.{GoesBy}
-use Rattle.object_order.proofs.SpotLemmas.{same_some, among_contains, contains_among, there}
+use Rattle.object_order.proofs.SpotLemmas.{among_contains, contains_among, there}
 use Rattle.object_order.proofs.SearchLemmas.{row_has, row_from}
+use Rattle.gv_base.proofs.Lists.{same_some}
 
 some_is : {X : Type 0} (a b : X) → Some a ≡ Some b → a ≡ b
 some_is a b e = cc
 
-module _ {S : Type 0} (moves : Spot → List Spot) (seeds found : List Spot) (numbers : HashMap (ℕ × ℕ) ℕ S) (rows : List (List ℕ)) (is : IsExplored moves seeds found numbers rows) where
+module _ (moves : Spot → List Spot) (seeds found : List Spot) (numbers : SpotRows) (rows : List (List ℕ)) (is : IsExplored moves seeds found numbers rows) where
   row_at : (i : ℕ) (s : Spot) → slice_get found i ≡ Some s → (row : List ℕ) × (slice_get rows i ≡ Some row)
   row_at i s at = let h = slice_get_within found i s at in let e = is.size in there rows i (omega arith)
 

@@ -1,6 +1,7 @@
 -- Declared names are what the search goes out from, and the only objects to which it comes.
 use Rattle.std.proofs.Common.{◌≡◌, ℕ, List, slice_get, Option, Some, None, option_and_then, refl, sym, ap, subst, inl, inr}
 use Rattle.std.specs.HashMap.{HashMap}
+use Rattle.object_order.specs.declared.rows.SpotRows.{SpotRows}
 use Rattle.go_tree.specs.Spells.{Among}
 use Rattle.go_tree.specs.declared.tree.NodeRef.{NodeRef}
 use Rattle.object_order.specs.declared.spot.Mode.TheVariants as m
@@ -48,7 +49,7 @@ view_seeds v are = record {
 }
 
 -- what is picked of all that the search finds from a view's declarations is an order of need
-pub order_is : {S : Type 0} (v : View) (first found : List Spot) (numbers : HashMap (ℕ × ℕ) ℕ S) (rows : List (List ℕ)) (list : List Needed)
+pub order_is : (v : View) (first found : List Spot) (numbers : SpotRows) (rows : List (List ℕ)) (list : List Needed)
     → AreNamed v.entries.items v.numbers → first ≡ seeds v.entries.items → IsExplored (moves (world_of v)) first found numbers rows → IsPicked found numbers rows list
     → IsNeedOrder (NeedsBy (moves (world_of v))) (IsNamed v.entries.items) list
 order_is v first found numbers rows list are first_is is p =

@@ -8,7 +8,8 @@ use Rattle.object_order.specs.declared.spot.Entry.{Entry}
 use Rattle.object_order.specs.Views.{number_in, same_key}
 use Rattle.object_order.specs.Names.{AreNamed, AddsName, IsKeyAt}
 use Rattle.object_order.specs.Searches.{IsKept}
-use Rattle.object_order.proofs.SpotLemmas.{same_some, same_place, key_parts, key_itself}
+use Rattle.object_order.proofs.SpotLemmas.{same_place, key_parts, key_itself}
+use Rattle.gv_base.proofs.Lists.{same_some}
 
 cases_of : (b : Bool) → (b ≡ true) ⊎ (b ≡ false)
 cases_of true = inl refl
@@ -26,7 +27,7 @@ fresh : (old : ℕ × ℕ → Option ℕ) (key q : ℕ × ℕ) (k : ℕ) (new : 
 fresh old key q k new true none is = is ∙ ap (λ o. Some (unwrap_or o k)) (sym none)
 fresh old key q k new false none is = is
 
-pub adds_fresh : {S : Type 0} (old new : HashMap (ℕ × ℕ) ℕ S) (key : ℕ × ℕ) (k : ℕ) → None ≡ number_in old key → IsKept old new key k → AddsName old new key k
+pub adds_fresh : {S : Type 0} (old new : HashMap (ℕ × ℕ) ℕ S) (key : ℕ × ℕ) (k : ℕ) → None ≡ number_in old key → IsKept (number_in old) (number_in new) key k → AddsName old new key k
 adds_fresh old new key k none kept = λ q. fresh (number_in old) key q k (number_in new q) (same_key key q) (sym none) (kept q)
 
 -- the names of the first few declarations have numbers

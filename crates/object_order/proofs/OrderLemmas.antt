@@ -2,7 +2,7 @@
 use Rattle.std.proofs.Common.{◌≡◌, ℕ, ◌<◌, ◌⊎◌, ◌↔◌, ◌||◌, Bool, true, false, if◌then◌else◌, IsTrue, List, length, slice_get, Option, Some, None, option_and_then, refl, sym, ap, ◌∙◌, subst, inl, inr, arith}
 use Rattle.std.specs.List.{filter_map}
 use Rattle.std.specs.Option.{option_map_or}
-use Rattle.std.specs.HashMap.{HashMap}
+use Rattle.object_order.specs.declared.rows.SpotRows.{SpotRows}
 use Rattle.std.proofs.lemmas.Option.{slice_get_within}
 use Rattle.go_tree.specs.Spells.{Among}
 use Rattle.go_tree.specs.declared.tree.NodeRef.{NodeRef}
@@ -47,7 +47,7 @@ needed_of o c = record { object = o; cyclic = c }
 some_is : {X : Type 0} (a b : X) → Some a ≡ Some b → a ≡ b
 some_is a b e = cc
 
-module _ {S : Type 0} (moves : Spot → List Spot) (seeds found : List Spot) (numbers : HashMap (ℕ × ℕ) ℕ S) (rows : List (List ℕ)) (is_object : NodeRef → Type 0)
+module _ (moves : Spot → List Spot) (seeds found : List Spot) (numbers : SpotRows) (rows : List (List ℕ)) (is_object : NodeRef → Type 0)
     (is : IsExplored moves seeds found numbers rows) (are : AreSeeds moves seeds is_object)
     (order : List vertex.Needed) (flags : List Bool) (full : graphs.IsFullOrder (graphs.Needs rows) (length rows) order) (flagged : AreFlags order flags) where
   -- what a vertex gives that is picked

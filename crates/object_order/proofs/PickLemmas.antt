@@ -1,7 +1,7 @@
 -- What is picked from a list keeps its order.
 use Rattle.std.proofs.Common.{◌≡◌, ℕ, zero, suc, ◌<◌, ◌⊎◌, List, [], ◌∷◌, slice_get, Option, Some, None, refl, ap, ◌∙◌, subst, inl, inr, arith}
 use Rattle.std.specs.List.{filter_map, cons_option}
-use Rattle.object_order.proofs.SpotLemmas.{same_some}
+use Rattle.gv_base.proofs.Lists.{same_some}
 
 no_item : {X : Type 0} (k : ℕ) (x : X) → slice_get [] k ≡ Some x → ⊥
 no_item k x e = cc

@@ -1,14 +1,15 @@
 -- The spots that a search finds, and the graph over their numbers.
 use Rattle.std.proofs.Common.{◌≡◌, ℕ, zero, suc, ◌+◌, ◌<◌, ◌≤◌, ◌⊎◌, Bool, true, false, if◌then◌else◌, List, [], ◌∷◌, ◌++◌, map, take, length, slice_get, Option, Some, None, refl, sym, ap, ◌∙◌, subst, inl, inr, arith, append_assoc, length-append}
-use Rattle.std.specs.HashMap.{HashMap}
-use Rattle.std.specs.Map.{lookup}
+use Rattle.object_order.specs.declared.rows.SpotRows.{SpotRows}
 use Rattle.std.proofs.lemmas.List.{append-nil}
 use Rattle.std.proofs.lemmas.Option.{slice_get_within, slice_get-get_or}
 use Rattle.go_tree.specs.Spells.{Among}
 use Rattle.object_order.specs.declared.spot.Spot.{Spot}
-use Rattle.object_order.specs.Views.{number_in, same_key}
+use Rattle.object_order.specs.Views.{same_key}
+use Rattle.object_order.specs.SpotRows.{kept_in}
 use Rattle.object_order.specs.Searches.{key_of, IsKept, AreNumbered, Finds, IsRowOf, IsUnderWay, IsExplored, AddsRow}
-use Rattle.object_order.proofs.SpotLemmas.{same_some, one_key, key_parts, key_itself, get_left, at_end, push_cases, among_left, among_right}
+use Rattle.object_order.proofs.SpotLemmas.{one_key, key_parts, key_itself, among_left, among_right}
+use Rattle.gv_base.proofs.Lists.{at_end, get_left, push_cases, same_some}
 
 cases_of : (b : Bool) → (b ≡ true) ⊎ (b ≡ false)
 cases_of true = inl refl
@@ -16,22 +17,19 @@ cases_of false = inr refl
 
 -- ---- one spot
 
-pub numbered_none : {S : Type 0} (numbers : HashMap (ℕ × ℕ) ℕ S) (found : List Spot) → numbers.entries ≡ [] → found ≡ [] → AreNumbered numbers found
-numbered_none numbers found bare empty = record {
+pub numbered_none : (numbers : SpotRows) (found : List Spot) → ((q : ℕ × ℕ) → kept_in numbers q ≡ None) → found ≡ [] → AreNumbered numbers found
+numbered_none numbers found none empty = record {
   few = (let e : length found ≡ 0 = ap (λ (x : List Spot). length x) empty in omega arith);
   there = λ i s is. absurd (nothing i s is);
   back = λ i s is. absurd (no_number i (sym (none (key_of s)) ∙ is));
 } where
-  none : (q : ℕ × ℕ) → number_in numbers q ≡ None
-  none q = ap (λ (es : List ((ℕ × ℕ) × ℕ)). lookup (same_key q) es) bare
-
   nothing : (i : ℕ) (s : Spot) → slice_get found i ≡ Some s → ⊥
   nothing i s is = let e : slice_get [] i ≡ Some s = ap (λ (x : List Spot). slice_get x i) (sym empty) ∙ is in cc
 
   no_number : (i : ℕ) → None ≡ Some i → ⊥
   no_number i e = cc
 
-pub finds_itself : {S : Type 0} (numbers : HashMap (ℕ × ℕ) ℕ S) (found : List Spot) (these : List Spot) → AreNumbered numbers found → Finds numbers found found these
+pub finds_itself : (numbers : SpotRows) (found : List Spot) (these : List Spot) → AreNumbered numbers found → Finds numbers found found these
 finds_itself numbers found these are = record { more = []; grown = sym (append-nil found); numbered = are; from = λ i s is. inl is }
 
 kept_here : (a b : Option ℕ) (n : ℕ) (d : Bool) → d ≡ true → b ≡ (if d then Some n else a) → b ≡ Some n
@@ -45,41 +43,41 @@ kept_there a b n false e is = is
 none_some : (i : ℕ) → None ≡ Some i → ⊥
 none_some i e = cc
 
-pub numbered_more : {S : Type 0} (old new : HashMap (ℕ × ℕ) ℕ S) (found : List Spot) (s : Spot) (n : ℕ)
-    → AreNumbered old found → number_in old (key_of s) ≡ None → n ≡ length found → length found < 4294967295 → IsKept old new (key_of s) n
+pub numbered_more : (old new : SpotRows) (found : List Spot) (s : Spot) (n : ℕ)
+    → AreNumbered old found → kept_in old (key_of s) ≡ None → n ≡ length found → length found < 4294967295 → IsKept (kept_in old) (kept_in new) (key_of s) n
     → AreNumbered new (found ++ s ∷ [])
 numbered_more old new found s n are fresh count few kept = record {
   few = (let e = length-append found (s ∷ []) in omega arith);
-  there = λ i t is. elim (push_cases found s i t is) [
+  there = λ i t is. elim (push_cases found s t i is) [
     | inl before ↦ old_there i t before
-    | inr (last, same) ↦ ap (λ (x : Spot). number_in new (key_of x)) (sym same) ∙ (here ∙ ap (λ x. Some x) (count ∙ sym last))
+    | inr (last, same) ↦ ap (λ (x : Spot). kept_in new (key_of x)) (sym same) ∙ (here ∙ ap (λ x. Some x) (count ∙ sym last))
   ];
   back = λ i t is. elim (cases_of (same_key (key_of s) (key_of t))) [
     | inl same ↦ (let one : s ≡ t = one_key s t (key_parts (key_of s) (key_of t) same) in
-        let value : number_in new (key_of t) ≡ Some n = kept_here (number_in old (key_of t)) (number_in new (key_of t)) n (same_key (key_of s) (key_of t)) same (kept (key_of t)) in
-        let i_is : n ≡ i = same_some (number_in new (key_of t)) n i value is in
+        let value : kept_in new (key_of t) ≡ Some n = kept_here (kept_in old (key_of t)) (kept_in new (key_of t)) n (same_key (key_of s) (key_of t)) same (kept (key_of t)) in
+        let i_is : n ≡ i = same_some (kept_in new (key_of t)) n i value is in
         ap (λ x. slice_get (found ++ s ∷ []) x) (sym i_is ∙ count) ∙ (at_end found s ∙ ap (λ x. Some x) one))
-    | inr apart ↦ get_left found (s ∷ []) i t (are.back i t (sym (kept_there (number_in old (key_of t)) (number_in new (key_of t)) n (same_key (key_of s) (key_of t)) apart (kept (key_of t))) ∙ is))
+    | inr apart ↦ get_left found (s ∷ []) i t (are.back i t (sym (kept_there (kept_in old (key_of t)) (kept_in new (key_of t)) n (same_key (key_of s) (key_of t)) apart (kept (key_of t))) ∙ is))
   ];
 } where
-  here : number_in new (key_of s) ≡ Some n
-  here = kept_here (number_in old (key_of s)) (number_in new (key_of s)) n (same_key (key_of s) (key_of s)) (key_itself (key_of s)) (kept (key_of s))
+  here : kept_in new (key_of s) ≡ Some n
+  here = kept_here (kept_in old (key_of s)) (kept_in new (key_of s)) n (same_key (key_of s) (key_of s)) (key_itself (key_of s)) (kept (key_of s))
 
-  old_there : (i : ℕ) (t : Spot) → slice_get found i ≡ Some t → number_in new (key_of t) ≡ Some i
+  old_there : (i : ℕ) (t : Spot) → slice_get found i ≡ Some t → kept_in new (key_of t) ≡ Some i
   old_there i t is = elim (cases_of (same_key (key_of s) (key_of t))) [
-    | inl same ↦ absurd (none_some i (sym fresh ∙ (ap (λ x. number_in old x) (key_parts (key_of s) (key_of t) same) ∙ are.there i t is)))
-    | inr apart ↦ kept_there (number_in old (key_of t)) (number_in new (key_of t)) n (same_key (key_of s) (key_of t)) apart (kept (key_of t)) ∙ are.there i t is
+    | inl same ↦ absurd (none_some i (sym fresh ∙ (ap (λ x. kept_in old x) (key_parts (key_of s) (key_of t) same) ∙ are.there i t is)))
+    | inr apart ↦ kept_there (kept_in old (key_of t)) (kept_in new (key_of t)) n (same_key (key_of s) (key_of t)) apart (kept (key_of t)) ∙ are.there i t is
   ]
 
-pub finds_new : {S : Type 0} (old new : HashMap (ℕ × ℕ) ℕ S) (found now : List Spot) (s : Spot) (key : ℕ × ℕ) (n : ℕ)
-    → AreNumbered old found → number_in old (key_of s) ≡ None → n ≡ length found → length found < 4294967295 → key ≡ key_of s → IsKept old new key n → now ≡ found ++ s ∷ []
+pub finds_new : (old new : SpotRows) (found now : List Spot) (s : Spot) (key : ℕ × ℕ) (n : ℕ)
+    → AreNumbered old found → kept_in old (key_of s) ≡ None → n ≡ length found → length found < 4294967295 → key ≡ key_of s → IsKept (kept_in old) (kept_in new) key n → now ≡ found ++ s ∷ []
     → Finds new found now (s ∷ [])
 finds_new old new found now s key n are fresh count few key_is kept pushed = record {
   more = s ∷ [];
   grown = pushed;
   numbered = subst (λ (x : List Spot). AreNumbered new x) (sym pushed)
-      (numbered_more old new found s n are fresh count few (subst (λ (x : ℕ × ℕ). IsKept old new x n) key_is kept));
-  from = λ i t is. elim (push_cases found s i t (subst (λ (x : List Spot). slice_get x i ≡ Some t) pushed is)) [
+      (numbered_more old new found s n are fresh count few (subst (λ (x : ℕ × ℕ). IsKept (kept_in old) (kept_in new) x n) key_is kept));
+  from = λ i t is. elim (push_cases found s t i (subst (λ (x : List Spot). slice_get x i ≡ Some t) pushed is)) [
     | inl before ↦ inl before
     | inr (last, same) ↦ inr (inl same)
   ];
@@ -88,8 +86,8 @@ finds_new old new found now s key n are fresh count few key_is kept pushed = rec
 pub new_there : (found now : List Spot) (s : Spot) (n : ℕ) → n ≡ length found → now ≡ found ++ s ∷ [] → slice_get now n ≡ Some s
 new_there found now s n count pushed = ap (λ (x : List Spot). slice_get x n) pushed ∙ (ap (λ x. slice_get (found ++ s ∷ []) x) count ∙ at_end found s)
 
-pub known_there : {S : Type 0} (numbers : HashMap (ℕ × ℕ) ℕ S) (found : List Spot) (s : Spot) (key : ℕ × ℕ) (n : ℕ) → AreNumbered numbers found → key ≡ key_of s → Some n ≡ number_in numbers key → slice_get found n ≡ Some s
-known_there numbers found s key n are key_is is = are.back n s (ap (λ x. number_in numbers x) (sym key_is) ∙ sym is)
+pub known_there : (numbers : SpotRows) (found : List Spot) (s : Spot) (key : ℕ × ℕ) (n : ℕ) → AreNumbered numbers found → key ≡ key_of s → Some n ≡ kept_in numbers key → slice_get found n ≡ Some s
+known_there numbers found s key n are key_is is = are.back n s (ap (λ x. kept_in numbers x) (sym key_is) ∙ sym is)
 
 -- ---- a row
 
@@ -127,7 +125,7 @@ row_push found (j ∷ row) (t ∷ these) n s is at =
     (head_is (slice_get found j) (Some t) (map (λ x. slice_get found x) row) (map (λ (x : Spot). Some x) these) is)
     (row_push found row these n s (tail_is (slice_get found j) (Some t) (map (λ x. slice_get found x) row) (map (λ (x : Spot). Some x) these) is) at)
 
-pub finds_more : {S T : Type 0} (mid_numbers : HashMap (ℕ × ℕ) ℕ S) (new_numbers : HashMap (ℕ × ℕ) ℕ T) (old mid new front these : List Spot) (s : Spot)
+pub finds_more : (mid_numbers : SpotRows) (new_numbers : SpotRows) (old mid new front these : List Spot) (s : Spot)
     → Finds mid_numbers old mid front → Finds new_numbers mid new (s ∷ []) → these ≡ front ++ s ∷ [] → Finds new_numbers old new these
 finds_more mid_numbers new_numbers old mid new front these s one more are = record {
   more = one.more ++ more.more;
@@ -142,7 +140,7 @@ finds_more mid_numbers new_numbers old mid new front these s one more are = reco
   ]);
 }
 
-pub row_more : {S : Type 0} (numbers : HashMap (ℕ × ℕ) ℕ S) (mid new : List Spot) (row now : List ℕ) (front these : List Spot) (n : ℕ) (s : Spot)
+pub row_more : (numbers : SpotRows) (mid new : List Spot) (row now : List ℕ) (front these : List Spot) (n : ℕ) (s : Spot)
     → Finds numbers mid new (s ∷ []) → IsRowOf mid row front → slice_get new n ≡ Some s → now ≡ row ++ n ∷ [] → these ≡ front ++ s ∷ [] → IsRowOf new now these
 row_more numbers mid new row now front these n s finds is at pushed are =
     subst (λ (x : List ℕ). IsRowOf new x these) (sym pushed)
@@ -165,7 +163,7 @@ take_at (y ∷ xs) (suc i) x at = (let e : suc i + 1 ≡ suc (i + 1) = omega ari
 pub row_whole : (found : List Spot) (row : List ℕ) (these : List Spot) (i : ℕ) → length these ≤ i → IsRowOf found row (take i these) → IsRowOf found row these
 row_whole found row these i end is = subst (λ (x : List Spot). IsRowOf found row x) (take_whole these i end) is
 
-pub finds_same : {S : Type 0} (numbers : HashMap (ℕ × ℕ) ℕ S) (old new next these : List Spot) → Finds numbers old new next → next ≡ these → Finds numbers old new these
+pub finds_same : (numbers : SpotRows) (old new next these : List Spot) → Finds numbers old new next → next ≡ these → Finds numbers old new these
 finds_same numbers old new next these finds same = subst (λ (x : List Spot). Finds numbers old new x) same finds
 
 pub adds_row : (found these next : List Spot) (rows longer : List (List ℕ)) (row given : List ℕ) → next ≡ these → given ≡ row → longer ≡ rows ++ given ∷ [] → IsRowOf found row next → AddsRow found these rows longer
@@ -190,7 +188,7 @@ row_from found (j ∷ row) (t ∷ these) i is (inr among) =
 
 -- ---- the whole search
 
-pub way_begins : {S : Type 0} (moves : Spot → List Spot) (numbers : HashMap (ℕ × ℕ) ℕ S) (seeds found : List Spot) (row : List ℕ) (rows : List (List ℕ)) → Finds numbers [] found seeds
+pub way_begins : (moves : Spot → List Spot) (numbers : SpotRows) (seeds found : List Spot) (row : List ℕ) (rows : List (List ℕ)) → Finds numbers [] found seeds
     → IsRowOf found row seeds → rows ≡ [] → IsUnderWay moves seeds found rows
 way_begins moves numbers seeds found row rows finds is none = record {
   shown = λ i s r at there. absurd (nothing i r (ap (λ (x : List (List ℕ)). slice_get x i) (sym none) ∙ there));
@@ -200,11 +198,11 @@ way_begins moves numbers seeds found row rows finds is none = record {
   nothing : {X : Type 0} (i : ℕ) (r : X) → slice_get [] i ≡ Some r → ⊥
   nothing i r e = cc
 
-pub way_on : {S : Type 0} (moves : Spot → List Spot) (numbers : HashMap (ℕ × ℕ) ℕ S) (seeds found new : List Spot) (row : List ℕ) (rows longer : List (List ℕ)) (s : Spot)
+pub way_on : (moves : Spot → List Spot) (numbers : SpotRows) (seeds found new : List Spot) (row : List ℕ) (rows longer : List (List ℕ)) (s : Spot)
     → IsUnderWay moves seeds found rows → length rows < length found → slice_get found (length rows) ≡ Some s → Finds numbers found new (moves s) → longer ≡ rows ++ row ∷ []
     → IsRowOf new row (moves s) → IsUnderWay moves seeds new longer
 way_on moves numbers seeds found new row rows longer s was low here finds pushed is = record {
-  shown = λ i t r at there. elim (push_cases rows row i r (subst (λ (x : List (List ℕ)). slice_get x i ≡ Some r) pushed there)) [
+  shown = λ i t r at there. elim (push_cases rows row r i (subst (λ (x : List (List ℕ)). slice_get x i ≡ Some r) pushed there)) [
     | inl before ↦ (let h = slice_get_within rows i r before in let under : i < length found = omega arith in
         let old : slice_get found i ≡ Some t = found_before i t under at in
         row_grown found finds.more new r (moves t) finds.grown (was.shown i t r old before))
@@ -219,18 +217,18 @@ way_on moves numbers seeds found new row rows longer s was low here finds pushed
       let here = slice_get-get_or found i t under in
       here ∙ sym (still_there found finds.more new i _ finds.grown here) ∙ at
 
-pub explored : {S : Type 0} (moves : Spot → List Spot) (numbers : HashMap (ℕ × ℕ) ℕ S) (seeds found : List Spot) (rows : List (List ℕ)) (done : ℕ)
+pub explored : (moves : Spot → List Spot) (numbers : SpotRows) (seeds found : List Spot) (rows : List (List ℕ)) (done : ℕ)
     → IsUnderWay moves seeds found rows → AreNumbered numbers found → length rows ≡ done → done ≤ length found → length found ≤ done → IsExplored moves seeds found numbers rows
 explored moves numbers seeds found rows done way are count low high = record { size = omega arith; numbered = are; way = way }
 
 -- The search is under way: it has gone on from the first few of the spots that it has found.
-pub record Goes {S : Type 0} (moves : Spot → List Spot) (seeds found : List Spot) (numbers : HashMap (ℕ × ℕ) ℕ S) (rows : List (List ℕ)) (done : ℕ) : Type 0 where
+pub record Goes (moves : Spot → List Spot) (seeds found : List Spot) (numbers : SpotRows) (rows : List (List ℕ)) (done : ℕ) : Type 0 where
   pub way : IsUnderWay moves seeds found rows
   pub numbered : AreNumbered numbers found
   pub count : length rows ≡ done
   pub low : done ≤ length found
 
-pub goes_first : {S : Type 0} (moves : Spot → List Spot) (seeds found none : List Spot) (numbers : HashMap (ℕ × ℕ) ℕ S) (row : List ℕ) (rows : List (List ℕ)) → none ≡ []
+pub goes_first : (moves : Spot → List Spot) (seeds found none : List Spot) (numbers : SpotRows) (row : List ℕ) (rows : List (List ℕ)) → none ≡ []
     → Finds numbers none found seeds → IsRowOf found row seeds → rows ≡ [] → Goes moves seeds found numbers rows 0
 goes_first moves seeds found none numbers row rows empty finds is no_rows = record {
   way = way_begins moves numbers seeds found row rows (subst (λ (x : List Spot). Finds numbers x found seeds) empty finds) is no_rows;
@@ -239,7 +237,7 @@ goes_first moves seeds found none numbers row rows empty finds is no_rows = reco
   low = omega arith;
 }
 
-pub goes_on : {S T : Type 0} (moves : Spot → List Spot) (seeds found new : List Spot) (numbers : HashMap (ℕ × ℕ) ℕ S) (more : HashMap (ℕ × ℕ) ℕ T) (rows longer : List (List ℕ)) (done : ℕ) (s : Spot)
+pub goes_on : (moves : Spot → List Spot) (seeds found new : List Spot) (numbers : SpotRows) (more : SpotRows) (rows longer : List (List ℕ)) (done : ℕ) (s : Spot)
     → Goes moves seeds found numbers rows done → done < length found → slice_get found done ≡ Some s → Finds more found new (moves s) → AddsRow new (moves s) rows longer
     → Goes moves seeds new more longer (done + 1)
 goes_on moves seeds found new numbers more rows longer done s was less here finds (row, pushed, is) = record {
@@ -249,6 +247,6 @@ goes_on moves seeds found new numbers more rows longer done s was less here find
   low = (let e = ap (λ (x : List Spot). length x) finds.grown in let f = length-append found finds.more in omega arith);
 }
 
-pub goes_all : {S : Type 0} (moves : Spot → List Spot) (seeds found : List Spot) (numbers : HashMap (ℕ × ℕ) ℕ S) (rows : List (List ℕ)) (done : ℕ)
+pub goes_all : (moves : Spot → List Spot) (seeds found : List Spot) (numbers : SpotRows) (rows : List (List ℕ)) (done : ℕ)
     → Goes moves seeds found numbers rows done → length found ≤ done → IsExplored moves seeds found numbers rows
 goes_all moves seeds found numbers rows done was end = explored moves numbers seeds found rows done was.way was.numbered was.count was.low end

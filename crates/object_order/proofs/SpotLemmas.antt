@@ -10,9 +10,7 @@ use Rattle.object_order.specs.declared.spot.Spot.{Spot}
 use Rattle.object_order.specs.Spots.{place, spot}
 use Rattle.object_order.specs.Views.{same_key}
 use Rattle.object_order.specs.Searches.{code, key_of}
-
-pub same_some : {X : Type 0} (o : Option X) (a b : X) → o ≡ Some a → o ≡ Some b → a ≡ b
-same_some o a b p q = cc
+use Rattle.gv_base.proofs.Lists.{same_some}
 
 -- ---- keys
 
@@ -82,21 +80,6 @@ pub key_itself : (a : ℕ × ℕ) → same_key a a ≡ true
 key_itself a = ap (λ x. x && nat_eq a.1 a.1) (eq-eqb a.0 a.0 refl) ∙ eq-eqb a.1 a.1 refl
 
 -- ---- places in lists
-
-pub get_left : {X : Type 0} (xs ys : List X) (k : ℕ) (v : X) → slice_get xs k ≡ Some v → slice_get (xs ++ ys) k ≡ Some v
-get_left [] ys k v is = absurd (cc)
-get_left (x ∷ xs) ys zero v is = is
-get_left (x ∷ xs) ys (suc k) v is = get_left xs ys k v is
-
-pub at_end : {X : Type 0} (xs : List X) (x : X) → slice_get (xs ++ x ∷ []) (length xs) ≡ Some x
-at_end [] x = refl
-at_end (y ∷ xs) x = at_end xs x
-
-pub push_cases : {X : Type 0} (xs : List X) (x : X) (p : ℕ) (v : X) → slice_get (xs ++ x ∷ []) p ≡ Some v → (slice_get xs p ≡ Some v) ⊎ ((p ≡ length xs) × (x ≡ v))
-push_cases [] x zero v e = inr (refl, same_some (Some x) x v refl e)
-push_cases [] x (suc p) v e = absurd (let h = slice_get_within (x ∷ []) (suc p) v e in omega arith)
-push_cases (y ∷ xs) x zero v e = inl e
-push_cases (y ∷ xs) x (suc p) v e = elim (push_cases xs x p v e) [ inl old ↦ inl old | inr (q, same) ↦ inr ((omega arith), same) ]
 
 pub among_left : {X : Type 0} (x : X) (xs ys : List X) → Among x xs → Among x (xs ++ ys)
 among_left x [] ys h = absurd h

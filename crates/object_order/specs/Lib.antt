@@ -2,6 +2,7 @@ pub mod Paths
 pub mod Spots
 pub mod Views
 pub mod Searches
+pub mod SpotRows
 pub mod Orders
 pub mod Picks
 pub mod Names

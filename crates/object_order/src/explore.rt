@@ -1,22 +1,23 @@
 //! The graph of all spots that a search finds.
 ghost use Rattle.std.specs.Prelude.{◌≡◌, ◌<◌, ◌∷◌, ◌^◌, [], IfOk, OnOk, slice_get, Some, None, length};
 ghost use Rattle.object_order.specs.Spots.{moves as moves_of};
-ghost use Rattle.object_order.specs.Views.{world_of, number_in};
-ghost use Rattle.object_order.specs.Searches.{code, key_of, AreNumbered, Finds, IsRowOf, IsExplored, IsKept, AddsRow};
+ghost use Rattle.object_order.specs.Views.{world_of};
+ghost use Rattle.object_order.specs.SpotRows.{kept_in};
+ghost use Rattle.object_order.specs.Searches.{code, key_of, AreNumbered, Finds, IsRowOf, IsExplored, AddsRow};
 
 use crate::moves::moves;
+use crate::rows::{SpotRows, find, keep};
 use crate::spot::{Mode, Spot};
-use crate::view::{View, find};
+use crate::view::View;
 use gv_base::NoMemory;
 use need_order::Graph;
 use std::alloc::Global;
-use std::collections::HashMap;
 
 /// The spots that are found, the number of each, and a graph with a row for each.
 #[derive(Drop)]
 pub struct Explored {
     pub found: Vec<Spot>,
-    pub numbers: HashMap<(usize, usize), u32>,
+    pub numbers: SpotRows,
     pub graph: Graph,
 }
 
@@ -47,18 +48,6 @@ pub fn key(spot: Spot) -> (usize, usize)
     (spot.at.file as usize, spot.at.node as usize * 12 + mode)
 }
 
-/// Keeps a number under a key.
-pub fn keep(
-    numbers: &mut HashMap<(usize, usize), u32>,
-    key: (usize, usize),
-    number: u32,
-) -> Result<(), NoMemory>
-    ensures { OnOk result (IsKept numbers.old numbers.new key number) }
-{
-    numbers.insert(key, number)?;
-    Ok(())
-}
-
 /// How many spots have been found.
 fn height(found: &Vec<Spot>) -> usize
     ensures value { result ≡ length found.now.items }
@@ -68,13 +57,9 @@ fn height(found: &Vec<Spot>) -> usize
 }
 
 /// Adds a spot that hasn't been found.
-fn add_new(
-    spot: Spot,
-    numbers: &mut HashMap<(usize, usize), u32>,
-    found: &mut Vec<Spot>,
-) -> Result<u32, NoMemory>
+fn add_new(spot: Spot, numbers: &mut SpotRows, found: &mut Vec<Spot>) -> Result<u32, NoMemory>
     requires are { AreNumbered numbers.old found.old.items }
-    requires fresh { number_in numbers.old (key_of spot) ≡ None }
+    requires fresh { kept_in numbers.old (key_of spot) ≡ None }
     requires few { length found.old.items < 4294967295 }
     ensures finds { OnOk result (Finds numbers.new found.old.items found.new.items (spot ∷ [])) }
     ensures number { IfOk result (λ n. slice_get found.new.items n ≡ Some spot) }
@@ -88,11 +73,7 @@ fn add_new(
 }
 
 /// The number of a spot, which is found where it wasn't.
-fn number(
-    spot: Spot,
-    numbers: &mut HashMap<(usize, usize), u32>,
-    found: &mut Vec<Spot>,
-) -> Result<u32, NoMemory>
+fn number(spot: Spot, numbers: &mut SpotRows, found: &mut Vec<Spot>) -> Result<u32, NoMemory>
     requires { AreNumbered numbers.old found.old.items }
     ensures finds { OnOk result (Finds numbers.new found.old.items found.new.items (spot ∷ [])) }
     ensures number { IfOk result (λ n. slice_get found.new.items n ≡ Some spot) }
@@ -114,7 +95,7 @@ fn number(
 fn row_of(
     alloc: Global,
     these: &Vec<Spot>,
-    numbers: &mut HashMap<(usize, usize), u32>,
+    numbers: &mut SpotRows,
     found: &mut Vec<Spot>,
 ) -> Result<Vec<u32>, NoMemory>
     requires { AreNumbered numbers.old found.old.items }
@@ -144,7 +125,7 @@ fn add_row(
     alloc: Global,
     view: &View,
     spot: Spot,
-    numbers: &mut HashMap<(usize, usize), u32>,
+    numbers: &mut SpotRows,
     found: &mut Vec<Spot>,
     graph: Graph,
 ) -> Result<Graph, NoMemory>
@@ -162,7 +143,7 @@ fn add_row(
 pub fn explore(alloc: Global, view: &View, seeds: &Vec<Spot>) -> Result<Explored, NoMemory>
     ensures { IfOk result (λ e. IsExplored (moves_of (world_of view.now)) seeds.now.items e.found.items e.numbers e.graph) }
 {
-    let mut numbers = HashMap::new(alloc);
+    let mut numbers = SpotRows::new(alloc, view.trees)?;
     let mut found = Vec::new(alloc);
     let first = row_of(alloc, seeds, &mut numbers, &mut found)?;
     let mut graph = Graph::new(alloc)?;

@@ -8,6 +8,7 @@ mod needed;
 mod number;
 mod order;
 mod pick;
+mod rows;
 mod seeds;
 mod spot;
 mod tables;

@@ -6,8 +6,8 @@ ghost use Rattle.object_order.specs.Views.{world_of};
 
 use crate::spot::{Entry, Mode, Spot};
 use crate::tables::{lay_crossing, lay_descent, lay_entry, lay_kin};
-use crate::view::{View, entry_at, kin_at, meant_at, node_at};
-use go_tree::{Node, NodeRef};
+use crate::view::{View, entry_at, kin_at, meant_at};
+use go_tree::{Node, NodeRef, node_in};
 use gv_base::NoMemory;
 use std::alloc::Global;
 
@@ -33,7 +33,7 @@ fn go_down(
         node: part,
     };
     let first = part == first_of(node);
-    if let Some(inner) = node_at(view.trees, at) {
+    if let Some(inner) = node_in(view.trees, at) {
         lay_descent(row, spot.mode, node.kind, first, inner.kind, at)?;
     }
     Ok(())
@@ -52,7 +52,7 @@ fn go_into_parts(view: &View, spot: Spot, node: &Node, row: &mut Vec<Spot>) -> R
 fn go_into(view: &View, spot: Spot, row: &mut Vec<Spot>) -> Result<(), NoMemory>
     ensures { OnOk result (row.new.items ≡ row.old.items ++ into (world_of view.now) spot) }
 {
-    if let Some(node) = node_at(view.trees, spot.at) {
+    if let Some(node) = node_in(view.trees, spot.at) {
         go_into_parts(view, spot, node, row)?;
     }
     Ok(())

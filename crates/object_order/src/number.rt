@@ -2,8 +2,8 @@
 ghost use Rattle.std.specs.Prelude.{◌≡◌, ℕ, ◌<◌, ◌^◌, IfOk, OnOk, Some, length, slice_get, unwrap_or, if◌then◌else◌};
 ghost use Rattle.object_order.specs.Views.{number_in, same_key};
 ghost use Rattle.object_order.specs.Names.{AreNamed, AddsName, IsKeyAt};
+ghost use Rattle.object_order.specs.Searches.{IsKept};
 
-use crate::explore::keep;
 use crate::spot::Entry;
 use crate::view::find;
 use gv_base::NoMemory;
@@ -22,6 +22,18 @@ fn name_key(entries: &Vec<Entry>, k: usize) -> (usize, usize)
 {
     let name = entries[k].name;
     (name.file as usize, name.node as usize)
+}
+
+/// Keeps a number under a key.
+fn keep(
+    numbers: &mut HashMap<(usize, usize), u32>,
+    key: (usize, usize),
+    number: u32,
+) -> Result<(), NoMemory>
+    ensures { OnOk result (IsKept (number_in numbers.old) (number_in numbers.new) key number) }
+{
+    numbers.insert(key, number)?;
+    Ok(())
 }
 
 /// Keeps a number under a key that has none.

@@ -8,13 +8,12 @@ ghost use Rattle.object_order.specs.Picks.{AreFlags, flag_in, turn_of, picked_sp
 
 use crate::explore::{Explored, key};
 use crate::needed::Needed;
+use crate::rows::{SpotRows, find};
 use crate::spot::{Mode, Spot};
-use crate::view::find;
 use go_tree::NodeRef;
 use gv_base::NoMemory;
 use need_order::full_order;
 use std::alloc::Global;
-use std::collections::HashMap;
 
 fn no_flags(alloc: Global, count: usize) -> Result<Vec<bool>, NoMemory>
     ensures { IfOk result (λ flags. length flags.items ≡ count) }
@@ -78,7 +77,7 @@ fn flag_at(flags: &Vec<bool>, number: u32) -> bool
 }
 
 /// Whether the spot of a type's steps is marked.
-fn turns(numbers: &HashMap<(usize, usize), u32>, flags: &Vec<bool>, at: NodeRef) -> bool
+fn turns(numbers: &SpotRows, flags: &Vec<bool>, at: NodeRef) -> bool
     ensures { result ≡ turn_of numbers.now flags.now.items at }
 {
     let steps = key(Spot {
@@ -106,12 +105,7 @@ fn either(a: bool, b: bool) -> bool
     a || b
 }
 
-fn pick_spot(
-    numbers: &HashMap<(usize, usize), u32>,
-    flags: &Vec<bool>,
-    cyclic: bool,
-    spot: Spot,
-) -> Option<Needed>
+fn pick_spot(numbers: &SpotRows, flags: &Vec<bool>, cyclic: bool, spot: Spot) -> Option<Needed>
     ensures { result ≡ picked_spot numbers.now flags.now.items cyclic spot }
 {
     if is_object(spot.mode) {
@@ -133,7 +127,7 @@ fn spot_at(found: &Vec<Spot>, vertex: u32) -> Option<Spot>
 /// The object of a vertex that is one.
 fn pick(
     found: &Vec<Spot>,
-    numbers: &HashMap<(usize, usize), u32>,
+    numbers: &SpotRows,
     flags: &Vec<bool>,
     item: need_order::Needed,
 ) -> Option<Needed>
@@ -158,7 +152,7 @@ fn put(list: &mut Vec<Needed>, one: Option<Needed>) -> Result<(), NoMemory>
 fn pick_all(
     alloc: Global,
     found: &Vec<Spot>,
-    numbers: &HashMap<(usize, usize), u32>,
+    numbers: &SpotRows,
     flags: &Vec<bool>,
     order: &Vec<need_order::Needed>,
 ) -> Result<Vec<Needed>, NoMemory>

@@ -1,10 +1,10 @@
 //! What is read of a package: its trees, what its uses denote, and its declarations.
 ghost use Rattle.std.specs.Prelude.{◌≡◌, slice_get, option_and_then};
 ghost use Rattle.std.specs.Option.{option_copied};
-ghost use Rattle.object_order.specs.Views.{node_in, number_in, entry_in, itself, meant_in, group_in, kin_in};
+ghost use Rattle.object_order.specs.Views.{number_in, entry_in, itself, meant_in, group_in, kin_in};
 
 use crate::spot::Entry;
-use go_tree::{FileTree, Node, NodeRef};
+use go_tree::{FileTree, NodeRef};
 use std::collections::HashMap;
 
 /// A package's trees, what its nodes mention, its declarations, and the number of each by its name's file and node.
@@ -18,22 +18,6 @@ pub struct View<'a> {
     pub numbers: HashMap<(usize, usize), u32>,
     /// For each declaration the methods and aliases that name it as theirs.
     pub groups: Vec<Vec<NodeRef>>,
-}
-
-fn tree_at<'a>(trees: &'a [FileTree], file: u32) -> Option<&'a FileTree>
-    ensures { option_copied result ≡ slice_get trees.now file }
-{
-    trees.get(file as usize)
-}
-
-/// A node of a file, if it is there.
-pub fn node_at<'a>(trees: &'a [FileTree], at: NodeRef) -> Option<&'a Node>
-    ensures { option_copied result ≡ node_in trees.now at }
-{
-    match tree_at(trees, at.file) {
-        Some(tree) => tree.nodes.as_slice().get(at.node as usize),
-        None => None,
-    }
 }
 
 /// The number that is kept for a pair.

@@ -1,11 +1,13 @@
 -- A scene in which more is marked, or more types and constants stand.
-use Rattle.std.proofs.Common.{◌≡◌, ℕ, ◌<◌, ◌≤◌, List, ◌++◌, ◌∷◌, [], length, slice_get, Option, Some, None, Bool, true, false, refl, sym, ap, ◌∙◌, subst, arith, inl, inr}
+use Rattle.std.proofs.Common.{◌≡◌, ℕ, ◌<◌, ◌≤◌, List, ◌++◌, ◌∷◌, [], length, slice_get, Option, Some, None, Bool, true, false, if◌then◌else◌, refl, sym, ap, ◌∙◌, subst, arith, inl, inr}
+use Rattle.std.proofs.lemmas.Bool.{le-leb, lt-leb}
 use Rattle.gv_base.specs.declared.constant.Const.{Const}
 use Rattle.gv_base.specs.declared.constant.Kind.{Kind}
 use Rattle.gv_base.specs.declared.constant.Kind.TheVariants as k
 use Rattle.mark_walk.specs.Asks.{Adds, Stays}
 use Rattle.type_model.specs.declared.term.TypeName.{TypeName}
 use Rattle.type_model.specs.declared.term.TypeId.{TypeId}
+use Rattle.type_model.specs.declared.term.Term.{Term}
 use Rattle.type_model.specs.declared.table.TypeTable.{TypeTable}
 use Rattle.type_model.specs.declared.table.Added.{Added}
 use Rattle.type_model.specs.declared.table.Added.TheVariants.{Id, TooWide}
@@ -20,13 +22,14 @@ use Rattle.typed_marks.specs.declared.mark.ConstId.{ConstId}
 use Rattle.typed_marks.specs.declared.mark.Mark.{Mark}
 use Rattle.typed_marks.specs.declared.mark.Mark.TheVariants as m
 use Rattle.typed_marks.specs.declared.state.State.{State}
-use Rattle.typed_marks.specs.Meanings.{Meaning, Known, Right, mark_in, mark_over}
+use Rattle.typed_marks.specs.Meanings.{Meaning, Known, Right, Beyond, mark_in, mark_over}
 use Rattle.typed_marks.specs.States.{IsState, so_far, HasGrown}
 use Rattle.unit_read.specs.declared.subject.Subject.{Subject}
 use Rattle.unit_read.specs.Subjects.{unit_of}
 use Rattle.rule_words.specs.Asking.{declaration_told}
 use Rattle.rule_words.specs.Scenes.{IsScene, said, type_in}
-use Rattle.rule_words.specs.Answers.{is_plain, constant}
+use Rattle.typed_tree.specs.declared.rule.Limit.TheVariants.{WideType}
+use Rattle.rule_words.specs.Answers.{is_plain, constant, typed, mark_of}
 use Rattle.rule_words.proofs.SceneLemmas.{stays_declared, adds_declared}
 
 -- a plain mark declares nothing
@@ -121,3 +124,14 @@ added_constant s next of last id value table is constants =
     let got : slice_get next.constants.items id.0 ≡ Some value = ap (λ l. slice_get l id.0) constants ∙ ap (λ n. slice_get (s.constants.items ++ value ∷ []) n) is ∙ at_last s.constants.items value in
     ap (λ (t : TypeTable). Right (known_of Constant (type_at (types_in t) of) (slice_get next.constants.items id.0) (type_at (types_in t) last))) table
     ∙ ap (λ o. Right (known_of Constant (type_in s of) o (type_in s last))) got
+
+-- ---- a type that was added
+
+pub added_typed : (s next : State) (mode : Mode) (added : Added) (term : Term) → IsAdded s.table next.table term added → said next (mark_of mode added) ≡ typed mode (type_of (types_in s.table) term)
+added_typed s next mode (Id id) term (low, is, few) =
+    let T : GoType = type_of (types_in s.table) term in
+    ap (λ (t : GoType). Right (known_of mode t None t)) is
+    ∙ sym (ap (λ (b : Bool). if b then Right (known_of mode T None T) else Beyond WideType) (le-leb (nodes T) 10000 few))
+added_typed s next mode TooWide term (many, same) =
+    let T : GoType = type_of (types_in s.table) term in
+    sym (ap (λ (b : Bool). if b then Right (known_of mode T None T) else Beyond WideType) (lt-leb (nodes T) 10000 many))

@@ -17,18 +17,19 @@ use typed_tree::{Limit, Mode};
 use unit_read::Subject;
 
 /// Marks an item with a mark that declares no type.
-fn keep_mark(u: &Subject, s: &mut State, item: Item, mark: Mark)
+fn keep_mark(u: &Subject, s: &mut State, item: Item, mark: Mark) -> Result<(), NoMemory>
     requires scene { IsScene u.now s.old }
     requires item { IsItem s.old.blocks.items item }
     requires unmarked { so_far s.old item ≡ None }
     requires over { IsMarkOf s.old mark }
     requires plain { is_plain mark ≡ true }
-    ensures scene { IsScene u.now s.new }
-    ensures adds { Adds (so_far s.old) (so_far s.new) item (said s.old mark) }
+    ensures scene { OnOk result (IsScene u.now s.new) }
+    ensures adds { OnOk result (Adds (so_far s.old) (so_far s.new) item (said s.old mark)) }
     ensures blocks { s.new.blocks ≡ s.old.blocks }
     ensures cells { length s.new.cells.items ≡ length s.old.cells.items }
 {
-    s.keep(item, mark);
+    s.keep(item, mark)?;
+    Ok(())
 }
 
 /// The mark of a type that was added.
@@ -59,7 +60,7 @@ fn keep_type(u: &Subject, s: &mut State, item: Item, mode: Mode, term: Term) -> 
     ensures cells { OnOk result (length s.new.cells.items ≡ length s.old.cells.items) }
 {
     let added = s.add(term)?;
-    keep_mark(u, s, item, mark_of(mode, added));
+    keep_mark(u, s, item, mark_of(mode, added))?;
     Ok(())
 }
 
@@ -89,7 +90,7 @@ fn keep_constant(
         value: Some(value),
         last,
     };
-    keep_mark(u, s, item, Mark::Good(facts));
+    keep_mark(u, s, item, Mark::Good(facts))?;
     Ok(())
 }
 
@@ -106,7 +107,7 @@ pub fn keep(u: &Subject, s: &mut State, item: Item, answer: Answer) -> Result<()
 {
     match answer {
         Answer::Mark(mark) => {
-            keep_mark(u, s, item, mark);
+            keep_mark(u, s, item, mark)?;
             Ok(())
         }
         Answer::Type(mode, term) => {

@@ -11,7 +11,8 @@ use Rattle.typed_marks.specs.declared.mark.Mark.TheVariants.{Silent}
 use Rattle.typed_marks.specs.declared.item.Span.{Span}
 use Rattle.typed_marks.specs.Items.{is_item, IsItem, number_of, AreBlocks}
 use Rattle.typed_marks.specs.Meanings.{Meaning, Quiet, mark_in, IsMarkIn}
-use Rattle.typed_marks.specs.States.{cell, kept, said_over, AllNone, block_of, room, laid}
+use Rattle.typed_marks.specs.Cells.{cell, AllNone}
+use Rattle.typed_marks.specs.States.{kept, said_over, block_of, room, laid}
 use Rattle.typed_marks.proofs.NumberLemmas.{one_item, number_below}
 
 -- the first items, and one more

@@ -1,3 +1,4 @@
 pub mod NumberLemmas
 pub mod CellLemmas
+mod FilledLemmas
 pub mod TableLemmas

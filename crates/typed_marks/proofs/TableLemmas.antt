@@ -23,7 +23,8 @@ use Rattle.typed_marks.specs.declared.mark.Mark.{Mark}
 use Rattle.typed_marks.specs.declared.mark.Mark.TheVariants as m
 use Rattle.typed_marks.specs.Items.{is_item, number_of}
 use Rattle.typed_marks.specs.Meanings.{Meaning, Known, Right, Wishes, Takes, Fits, Assigned, constant_at, known_in, wish_in, declaration_of, declared, mark_in, AreWithin, IsValueWithin, IsWantWithin, IsDeclared, IsMarkIn}
-use Rattle.typed_marks.specs.States.{cell, kept, said_over}
+use Rattle.typed_marks.specs.Cells.{cell}
+use Rattle.typed_marks.specs.States.{kept, said_over}
 
 -- what is declared is declared so
 abbrev pub Grows : Declarations → Declarations → Type 0

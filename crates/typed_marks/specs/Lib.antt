@@ -1,3 +1,4 @@
+pub mod Cells
 pub mod Items
 pub mod Meanings
 pub mod States

@@ -11,12 +11,9 @@ use Rattle.typed_marks.specs.declared.item.Block.{Block}
 use Rattle.typed_marks.specs.declared.mark.Mark.{Mark}
 use Rattle.typed_marks.specs.declared.mark.Mark.TheVariants.{Silent}
 use Rattle.typed_marks.specs.declared.state.State.{State}
+use Rattle.typed_marks.specs.Cells.{cell}
 use Rattle.typed_marks.specs.Items.{is_item, number_of, AreBlocks}
 use Rattle.typed_marks.specs.Meanings.{Meaning, mark_in, IsMarkIn}
-
--- the mark at a place
-abbrev pub cell : List (Option Mark) → ℕ → Option Mark
-cell cells n = option_and_then (λ (o : Option Mark). o) (slice_get cells n)
 
 -- the mark that is kept of an item; nothing is said of what is none
 abbrev pub kept : List Block → List (Option Mark) → Item → Option Mark
@@ -37,9 +34,6 @@ pub record IsState (s : State) : Type 0 where
   pub over : (n : ℕ) (mark : Mark) → cell s.cells.items n ≡ Some mark → IsMarkIn s.table s.constants.items mark
 
 -- ---- building
-
-abbrev pub AllNone : List (Option Mark) → Type 0
-AllNone cells = (n : ℕ) → cell cells n ≡ None
 
 abbrev pub block_of : Span → ℕ → Block
 block_of span start = record { low = span.low; end = span.end; start = start }

@@ -11,8 +11,10 @@ ghost use Rattle.typed_marks.specs.declared.item.Item.{Item};
 ghost use Rattle.typed_marks.specs.declared.item.Block.{Block};
 ghost use Rattle.typed_marks.specs.Items.{IsItem, number_of as number_in_blocks, AreBlocks};
 ghost use Rattle.typed_marks.specs.Meanings.{mark_in, IsMarkIn, Declares as TypeDeclares};
-ghost use Rattle.typed_marks.specs.States.{cell, kept, so_far, IsState, AllNone, block_of, laid, room, HasGrown};
+ghost use Rattle.typed_marks.specs.Cells.{AllNone};
+ghost use Rattle.typed_marks.specs.States.{kept, so_far, IsState, block_of, laid, room, HasGrown};
 
+use crate::cells::Cells;
 use crate::item::{Block, Item, Span};
 use crate::mark::{ConstId, Mark};
 use crate::numbers::{is_item, number_of};
@@ -26,49 +28,21 @@ pub struct State {
     pub table: TypeTable,
     pub constants: Vec<Const>,
     pub blocks: Vec<Block>,
-    pub cells: Vec<Option<Mark>>,
+    pub cells: Cells,
 }
 
-fn add_one(cells: &mut Vec<Option<Mark>>) -> Result<(), NoMemory>
-    ensures length { OnOk result (length cells.new.items ≡ length cells.old.items + 1) }
-    ensures none { OnOk result (AllNone cells.old.items → AllNone cells.new.items) }
+/// How many items so many nodes have, if so many can be counted.
+fn six_times(nodes: usize) -> Result<usize, NoMemory>
+    ensures { IfOk result (λ count. count ≡ 6 * nodes) }
 {
-    cells.push(None)?;
-    Ok(())
-}
-
-/// Cells for the items of one node.
-fn add_six(cells: &mut Vec<Option<Mark>>) -> Result<(), NoMemory>
-    ensures length { OnOk result (length cells.new.items ≡ length cells.old.items + 6) }
-    ensures none { OnOk result (AllNone cells.old.items → AllNone cells.new.items) }
-{
-    add_one(cells)?;
-    add_one(cells)?;
-    add_one(cells)?;
-    add_one(cells)?;
-    add_one(cells)?;
-    add_one(cells)?;
-    Ok(())
-}
-
-/// Cells for the items of so many nodes.
-fn add_cells(cells: &mut Vec<Option<Mark>>, size: usize) -> Result<(), NoMemory>
-    ensures length { OnOk result (length cells.new.items ≡ length cells.old.items + 6 * size) }
-    ensures none { OnOk result (AllNone cells.old.items → AllNone cells.new.items) }
-{
-    for n in 0..size {
-        let _ = n;
-        add_six(cells)?;
+    match nodes.checked_mul(6) {
+        Some(count) => Ok(count),
+        None => Err(NoMemory),
     }
-    Ok(())
 }
 
 /// One block more, with cells for its items.
-fn add_block(
-    blocks: &mut Vec<Block>,
-    cells: &mut Vec<Option<Mark>>,
-    span: Span,
-) -> Result<(), NoMemory>
+fn add_block(blocks: &mut Vec<Block>, cells: &mut Cells, span: Span) -> Result<(), NoMemory>
     requires blocks { AreBlocks blocks.old.items (length cells.old.items) }
     ensures blocks { OnOk result (AreBlocks blocks.new.items (length cells.new.items)) }
     ensures block { OnOk result (blocks.new.items ≡ blocks.old.items ++ block_of span (length cells.old.items) ∷ []) }
@@ -76,7 +50,8 @@ fn add_block(
     ensures none { OnOk result (AllNone cells.old.items → AllNone cells.new.items) }
 {
     let start = cells.len();
-    add_cells(cells, span.end.saturating_sub(span.low))?;
+    let count = six_times(span.end.saturating_sub(span.low))?;
+    cells.add(count)?;
     blocks.push(Block {
         low: span.low,
         end: span.end,
@@ -101,22 +76,6 @@ fn span_at(spans: &[Span], k: usize) -> Span
     spans[k]
 }
 
-fn cell(cells: &Vec<Option<Mark>>, number: usize) -> Option<Mark>
-    ensures { result ≡ cell cells.now.items number }
-{
-    match cells.get(number) {
-        Some(cell) => *cell,
-        None => None,
-    }
-}
-
-fn put(cells: &mut Vec<Option<Mark>>, number: usize, mark: Mark)
-    requires { number < length cells.old.items }
-    ensures { cells.new.items ≡ set cells.old.items number (Some mark) }
-{
-    cells[number] = Some(mark);
-}
-
 impl State {
     /// No marks, of items in blocks of these spans.
     pub fn new(alloc: Global, table: TypeTable, spans: &[Span]) -> Result<State, NoMemory>
@@ -129,7 +88,7 @@ impl State {
         ensures unmarked { IfOk result (λ s. (i : Item) → IsItem s.blocks.items i → so_far s i ≡ None) }
     {
         let mut blocks = Vec::with_capacity(alloc, spans.len())?;
-        let mut cells = Vec::with_capacity(alloc, cells_of(spans))?;
+        let mut cells = Cells::new(alloc, cells_of(spans))?;
         for k in 0..spans.len() {
             let span = span_at(spans, k);
             add_block(&mut blocks, &mut cells, span)?;
@@ -147,7 +106,8 @@ impl State {
         ensures { result ≡ kept self.now.blocks.items self.now.cells.items item }
     {
         if is_item(&self.blocks, item) {
-            cell(&self.cells, number_of(&self.blocks, item, self.cells.len()))
+            self.cells
+                .get(number_of(&self.blocks, item, self.cells.len()))
         } else {
             Some(Mark::Silent)
         }
@@ -171,20 +131,21 @@ impl State {
     }
 
     /// Marks an item that has no mark.
-    pub fn keep(&mut self, item: Item, mark: Mark)
+    pub fn keep(&mut self, item: Item, mark: Mark) -> Result<(), NoMemory>
         requires state { IsState self.old }
         requires item { IsItem self.old.blocks.items item }
         requires unmarked { so_far self.old item ≡ None }
         requires over { IsMarkIn self.old.table self.old.constants.items mark }
-        ensures state { IsState self.new }
-        ensures adds { Adds (so_far self.old) (so_far self.new) item (mark_in self.old.table self.old.constants.items mark) }
+        ensures state { OnOk result (IsState self.new) }
+        ensures adds { OnOk result (Adds (so_far self.old) (so_far self.new) item (mark_in self.old.table self.old.constants.items mark)) }
         ensures table { self.new.table ≡ self.old.table }
         ensures constants { self.new.constants ≡ self.old.constants }
         ensures blocks { self.new.blocks ≡ self.old.blocks }
         ensures cells { length self.new.cells.items ≡ length self.old.cells.items }
     {
         let number = number_of(&self.blocks, item, self.cells.len());
-        put(&mut self.cells, number, mark);
+        self.cells.set(number, mark)?;
+        Ok(())
     }
 
     /// Adds a type to the table, unless it is there, and answers its number. The marks say what they said.
@@ -245,7 +206,7 @@ impl State {
         ensures cells { OnOk result (length self.new.cells.items ≡ length self.old.cells.items) }
     {
         self.table.declare(name, under, methods)?;
-        self.keep(item, Mark::Declared(of));
+        self.keep(item, Mark::Declared(of))?;
         Ok(())
     }
 }

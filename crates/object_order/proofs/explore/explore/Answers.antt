@@ -5,7 +5,7 @@ use Rattle.object_order.proofs.SearchLemmas.{numbered_none, goes_first, goes_on,
 use Rattle.object_order.proofs.explore.explore.Goals as goal
 
 pub row_of-requires : goal.row_of-requires
-row_of-requires c = numbered_none c.new-numbers.result c.new-found.result.items c.new-numbers.ensures.empty c.new-found.ensures.items
+row_of-requires c = numbered_none c.in_ok-numbers.numbers c.new-found.result.items c.in_ok-numbers.ensures c.new-found.ensures.items
 
 pub loop-done-init : goal.loop-done-init
 loop-done-init c =

@@ -38,4 +38,4 @@ returns-clause-adds c =
     let says : declaration_of (declarations_in t) (type_at (types_in t) c.args.of) ≡ Some (declaration_over (types_in old.table) (record { under = c.args.under; methods = c.args.methods.items })) =
     ap (declaration_of (declarations_in t)) named ∙ is.here in
     stays_adds (said_over old.table old.constants.items old.blocks.items old.cells.items) (said_over t old.constants.items old.blocks.items old.cells.items) (so_far c.keep.new.self) c.args.item _ _
-    (stays old.table t old.constants.items old.constants.items more old.blocks.items old.cells.items c.requires.state.over) c.keep.ensures.adds (ap declared says)
+    (stays old.table t old.constants.items old.constants.items more old.blocks.items old.cells.items c.requires.state.over) c.in_ok-keep.ensures.adds (ap declared says)

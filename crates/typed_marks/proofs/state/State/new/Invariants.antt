@@ -1,6 +1,7 @@
 use Rattle.std.proofs.Common.{◌≡◌, length, take}
 use Rattle.typed_marks.specs.Items.{AreBlocks}
-use Rattle.typed_marks.specs.States.{AllNone, laid, room}
+use Rattle.typed_marks.specs.Cells.{AllNone}
+use Rattle.typed_marks.specs.States.{laid, room}
 use Rattle.typed_marks.proofs.state.State.new.Given as goal
 
 abbrev pub invariant-loop-k : goal.invariant-loop-k
