@@ -11,7 +11,7 @@ use Rattle.go_tree.specs.declared.bindings.Object.TheVariants.{Universe, Import,
 use Rattle.go_tree.specs.declared.tree.FileTree.{FileTree}
 use Rattle.go_tree.specs.declared.tree.NodeRef.{NodeRef}
 use Rattle.scopes.specs.declared.scope.Named.{Named}
-use Rattle.scopes.proofs.WalkLemmas.{same_some}
+use Rattle.gv_base.proofs.Lists.{same_some}
 use Rattle.file_uses.specs.Locals.{LocalAnswer, DenotesLocal}
 use Rattle.file_uses.specs.Numbers.{name_in}
 use Rattle.file_uses.proofs.FileLemmas.{file_laid}

@@ -10,7 +10,7 @@ use Rattle.go_tree.specs.Head.{import_line}
 use Rattle.go_tree.specs.declared.bindings.Object.{Object}
 use Rattle.go_tree.specs.declared.tree.FileTree.{FileTree}
 use Rattle.go_tree.specs.declared.tree.NodeRef.{NodeRef}
-use Rattle.scopes.proofs.WalkLemmas.{same_some}
+use Rattle.gv_base.proofs.Lists.{same_some}
 use Rattle.bind.specs.Answers.{IsRead, AreRead, AreFit, Tables, answer_of, entry, uses_before}
 use Rattle.bind.specs.Collected.{imports_of, AreUsesAt, AreUsesTo}
 use Rattle.bind.specs.Denoting.{IsAnswer, Denotes, AreBindings}

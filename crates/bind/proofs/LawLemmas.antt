@@ -7,7 +7,7 @@ use Rattle.go_tree.specs.declared.bindings.Object.{Object}
 use Rattle.go_tree.specs.declared.bindings.Object.TheVariants.{Universe, Import, Local, Package}
 use Rattle.go_tree.specs.declared.tree.NodeRef.{NodeRef}
 use Rattle.scopes.specs.declared.scope.Named.{Named}
-use Rattle.scopes.proofs.WalkLemmas.{same_some}
+use Rattle.gv_base.proofs.Lists.{same_some}
 use Rattle.file_uses.specs.Locals.{IsLocal}
 use Rattle.bind.specs.Denoting.{IsInnermost, IsUndeclared, DenotesBy, Denotes}
 use Rattle.bind.specs.Regions.{Region, Everywhere, OfFile, Nodes, Within, HasRegion, IsLocalName, IsFirstOfPackage, IsFirstImport}

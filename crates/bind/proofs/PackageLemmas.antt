@@ -9,7 +9,7 @@ use Rattle.std.proofs.lemmas.Option.{slice_get_within}
 use Rattle.go_tree.specs.declared.tree.FileTree.{FileTree}
 use Rattle.go_tree.specs.declared.tree.NodeRef.{NodeRef}
 use Rattle.scopes.specs.declared.scope.Named.{Named}
-use Rattle.scopes.proofs.WalkLemmas.{same_some}
+use Rattle.gv_base.proofs.Lists.{same_some}
 use Rattle.file_uses.specs.Numbers.{name_in}
 use Rattle.bind.specs.Answers.{IsRead, AreRead}
 use Rattle.bind.specs.Package.{narrow, ref, unless_init, top_name, listed, top_of, tops_of, tops_at, tops_before}

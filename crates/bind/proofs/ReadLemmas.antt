@@ -7,15 +7,7 @@ use Rattle.file_uses.specs.Read.{AreLocals}
 use Rattle.bind.specs.Answers.{IsRead, AreReadTo, AreReadOf, AreRead}
 use Rattle.bind.specs.Sources.{Source, AreFiles}
 use Rattle.bind.specs.declared.file.File.{File}
-
-get_left : {X : Type 0} (xs ys : List X) (i : ℕ) (x : X) → slice_get xs i ≡ Some x → slice_get (xs ++ ys) i ≡ Some x
-get_left [] ys i x e = absurd (cc)
-get_left (y ∷ xs) ys zero x e = e
-get_left (y ∷ xs) ys (suc i) x e = get_left xs ys i x e
-
-get_last : {X : Type 0} (xs : List X) (x : X) → slice_get (xs ++ x ∷ []) (length xs) ≡ Some x
-get_last [] x = refl
-get_last (y ∷ xs) x = get_last xs x
+use Rattle.gv_base.proofs.Lists.{at_end, get_left}
 
 -- a file of a call, and its source
 pub record IsSourceOf (t : FileTree) (e : List ℕ × List ℕ) (s : Source) : Type 0 where
@@ -85,7 +77,7 @@ one_read ts es ss n fs f t e are is_t is_e path bytes tree locals fit was = reco
   this : (i : ℕ) (s : Source) → i ≡ n → slice_get ss i ≡ Some s → (g : File) × (slice_get (fs ++ f ∷ []) i ≡ Some g) × IsRead g s
   this i s here there = (
     f,
-    ap (λ x. slice_get (fs ++ f ∷ []) x) (here ∙ sym was.size) ∙ get_last fs f,
+    ap (λ x. slice_get (fs ++ f ∷ []) x) (here ∙ sym was.size) ∙ at_end fs f,
     is_read f t e s (source_at ts es ss n t e s are is_t is_e (ap (λ x. slice_get ss x) (sym here) ∙ there)) path bytes tree locals fit,
   )
 

@@ -6,7 +6,7 @@ use Rattle.go_tree.specs.declared.bindings.Object.TheVariants.{Universe, Import,
 use Rattle.go_tree.specs.declared.tree.NodeRef.{NodeRef}
 use Rattle.scopes.specs.Laid.{AreLaid}
 use Rattle.scopes.specs.declared.scope.Named.{Named}
-use Rattle.scopes.proofs.WalkLemmas.{same_some}
+use Rattle.gv_base.proofs.Lists.{same_some}
 use Rattle.file_uses.specs.Locals.{IsLocal, HoldsNode, DenotesLocal}
 use Rattle.bind.specs.Denoting.{IsInnermost, IsUndeclared}
 use Rattle.bind.specs.Imports.{IsImportName}

@@ -1,6 +1,5 @@
 //! The names that the imports of a file declare (Go 1.17, "Import declarations").
 ghost use Rattle.std.specs.Prelude.{◌≡◌, ◌<◌, ◌++◌, ◌==◌, ◌+◌, [], ℕ, List, IfOk, OnOk, length, option_map, cond, map, drop, get_or, slice_get};
-ghost use Rattle.go_tree.specs.Head.{node_at, is_import};
 ghost use Rattle.bind.specs.Imports.{piece_specs, specs_in, last_segment, default_name, line_name, package_of};
 ghost use Rattle.bind.specs.Package.{listed};
 ghost use Rattle.bind.specs.Places.{placed, place_from};
@@ -9,41 +8,10 @@ ghost use Rattle.bind.specs.Imported.{imported};
 
 use crate::places::place_of;
 use crate::table::Declared;
-use go_tree::{FileTree, ImportLine, LocalName, NodeKind, NodeRef};
+use go_tree::{FileTree, ImportLine, LocalName, NodeRef, is_import};
 use gv_base::{NoMemory, Text};
 use std::alloc::Global;
 use std::collections::HashMap;
-
-fn is_import(kind: NodeKind) -> bool
-    ensures { result ≡ is_import kind }
-{
-    match kind {
-        NodeKind::Import | NodeKind::ImportGroup => true,
-        _ => false,
-    }
-}
-
-fn kind_at(tree: &FileTree, at: u32) -> NodeKind
-    ensures { result ≡ (node_at tree.now at).kind }
-{
-    let nodes = tree.nodes.as_slice();
-    if (at as usize) < nodes.len() {
-        nodes[at as usize].kind
-    } else {
-        NodeKind::Name
-    }
-}
-
-fn parts_at(tree: &FileTree, at: u32) -> &[u32]
-    ensures { result.now ≡ (node_at tree.now at).parts }
-{
-    let nodes = tree.nodes.as_slice();
-    if (at as usize) < nodes.len() {
-        nodes[at as usize].parts.as_slice()
-    } else {
-        &[]
-    }
-}
 
 fn push_all(parts: &[u32], out: &mut Vec<u32>) -> Result<(), NoMemory>
     ensures { OnOk result (out.new.items ≡ out.old.items ++ parts.now) }
@@ -58,13 +26,13 @@ fn push_all(parts: &[u32], out: &mut Vec<u32>) -> Result<(), NoMemory>
 fn push_specs(tree: &FileTree, top: u32, out: &mut Vec<u32>) -> Result<(), NoMemory>
     ensures { OnOk result (out.new.items ≡ out.old.items ++ piece_specs tree.now top) }
 {
-    if is_import(kind_at(tree, top)) {
-        push_all(parts_at(tree, top), out)?;
+    if is_import(tree.kind(top)) {
+        push_all(tree.parts(top), out)?;
     }
     Ok(())
 }
 
-/// The specs of a file's imports, in turn.
+/// The nodes of the specifications of a file's imports, in turn.
 pub fn specs_in(alloc: Global, tree: &FileTree) -> Result<Vec<u32>, NoMemory>
     ensures { IfOk result (λ specs. specs.items ≡ specs_in tree.now tree.now.tops) }
 {
@@ -98,8 +66,8 @@ fn next_segment<'a>(path: &'a [u8], at: usize, segment: &'a [u8]) -> &'a [u8]
     }
 }
 
-/// What stands behind the last slash.
-fn last_segment(path: &[u8]) -> &[u8]
+/// What stands behind the last slash of an import path: the name of a package that isn't known.
+pub fn last_segment(path: &[u8]) -> &[u8]
     ensures { result.now ≡ last_segment path.now }
 {
     let mut segment = path;

@@ -11,5 +11,6 @@ mod tops;
 mod universe;
 mod uses;
 
+pub use imports::{last_segment, specs_in};
 pub use laws::one_binding;
 pub use uses::bind;

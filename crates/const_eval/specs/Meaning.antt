@@ -1,5 +1,6 @@
 -- The values of constant expressions: Go 1.17, "Constant expressions", "Operators" and "Conversions".
 use Rattle.std.specs.Prelude.{ℕ, ℤ, pos, negsuc, cond, ◌&&◌, ◌||◌, nat_lt, nat_le, Bool, true, false, int_le, Option, Some, None, encode_utf8}
+use Rattle.gv_base.specs.Kinds.{is_texts}
 use Rattle.gv_base.specs.Fits.{Values, Truths, Integers, Texts, NoConstants, values_of}
 use Rattle.gv_base.specs.declared.constant.Const.{Const}
 use Rattle.gv_base.specs.declared.constant.Const.TheVariants.{Truth, Text, Int as Integer}
@@ -58,13 +59,6 @@ is_among x values = false
 -- a constant stays as it is where it is one of the values
 abbrev pub kept_among : Const → Values → ConstAnswer
 kept_among x values = cond (is_among x values) (Value x) BadOperands
-
--- the values are texts
-abbrev pub is_texts : Values → Bool
-is_texts Truths = false
-is_texts (Integers first last) = false
-is_texts Texts = true
-is_texts NoConstants = false
 
 -- where texts are wanted, an integer becomes the text of one character
 abbrev pub convert_among : Const → Values → ConstAnswer

@@ -1,7 +1,7 @@
 //! Conversions (Go 1.17, "Conversions").
 ghost use Rattle.std.specs.Prelude.{◌≡◌, IfOk, encode_utf8};
 ghost use Rattle.gv_base.specs.Fits.{values_of};
-ghost use Rattle.const_eval.specs.Meaning.{convert_of, character_of, kept_among, is_among, is_texts};
+ghost use Rattle.const_eval.specs.Meaning.{convert_of, character_of, kept_among, is_among};
 
 use crate::answer::ConstAnswer;
 use gv_base::{Const, ConstText, Kind, NoMemory, fits};
@@ -49,36 +49,11 @@ fn convert_text(alloc: Global, s: &ConstText, to: Kind) -> Result<ConstAnswer, N
 fn convert_integer(alloc: Global, n: i128, to: Kind) -> Result<ConstAnswer, NoMemory>
     ensures { IfOk result (λ answer. answer ≡ convert_of (Const.Int n) to) }
 {
-    if is_string(to) {
+    if to.is_string() {
         let text = spelled(alloc, character(n))?;
         return Ok(ConstAnswer::Value(Const::Text(text)));
     }
     Ok(kept(Const::Int(n), to))
-}
-
-fn is_string(k: Kind) -> bool
-    ensures { result ≡ is_texts (values_of k) }
-{
-    match k {
-        Kind::Text => true,
-        Kind::UntypedText => true,
-        Kind::Bool => false,
-        Kind::Int => false,
-        Kind::Int8 => false,
-        Kind::Int16 => false,
-        Kind::Int32 => false,
-        Kind::Int64 => false,
-        Kind::Uint => false,
-        Kind::Uint8 => false,
-        Kind::Uint16 => false,
-        Kind::Uint32 => false,
-        Kind::Uint64 => false,
-        Kind::Uintptr => false,
-        Kind::UntypedBool => false,
-        Kind::UntypedInt => false,
-        Kind::UntypedRune => false,
-        Kind::UntypedNil => false,
-    }
 }
 
 /// The character with this number, else U+FFFD.

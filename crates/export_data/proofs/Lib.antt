@@ -1,2 +1,3 @@
+pub mod ConstantKinds
 pub mod Objects
 pub mod Interfaces

@@ -1,6 +1,8 @@
 -- The readers of types, values and constants.
-use Rattle.std.proofs.Common.{◌≡◌, ℕ, zero, suc, ◌≤◌, Bool, true, false, cond, eqb, ltb, List, [], ◌∷◌, ◌++◌, length, Some, None, refl, sym, ap, subst, ◌∙◌, arith, inl, inr}
+use Rattle.std.proofs.Common.{◌≡◌, ℕ, zero, suc, ◌≤◌, Bool, true, false, cond, eqb, ltb, All, List, [], ◌∷◌, ◌++◌, length, Some, None, refl, sym, ap, subst, ◌∙◌, arith, inl, inr}
 use Rattle.std.proofs.lemmas.Bool.{eqb-true, eq-eqb, ltb-false, le-ltb}
+use Rattle.std.specs.List.{AllByRecursion}
+use Rattle.std.proofs.lemmas.List.Elements.{All-weaker, All-from_recursion}
 use Rattle.std.specs.Str.{IsUtf8, is_utf8}
 use Rattle.std.proofs.lemmas.Str.{IsUtf8-from_is_utf8, is_utf8-from_IsUtf8}
 use Rattle.std.proofs.lemmas.Option.{cond_some}
@@ -13,9 +15,10 @@ use Rattle.gv_bytes.proofs.Options.{bind_some, guard_some, chosen, some_is, just
 use Rattle.gv_bytes.proofs.Numbers.{naturals, numbers, texts}
 use Rattle.export_data.specs.declared.constants.ConstOut.{ConstOut}
 use Rattle.gv_base.specs.Kinds.{kind_numbered, kind_number}
-use Rattle.export_data.specs.Spelling.{truth_of, value, basic, object, IsConst, IsName, IsObject}
+use Rattle.export_data.specs.Spelling.{has_constants, truth_of, value, basic, object, IsConst, IsName, IsObject}
 use Rattle.export_data.specs.Reading.{utf8_of, name_at, after, basic_at, truth_at, int_at, const_text_at, value_at, object_at}
-use Rattle.gv_base.proofs.KindNumbers.{kind_kept, number_small, number_kept}
+use Rattle.gv_base.proofs.KindNumbers.{kind_kept, number_kept}
+use Rattle.export_data.proofs.ConstantKinds.{number_had, kind_had}
 
 pub utf8_some : (bytes text : List ℕ) → text ≡ bytes → IsUtf8 bytes → utf8_of bytes ≡ Some text
 utf8_some bytes text same good = rw (is_utf8-from_IsUtf8 bytes good, same) refl
@@ -58,21 +61,22 @@ after_again : (b : ℕ) (rest : List ℕ) → after b (b ∷ rest) ≡ Some rest
 unfolding after
 after_again b rest = let same : eqb b b ≡ true = eq-eqb b b refl in rw same refl
 
-kinds : Reads (λ n. n ≤ 17) natural (natural_at 17)
-kinds = naturals 17 (omega arith)
+kinds : Reads (λ n. n ≤ 16) natural (natural_at 16)
+kinds = naturals 16 (omega arith)
 
-basic_take : (bytes : List ℕ) (x : Kind × List ℕ) → basic_at bytes ≡ Some x → bytes ≡ basic x.0 ++ x.1
+basic_take : (bytes : List ℕ) (x : Kind × List ℕ) → basic_at bytes ≡ Some x → (bytes ≡ basic x.0 ++ x.1) × (has_constants x.0 ≡ true)
 unfolding basic_at basic
 basic_take bytes x e =
-    let a = bind_some (after 98 bytes) (λ rest. natural_at 17 rest >>= λ n. Some (kind_numbered n.0, n.1)) x e in
-    let b = bind_some (natural_at 17 a.0) (λ n. Some (kind_numbered n.0, n.1)) x a.2 in
+    let a = bind_some (after 98 bytes) (λ rest. natural_at 16 rest >>= λ n. Some (kind_numbered n.0, n.1)) x e in
+    let b = bind_some (natural_at 16 a.0) (λ n. Some (kind_numbered n.0, n.1)) x a.2 in
     let t = kinds.takes a.0 b.0 b.1 in
-    let whole : bytes ≡ basic (kind_numbered b.0.0) ++ b.0.1 = after_take 98 bytes a.0 a.1 ∙ ap (λ (r : List ℕ). 98 ∷ r) (t.0 ∙ ap (λ (n : ℕ). natural n ++ b.0.1) (sym (number_kept b.0.0 t.1))) in
-    subst (λ (y : Kind × List ℕ). bytes ≡ basic y.0 ++ y.1) (some_is (kind_numbered b.0.0, b.0.1) x b.2) whole
+    let low : b.0.0 ≤ 16 = t.1 in
+    let whole : bytes ≡ basic (kind_numbered b.0.0) ++ b.0.1 = after_take 98 bytes a.0 a.1 ∙ ap (λ (r : List ℕ). 98 ∷ r) (t.0 ∙ ap (λ (n : ℕ). natural n ++ b.0.1) (sym (number_kept b.0.0 (omega (arith, low))))) in
+    subst (λ (y : Kind × List ℕ). (bytes ≡ basic y.0 ++ y.1) × (has_constants y.0 ≡ true)) (some_is (kind_numbered b.0.0, b.0.1) x b.2) (whole, kind_had b.0.0 low)
 
-basic_again : (k : Kind) (rest : List ℕ) → basic_at (basic k ++ rest) ≡ Some (k, rest)
+basic_again : (k : Kind) (rest : List ℕ) → has_constants k ≡ true → basic_at (basic k ++ rest) ≡ Some (k, rest)
 unfolding basic_at basic
-basic_again k rest = rw (after_again 98 (natural (kind_number k) ++ rest), kinds.again (kind_number k) rest (number_small k), kind_kept k) refl
+basic_again k rest had = rw (after_again 98 (natural (kind_number k) ++ rest), kinds.again (kind_number k) rest (number_had k had), kind_kept k) refl
 
 -- ---- values
 
@@ -158,16 +162,20 @@ object_take bytes x e =
     let name = names.takes bytes a.0 a.1 in
     let worth = values.takes c.0.1 d.0 d.1 in
     let one = chain bytes (text a.0.0) a.0.1 (107 ∷ []) b.0 name.0 (after_take 107 a.0.1 b.0 b.1) in
-    let two = chain bytes (text a.0.0 ++ 107 ∷ []) b.0 (basic c.0.0) c.0.1 one (basic_take b.0 c.0 c.1) in
+    let two = chain bytes (text a.0.0 ++ 107 ∷ []) b.0 (basic c.0.0) c.0.1 one (basic_take b.0 c.0 c.1).0 in
     let three = chain bytes ((text a.0.0 ++ 107 ∷ []) ++ basic c.0.0) c.0.1 (value d.0.0) d.0.1 two worth.0 in
     let made : ConstOut × List ℕ = (record { name = a.0.0; kind = c.0.0; value = d.0.0 }, d.0.1) in
-    subst (λ (y : ConstOut × List ℕ). (bytes ≡ object y.0 ++ y.1) × IsObject y.0) (some_is made x d.2) (three, record { name = name.1; value = worth.1 })
+    subst (λ (y : ConstOut × List ℕ). (bytes ≡ object y.0 ++ y.1) × IsObject y.0) (some_is made x d.2) (three, record { name = name.1; kind = (basic_take b.0 c.0 c.1).1; value = worth.1 })
 
 object_again : (c : ConstOut) (rest : List ℕ) → IsObject c → object_at (object c ++ rest) ≡ Some (c, rest)
 unfolding object_at object
 object_again c rest fits =
     ap object_at (regroup_four (text c.name) (107 ∷ []) (basic c.kind) (value c.value) rest)
-    ∙ rw (names.again c.name (107 ∷ (basic c.kind ++ (value c.value ++ rest))) fits.name, after_again 107 (basic c.kind ++ (value c.value ++ rest)), basic_again c.kind (value c.value ++ rest), values.again c.value rest fits.value) refl
+    ∙ rw (names.again c.name (107 ∷ (basic c.kind ++ (value c.value ++ rest))) fits.name, after_again 107 (basic c.kind ++ (value c.value ++ rest)), basic_again c.kind (value c.value ++ rest) fits.kind, values.again c.value rest fits.value) refl
 
 pub objects : Reads IsObject object object_at
 objects = record { takes = object_take; again = object_again }
+
+-- no constant with a spelling has the type of nil
+pub kinds_had : (list : List ConstOut) → AllByRecursion IsObject list → All (λ c. has_constants c.kind ≡ true) list
+kinds_had list all = All-weaker IsObject (λ c. has_constants c.kind ≡ true) (λ c is. is.kind) list (All-from_recursion IsObject list all)

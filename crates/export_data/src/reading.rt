@@ -53,7 +53,7 @@ fn basic_of(bytes: &[u8]) -> Result<(Kind, &[u8]), Unread>
     ensures { Gives (λ x. (x.0, x.1.now)) result (basic_at bytes.now) }
 {
     let rest = after_byte(bytes, b'b')?;
-    let (number, rest) = read_natural(rest, 17)?;
+    let (number, rest) = read_natural(rest, 16)?;
     Ok((Kind::of_number(number as u8), rest))
 }
 
@@ -171,7 +171,7 @@ fn whole(alloc: Global, bytes: &[u8]) -> Result<ConstInterface, Unread>
 }
 
 /// The interface that the bytes spell, all of the bytes. None exactly where they spell none: a field that
-/// is no number or text, a name that is not UTF-8, another order, a name twice, a type or value of no kind, a list of types that
+/// is no number or text, a name that is not UTF-8, another order, a name twice, a type that no constant has, a value of no kind, a list of types that
 /// isn't empty, or bytes behind the end.
 pub fn read_consts(alloc: Global, bytes: &[u8]) -> Result<Option<ConstInterface>, NoMemory>
     // What is read is spelled so.

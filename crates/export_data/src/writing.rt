@@ -1,8 +1,8 @@
 //! Writing the export text of constants.
-ghost use Rattle.std.specs.Prelude.{◌≡◌, ◌++◌, OnOk, IfOk, IsTrue, pos};
+ghost use Rattle.std.specs.Prelude.{◌≡◌, ◌++◌, All, OnOk, IfOk, IsTrue, pos, true};
 ghost use Rattle.gv_bytes.specs.Spelling.{items, AreItems};
 ghost use Rattle.export_data.specs.Order.{names_rise};
-ghost use Rattle.export_data.specs.Spelling.{truth_of, basic, value, object, interface, IsConst, IsObject, IsInterface, IsSpelled};
+ghost use Rattle.export_data.specs.Spelling.{has_constants, truth_of, basic, value, object, interface, IsConst, IsObject, IsInterface, IsSpelled};
 
 use crate::constants::ConstOut;
 use gv_base::{Const, Kind, NoMemory};
@@ -50,6 +50,7 @@ fn put_value(out: &mut Vec<u8>, c: &Const) -> Result<(), NoMemory>
 
 #[tactic(auto, unfolding(crate::specs::Spelling::object))]
 fn put_object(out: &mut Vec<u8>, c: &ConstOut) -> Result<(), NoMemory>
+    requires { has_constants c.now.kind ≡ true }
     ensures written { OnOk result (out.new.items ≡ out.old.items ++ object c.now) }
     ensures size { OnOk result (IsObject c.now) }
 {
@@ -62,6 +63,7 @@ fn put_object(out: &mut Vec<u8>, c: &ConstOut) -> Result<(), NoMemory>
 
 /// The count of the constants, and each of them.
 fn put_list(out: &mut Vec<u8>, list: &[ConstOut]) -> Result<(), NoMemory>
+    requires { All (λ c. has_constants c.kind ≡ true) list.now }
     ensures written { OnOk result (out.new.items ≡ out.old.items ++ items object list.now) }
     ensures size { OnOk result (AreItems IsObject list.now) }
 {
@@ -73,7 +75,7 @@ fn put_list(out: &mut Vec<u8>, list: &[ConstOut]) -> Result<(), NoMemory>
 }
 
 /// The export text of a package with this import path and this name, whose exported constants are the
-/// list: distinct names in byte order.
+/// list: distinct names in byte order, none of the type of nil.
 #[tactic(auto, unfolding(crate::specs::Spelling::interface))]
 pub fn export_consts(
     alloc: Global,
@@ -81,7 +83,8 @@ pub fn export_consts(
     name: &str,
     list: &[ConstOut],
 ) -> Result<Vec<u8>, NoMemory>
-    requires { IsTrue (names_rise list.now) }
+    requires rise { IsTrue (names_rise list.now) }
+    requires kinds { All (λ c. has_constants c.kind ≡ true) list.now }
     ensures { IfOk result (λ v. IsSpelled (record { path = path.now; name = name.now; list = list.now }) v.items) }
 {
     let mut out = Vec::new(alloc);

@@ -8,15 +8,11 @@ use Rattle.go_tree.specs.declared.tree.NodeKind.{NodeKind}
 use Rattle.go_tree.specs.Arena.{size, flat, roots, node_of, arena_of}
 use Rattle.go_tree.specs.Forest.{Forest, Empty, Grow}
 use Rattle.scopes.specs.Walk.{Shows, IsFormed}
+use Rattle.gv_base.proofs.Lists.{get_left}
 
 -- the list stands in the nodes from m on
 abbrev StandsAt : List Node → ℕ → List Node → Type 0
 StandsAt nodes m xs = (i : ℕ) (x : Node) → slice_get xs i ≡ Some x → slice_get nodes (m + i) ≡ Some x
-
-get_left : (xs ys : List Node) (i : ℕ) (x : Node) → slice_get xs i ≡ Some x → slice_get (xs ++ ys) i ≡ Some x
-get_left [] ys i x e = absurd (cc)
-get_left (y ∷ xs) ys zero x e = e
-get_left (y ∷ xs) ys (suc i) x e = get_left xs ys i x e
 
 get_right : (xs ys : List Node) (i : ℕ) → slice_get (xs ++ ys) (length xs + i) ≡ slice_get ys i
 get_right [] ys i = ap (λ n. slice_get ys n) (same i) where

@@ -11,7 +11,7 @@ use Rattle.file_uses.specs.Locals.{IsRepeated, IsAssigned}
 use Rattle.file_uses.specs.Numbers.{number, IsNumbering}
 use Rattle.file_uses.specs.Uses.{IsSet, ArePlain}
 use Rattle.file_uses.proofs.LocalLemmas.{by_number, get_map, get_unmap, to_refused, from_refused}
-use Rattle.scopes.proofs.WalkLemmas.{same_some}
+use Rattle.gv_base.proofs.Lists.{same_some}
 
 -- a name, for where there is none
 abbrev pub no_named : Named

@@ -7,7 +7,7 @@ use Rattle.std.proofs.lemmas.List.Elements.{Contains-push, Contains-push_cases, 
 use Rattle.std.proofs.lemmas.Option.{slice_get_within}
 use Rattle.go_tree.specs.declared.tree.Node.{Node}
 use Rattle.file_uses.specs.Uses.{named_part, IsOfPart, IsNamedBy, IsSet, IsCleared, ArePlain}
-use Rattle.scopes.proofs.WalkLemmas.{same_some}
+use Rattle.gv_base.proofs.Lists.{same_some}
 
 nat_cases : (i j : ℕ) → (i ≡ j) ⊎ (i ≢ j)
 nat_cases i j = at (nat_eq i j) refl where

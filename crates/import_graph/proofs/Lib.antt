@@ -10,3 +10,4 @@ pub mod FaultLemmas
 pub mod CycleLemmas
 pub mod LawLemmas
 pub mod OneLemmas
+mod TextLemmas

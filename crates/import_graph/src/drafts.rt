@@ -8,7 +8,7 @@ ghost use Rattle.import_graph.specs.Tables.{AreAscending, IsDraft, AreDrafts, ch
 use crate::fault::is_broken;
 use crate::imports::imports;
 use go_tree::Head;
-use gv_base::{Bytes, NoMemory, Row};
+use gv_base::{NoMemory, Row, Text};
 use std::alloc::Global;
 
 /// What a package has besides its path and its state.
@@ -23,7 +23,7 @@ pub struct Draft {
 fn imports_of(
     alloc: Global,
     heads: &[Option<Head>],
-    names: &[Bytes],
+    names: &[Text],
     files: &[u32],
 ) -> Result<Vec<u32>, NoMemory>
     requires order { AreAscending names.now }
@@ -48,7 +48,7 @@ pub fn numbers(alloc: Global, files: &[u32]) -> Result<Vec<u32>, NoMemory>
 fn draft_of(
     alloc: Global,
     heads: &[Option<Head>],
-    names: &[Bytes],
+    names: &[Text],
     stub: bool,
     files: &[u32],
 ) -> Result<Draft, NoMemory>
@@ -94,7 +94,7 @@ fn chosen<'a>(row: &'a [u32], other: &'a [u32]) -> &'a [u32]
 pub fn drafts(
     alloc: Global,
     heads: &[Option<Head>],
-    names: &[Bytes],
+    names: &[Text],
     modules: &[Vec<u32>],
     stubs: &[Vec<u32>],
 ) -> Result<Vec<Draft>, NoMemory>

@@ -6,7 +6,7 @@ ghost use Rattle.import_graph.specs.Tables.{AreAscending};
 
 use crate::names::place_in;
 use go_tree::{Head, ImportLine, LocalName};
-use gv_base::{Bytes, NoMemory, Place};
+use gv_base::{NoMemory, Place, Text};
 use std::alloc::Global;
 
 /// Whether the file of this number is broken.
@@ -134,7 +134,7 @@ pub fn counts(line: &ImportLine) -> bool
 
 /// Adds the place of an import whose path is none of the names.
 fn push_missing(
-    names: &[Bytes],
+    names: &[Text],
     n: u32,
     line: &ImportLine,
     places: &mut Vec<Place>,
@@ -157,7 +157,7 @@ fn push_missing(
 
 /// Adds the places of these imports that are missing.
 fn push_lines(
-    names: &[Bytes],
+    names: &[Text],
     n: u32,
     lines: &[ImportLine],
     places: &mut Vec<Place>,
@@ -177,7 +177,7 @@ fn push_lines(
 /// Adds the places of a file's imports that are missing.
 fn push_file(
     heads: &[Option<Head>],
-    names: &[Bytes],
+    names: &[Text],
     n: u32,
     places: &mut Vec<Place>,
 ) -> Result<(), NoMemory>
@@ -201,7 +201,7 @@ fn push_file(
 pub fn missing(
     alloc: Global,
     heads: &[Option<Head>],
-    names: &[Bytes],
+    names: &[Text],
     files: &[u32],
 ) -> Result<Vec<Place>, NoMemory>
     requires order { AreAscending names.now }

@@ -154,28 +154,34 @@ fn is_named(line: &[u8], path: &[u8]) -> bool
 }
 
 /// The path that a line names.
-fn path_in(line: &[u8]) -> &[u8]
+fn path_in(line: &[u8]) -> &str
     ensures { result.now ≡ path_in line.now }
 {
     let path = unquoted(second_word(until(Stop::Comment, line)));
-    if is_named(line, path) { path } else { b"m" }
+    if !is_named(line, path) {
+        return "m";
+    }
+    match str::from_utf8(path) {
+        Ok(path) => path,
+        Err(_) => unreachable!(),
+    }
 }
 
-fn path_named(line: Option<&[u8]>) -> &[u8]
+fn path_named(line: Option<&[u8]>) -> &str
     ensures { result.now ≡ path_named (option_map (λ line. line.now) line.entry) }
 {
     match line {
         Some(line) => path_in(line),
-        None => b"m",
+        None => "m",
     }
 }
 
 /// The module path of a tree.
-pub fn module_path<'a>(files: &'a Files) -> &'a [u8]
+pub fn module_path<'a>(files: &'a Files) -> &'a str
     ensures { result.now ≡ module_path files.now }
 {
     match files.get("go.mod") {
         Some(bytes) => path_named(module_line(bytes)),
-        None => b"m",
+        None => "m",
     }
 }

@@ -1,9 +1,10 @@
 //! Where each file of a tree stands.
 ghost use Rattle.std.specs.Prelude.{◌≡◌, ◌<◌, ◌^◌, [], length, map, IfOk};
+ghost use Rattle.std.specs.Str.{IsUtf8};
 ghost use Rattle.import_graph.specs.Packages.{home_of};
 
 use crate::source::{directory_of, is_source, is_stub, package_of};
-use gv_base::{Bytes, Files, NoMemory};
+use gv_base::{Files, NoMemory, Text};
 use std::alloc::Global;
 
 /// Where a file stands.
@@ -14,30 +15,42 @@ pub struct Home {
     /// Whether its directory's package is a stub.
     pub stub: bool,
     /// The path of its directory's package.
-    pub path: Bytes,
+    pub path: Text,
 }
 
-fn home_of(alloc: Global, root: &[u8], path: &[u8]) -> Result<Home, NoMemory>
+/// Bytes that are UTF-8 as a text.
+fn text(bytes: Vec<u8>) -> Text
+    requires { IsUtf8 bytes.items }
+    ensures { result ≡ bytes.items }
+{
+    match String::from_utf8(bytes) {
+        Ok(text) => Text::new(text),
+        Err(_) => unreachable!(),
+    }
+}
+
+fn home_of(alloc: Global, root: &str, path: &str) -> Result<Home, NoMemory>
     ensures { IfOk result (λ home. home ≡ home_of root.now (path.now, [])) }
 {
-    let dir = directory_of(path);
-    let package = package_of(alloc, root, dir)?;
+    let bytes = path.as_bytes();
+    let dir = directory_of(bytes);
+    let package = package_of(alloc, root.as_bytes(), dir)?;
     Ok(Home {
-        source: is_source(path),
+        source: is_source(bytes),
         stub: is_stub(dir),
-        path: Bytes::new(package),
+        path: text(package),
     })
 }
 
 /// Where each file of a tree stands, below this module path.
-pub fn homes(alloc: Global, files: &Files, root: &[u8]) -> Result<Vec<Home>, NoMemory>
+pub fn homes(alloc: Global, files: &Files, root: &str) -> Result<Vec<Home>, NoMemory>
     ensures homes { IfOk result (λ homes. homes.items ≡ map (home_of root.now) files.now) }
     ensures few { IfOk result (λ homes. length homes.items < 2 ^ 32) }
 {
     let mut homes = Vec::new(alloc);
     for n in 0..files.count() {
         let file = files.at(n);
-        let home = home_of(alloc, root, file.0.as_bytes())?;
+        let home = home_of(alloc, root, file.0)?;
         homes.push(home)?;
     }
     Ok(homes)

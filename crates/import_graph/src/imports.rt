@@ -8,11 +8,11 @@ ghost use Rattle.import_graph.specs.Tables.{AreAscending, AreFound, FindsMore};
 use crate::fault::counts;
 use crate::names::place_in;
 use go_tree::{Head, ImportLine};
-use gv_base::{Bytes, NoMemory};
+use gv_base::{NoMemory, Text};
 use std::alloc::Global;
 
 /// Adds the place of the name that an import leads to, if any.
-fn find_line(names: &[Bytes], line: &ImportLine, found: &mut Vec<u32>) -> Result<(), NoMemory>
+fn find_line(names: &[Text], line: &ImportLine, found: &mut Vec<u32>) -> Result<(), NoMemory>
     requires order { AreAscending names.now }
     requires few { length names.now < 2 ^ 32 }
     ensures { OnOk result (FindsMore names.now (line.now ∷ []) found.old.items found.new.items) }
@@ -27,7 +27,7 @@ fn find_line(names: &[Bytes], line: &ImportLine, found: &mut Vec<u32>) -> Result
 }
 
 /// The same for the imports among these that count.
-fn find_lines(names: &[Bytes], lines: &[ImportLine], found: &mut Vec<u32>) -> Result<(), NoMemory>
+fn find_lines(names: &[Text], lines: &[ImportLine], found: &mut Vec<u32>) -> Result<(), NoMemory>
     requires order { AreAscending names.now }
     requires few { length names.now < 2 ^ 32 }
     ensures { OnOk result (FindsMore names.now (filter counts lines.now) found.old.items found.new.items) }
@@ -43,7 +43,7 @@ fn find_lines(names: &[Bytes], lines: &[ImportLine], found: &mut Vec<u32>) -> Re
 /// The same for a file.
 fn find_file(
     heads: &[Option<Head>],
-    names: &[Bytes],
+    names: &[Text],
     n: u32,
     found: &mut Vec<u32>,
 ) -> Result<(), NoMemory>
@@ -67,7 +67,7 @@ fn find_file(
 fn find_all(
     alloc: Global,
     heads: &[Option<Head>],
-    names: &[Bytes],
+    names: &[Text],
     files: &[u32],
 ) -> Result<Vec<u32>, NoMemory>
     requires order { AreAscending names.now }
@@ -85,7 +85,7 @@ fn find_all(
 pub fn imports(
     alloc: Global,
     heads: &[Option<Head>],
-    names: &[Bytes],
+    names: &[Text],
     files: &[u32],
 ) -> Result<Vec<u32>, NoMemory>
     requires order { AreAscending names.now }

@@ -12,15 +12,15 @@ use crate::pack::Package;
 use crate::rows::rows;
 use crate::state::state_of;
 use go_tree::Head;
-use gv_base::{Bytes, Files, NoMemory, Row};
+use gv_base::{Files, NoMemory, Row, Text};
 use std::alloc::Global;
 
 /// A package of a name.
 fn built(
     alloc: Global,
     heads: &[Option<Head>],
-    names: &[Bytes],
-    name: &[u8],
+    names: &[Text],
+    name: &str,
     draft: &Draft,
     cyclic: bool,
 ) -> Result<Package, NoMemory>
@@ -29,7 +29,7 @@ fn built(
     ensures { IfOk result (IsBuilt heads.now names.now name.now draft.now cyclic) }
 {
     let state = state_of(alloc, heads, names, draft.files.as_slice(), cyclic)?;
-    let path = Bytes::of(alloc, name)?;
+    let path = Text::of(alloc, name)?;
     let files = numbers(alloc, draft.files.as_slice())?;
     let imports = numbers(alloc, draft.imports.as_slice())?;
     Ok(Package {
@@ -45,7 +45,7 @@ fn built(
 fn all_built(
     alloc: Global,
     heads: &[Option<Head>],
-    names: &[Bytes],
+    names: &[Text],
     drafts: &[Draft],
     flags: &[bool],
 ) -> Result<Vec<Package>, NoMemory>
@@ -57,14 +57,7 @@ fn all_built(
 {
     let mut packages = Vec::new(alloc);
     for k in 0..names.len() {
-        let package = built(
-            alloc,
-            heads,
-            names,
-            names[k].as_slice(),
-            &drafts[k],
-            flags[k],
-        )?;
+        let package = built(alloc, heads, names, names[k].as_str(), &drafts[k], flags[k])?;
         packages.push(package)?;
     }
     Ok(packages)

@@ -7,11 +7,11 @@ ghost use Rattle.std.specs.Cmp.Lexicographic.{slice_cmp};
 ghost use Rattle.import_graph.specs.Tables.{source_paths, AreAscending, AreSorted, IsPlaceIn};
 
 use crate::homes::Home;
-use gv_base::{Bytes, NoMemory};
+use gv_base::{NoMemory, Text};
 use std::alloc::Global;
 
 /// The paths of the source files' packages.
-fn source_paths(alloc: Global, homes: &[Home]) -> Result<Vec<Bytes>, NoMemory>
+fn source_paths(alloc: Global, homes: &[Home]) -> Result<Vec<Text>, NoMemory>
     ensures paths { IfOk result (λ paths. paths.items ≡ source_paths homes.now) }
     ensures short { IfOk result (λ paths. length paths.items ≤ length homes.now) }
 {
@@ -25,23 +25,23 @@ fn source_paths(alloc: Global, homes: &[Home]) -> Result<Vec<Bytes>, NoMemory>
     Ok(paths)
 }
 
-fn sort(texts: &mut Vec<Bytes>)
+fn sort(texts: &mut Vec<Text>)
     ensures moved { IsPermutation texts.old.items texts.new.items }
     ensures sorted { IsSorted (slice_cmp nat_cmp) texts.new.items }
     ensures size { length texts.new.items ≡ length texts.old.items }
 {
-    texts.sort_unstable_by(|a, b| a.as_slice().cmp(b.as_slice()));
+    texts.sort_unstable_by(|a, b| a.as_str().as_bytes().cmp(b.as_str().as_bytes()));
 }
 
-fn drop_repeats(texts: &mut Vec<Bytes>)
+fn drop_repeats(texts: &mut Vec<Text>)
     ensures same { texts.new.items ≡ dedup bytes_eq texts.old.items }
     ensures short { length texts.new.items ≤ length texts.old.items }
 {
-    texts.dedup_by(|a, b| a.as_slice() == b.as_slice());
+    texts.dedup_by(|a, b| a.as_str().as_bytes() == b.as_str().as_bytes());
 }
 
 /// The paths of the packages of which there are source files, in byte order, each once.
-pub fn names(alloc: Global, homes: &[Home]) -> Result<Vec<Bytes>, NoMemory>
+pub fn names(alloc: Global, homes: &[Home]) -> Result<Vec<Text>, NoMemory>
     ensures names { IfOk result (λ names. AreSorted (source_paths homes.now) names.items) }
     ensures short { IfOk result (λ names. length names.items ≤ length homes.now) }
 {
@@ -52,12 +52,12 @@ pub fn names(alloc: Global, homes: &[Home]) -> Result<Vec<Bytes>, NoMemory>
 }
 
 /// The place of a path among paths in byte order.
-pub fn place_in(names: &[Bytes], path: &[u8]) -> Option<u32>
+pub fn place_in(names: &[Text], path: &[u8]) -> Option<u32>
     requires order { AreAscending names.now }
     requires few { length names.now < 2 ^ 32 }
     ensures { IsPlaceIn names.now path.now result }
 {
-    match names.binary_search_by(|name| name.as_slice().cmp(path)) {
+    match names.binary_search_by(|name| name.as_str().as_bytes().cmp(path)) {
         Ok(at) => Some(at as u32),
         Err(_) => None,
     }

@@ -1,6 +1,6 @@
 //! A package of a tree.
 
-use gv_base::{Bytes, Place, Row};
+use gv_base::{Place, Row, Text};
 
 /// Whether a package can be loaded; the first that holds.
 #[derive(Drop)]
@@ -19,7 +19,7 @@ pub enum PackState {
 /// A package: the source files of one directory.
 #[derive(Drop)]
 pub struct Package {
-    pub path: Bytes,
+    pub path: Text,
     /// Whether it stands under `std`.
     pub stub: bool,
     /// The numbers of its files, in order.

@@ -4,7 +4,7 @@ ghost use Rattle.import_graph.specs.Tables.{AreAscending, AreRows, AreLonger, ro
 
 use crate::homes::Home;
 use crate::names::place_in;
-use gv_base::{Bytes, NoMemory};
+use gv_base::{NoMemory, Text};
 use std::alloc::Global;
 
 /// An empty row for each.
@@ -51,7 +51,7 @@ fn add(
     stub: bool,
     home: &Home,
     n: u32,
-    names: &[Bytes],
+    names: &[Text],
 ) -> Result<(), NoMemory>
     requires order { AreAscending names.now }
     requires few { length names.now < 2 ^ 32 }
@@ -61,7 +61,7 @@ fn add(
     if is_other(stub, home) {
         return Ok(());
     }
-    match place_in(names, home.path.as_slice()) {
+    match place_in(names, home.path.as_str().as_bytes()) {
         Some(at) => {
             push_at(rows, at as usize, n)?;
             Ok(())
@@ -75,7 +75,7 @@ pub fn rows(
     alloc: Global,
     stub: bool,
     homes: &[Home],
-    names: &[Bytes],
+    names: &[Text],
 ) -> Result<Vec<Vec<u32>>, NoMemory>
     requires order { AreAscending names.now }
     requires few { length names.now < 2 ^ 32 }

@@ -6,14 +6,14 @@ ghost use Rattle.import_graph.specs.Tables.{AreAscending};
 use crate::fault::{clashes, is_broken, missing};
 use crate::pack::PackState;
 use go_tree::Head;
-use gv_base::{Bytes, NoMemory, Row};
+use gv_base::{NoMemory, Row, Text};
 use std::alloc::Global;
 
 /// The state of a package of these files, where `cyclic` says whether it reaches itself.
 pub fn state_of(
     alloc: Global,
     heads: &[Option<Head>],
-    names: &[Bytes],
+    names: &[Text],
     files: &[u32],
     cyclic: bool,
 ) -> Result<PackState, NoMemory>

@@ -8,7 +8,7 @@ use Rattle.label_uses.specs.Functions.{IsPart}
 use Rattle.label_uses.specs.Labels.{Heads}
 use Rattle.label_uses.specs.Names.{IsHead, HeadOf}
 use Rattle.label_uses.specs.Parents.{IsParent, IsTree}
-use Rattle.label_uses.proofs.CaseLemmas.{same_some}
+use Rattle.gv_base.proofs.Lists.{same_some}
 
 first_in : (parts : List ℕ) (n : ℕ) → slice_get parts 0 ≡ Some n → Contains parts n
 first_in [] n e = absurd (cc)

@@ -13,8 +13,9 @@ use Rattle.label_uses.specs.Parents.{at, IsTree, AreFunctions}
 use Rattle.label_uses.specs.Read.{AreListed, JumpAnswer, IsRow, AreLabels}
 use Rattle.label_uses.specs.Rows.{AreGathered, HasName, IsJumpRow, IsLabelRow, AreUsed}
 use Rattle.label_uses.specs.Tables.{FirstBelow, AreFirst}
-use Rattle.label_uses.proofs.CaseLemmas.{same_some, three_ways}
+use Rattle.label_uses.proofs.CaseLemmas.{three_ways}
 use Rattle.label_uses.proofs.NameLemmas.{part_of}
+use Rattle.gv_base.proofs.Lists.{same_some}
 
 pub one_first : (bytes : List ℕ) (tree : FileTree) (n : ℕ) (name : List ℕ) (a b : ℕ) → IsFirst bytes tree n name a → IsFirst bytes tree n name b → a ≡ b
 one_first bytes tree n name a b x y = elim (three_ways a b) [

@@ -3,16 +3,8 @@ use Rattle.std.proofs.Common.{◌≡◌, ℕ, zero, suc, ◌<◌, ◌+◌, ◌�
 use Rattle.std.proofs.Math.ListN.{length-set}
 use Rattle.std.proofs.lemmas.Option.{slice_get_within}
 use Rattle.label_uses.specs.Rows.{Appends, AreGathered, Sets}
-use Rattle.label_uses.proofs.CaseLemmas.{same_some, nothing_there, nat_cases, before_or_at}
-
-get_left : {A : Type 0} (xs ys : List A) (k : ℕ) (a : A) → slice_get xs k ≡ Some a → slice_get (xs ++ ys) k ≡ Some a
-get_left [] ys k a e = absurd (nothing_there a e)
-get_left (x ∷ xs) ys zero a e = e
-get_left (x ∷ xs) ys (suc k) a e = get_left xs ys k a e
-
-get_end : {A : Type 0} (xs : List A) (a : A) → slice_get (xs ++ a ∷ []) (length xs) ≡ Some a
-get_end [] a = refl
-get_end (x ∷ xs) a = get_end xs a
+use Rattle.label_uses.proofs.CaseLemmas.{nat_cases, before_or_at}
+use Rattle.gv_base.proofs.Lists.{at_end, get_left, nothing_there, same_some}
 
 get_cases : {A : Type 0} (xs : List A) (y a : A) (k : ℕ) → slice_get (xs ++ y ∷ []) k ≡ Some a → (slice_get xs k ≡ Some a) ⊎ ((k ≡ length xs) × (y ≡ a))
 get_cases [] y a zero e = inr (refl, same_some (Some y) y a refl e)
@@ -46,7 +38,7 @@ with_row {A} name Is Has i rows y was this is = record {
   ];
   all = λ n low has. elim (before_or_at n i low) [
     | inl before ↦ (let o = was.all n before has in (o.0, o.1, get_left rows (y ∷ []) o.0 o.1 o.2, o.3))
-    | inr here ↦ (length rows, y, get_end rows y, this ∙ sym here)
+    | inr here ↦ (length rows, y, at_end rows y, this ∙ sym here)
   ];
 }
 

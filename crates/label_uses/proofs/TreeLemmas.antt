@@ -8,8 +8,8 @@ use Rattle.go_tree.specs.Arena.{size, flat, roots, node_of}
 use Rattle.go_tree.specs.Forest.{Forest, Empty, Grow}
 use Rattle.go_tree.specs.Pieces.{Spelled}
 use Rattle.file_uses.proofs.ArenaLemmas.{size_flat}
-use Rattle.label_uses.proofs.CaseLemmas.{same_some, nothing_there}
 use Rattle.label_uses.specs.Parents.{IsTree}
+use Rattle.gv_base.proofs.Lists.{nothing_there, same_some}
 
 -- the node at a place has n as a part
 abbrev HasPart : List Node → ℕ → ℕ → Type 0

@@ -23,7 +23,8 @@ fn add_constant(alloc: Global, out: &mut Vec<u8>, constant: &ConstOut) -> Result
 
 /// An interface: its path and its name, and its constants.
 fn interface(alloc: Global, bytes: &[u8]) -> Result<Option<Reading>, NoMemory> {
-    let Some(read) = read_consts(alloc, bytes)? else {
+    let found = read_consts(alloc, bytes)?;
+    let Some(read) = found else {
         return Ok(None);
     };
     let list = read.list.as_slice();

@@ -29,7 +29,8 @@ use Rattle.method_sets.specs.Search.{Met, SameLinks, back}
 use Rattle.method_sets.specs.Shown.{IsReached, start_of, at_of, Lacks}
 use Rattle.method_sets.specs.Levels.{IsKnownTo, IsKnownWhole, EnoughFrom, NeedsFrom, EnoughToSelect, NeedsToSelect, EnoughToList, SaysMethods, IsSelectionIn, SaysSelected, part_in, chosen_in}
 use Rattle.method_sets.specs.Replies.{AreKnownBefore, AreKnownBeside, IsMissingBeside, IsAwaited, IsReplyFrom, IsOpenedReply, fields_only_in, IsListAwaited, IsMissingAt, listed_in}
-use Rattle.method_sets.proofs.Ways.{length_back, same_some, before_or_not, within, passed_here, passed_all}
+use Rattle.method_sets.proofs.Ways.{length_back, before_or_not, within, passed_here, passed_all}
+use Rattle.gv_base.proofs.Lists.{same_some}
 use Rattle.method_sets.proofs.Walks.{at_of_is}
 use Rattle.method_sets.proofs.Selects.{depth_of_is, least_path, way_leads}
 use Rattle.method_sets.proofs.Settles.{has_member}

@@ -14,7 +14,7 @@ use crate::opening::{defined_pointer, opened};
 use crate::search::Entry;
 use crate::selecting::signature_copied;
 use crate::walk::{begin, expand, is_pointer};
-use gv_base::{NoMemory, Text};
+use gv_base::NoMemory;
 use std::alloc::Global;
 use std::collections::{BTreeMap, HashMap};
 use type_model::{Method, TypeId, TypeTable};
@@ -36,18 +36,11 @@ pub fn reach(alloc: Global, t: &TypeTable, at: TypeId) -> Result<Vec<Entry>, NoM
     Ok(entries)
 }
 
-fn text_copied(alloc: Global, of: &Text) -> Result<Text, NoMemory>
-    ensures { IfOk result (λ c. c ≡ of.now) }
-{
-    let copy = String::from_str(alloc, of.as_str())?;
-    Ok(Text::new(copy))
-}
-
 fn method_copied(alloc: Global, of: &Method) -> Result<Method, NoMemory>
     ensures { IfOk result (λ m. m ≡ of.now) }
 {
-    let name = text_copied(alloc, &of.name)?;
-    let package = text_copied(alloc, &of.package)?;
+    let name = of.name.copy(alloc)?;
+    let package = of.package.copy(alloc)?;
     let signature = signature_copied(alloc, &of.of)?;
     Ok(Method {
         name,

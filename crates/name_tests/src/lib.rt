@@ -10,6 +10,4 @@ mod file_uses_tests;
 #[cfg(test)]
 mod object_order_tests;
 #[cfg(test)]
-mod package_objects_tests;
-#[cfg(test)]
 mod sample;

@@ -5,8 +5,8 @@ use Rattle.std.specs.Option.{option_map_or}
 use Rattle.std.proofs.Math.Dec.{ltb}
 use Rattle.std.proofs.lemmas.List.Folds.{list_any_more}
 use Rattle.go_tree.specs.declared.tree.Node.{Node}
-use Rattle.package_needs.proofs.Lists.{item_is}
 use Rattle.package_needs.specs.Keys.{above_in, number_at, Marks}
+use Rattle.gv_base.proofs.Lists.{item_is}
 
 unmarked : (b : Bool) (x y : Option ℕ) → y ≡ (if b && false then x else y)
 unmarked true x y = refl

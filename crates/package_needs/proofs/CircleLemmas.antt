@@ -10,9 +10,9 @@ use Rattle.object_order.specs.declared.spot.Entry.{Entry}
 use Rattle.object_order.specs.Spots.{World}
 use Rattle.package_needs.specs.declared.ends.Link.{Link}
 use Rattle.package_needs.specs.Links.{StepsBy, IsLink, AreLinks, row_of, Arrives, at_end, goes_on, cell, ended_to, ended, link_at, AreArrivals}
-use Rattle.package_needs.proofs.Lists.{split, set_here, set_there, same_some, got}
 use Rattle.std.proofs.lemmas.Bool.{cases_eq}
 use Rattle.std.proofs.lemmas.List.{length-map, length-replicate}
+use Rattle.gv_base.proofs.Lists.{get_set_other, get_set_same, got, same_some, split}
 
 -- ---- one need each
 
@@ -94,10 +94,10 @@ no_circle {links} {k} {x} (goes_on l m at to more) (via, path) = first via path 
 -- ---- the table
 
 cell_here : (table : List (Option NodeRef)) (n : ℕ) (o : Option NodeRef) → n < length table → cell (set table n o) n ≡ o
-cell_here table n o low = ap (λ (p : Option (Option NodeRef)). option_and_then (λ (q : Option NodeRef). q) p) (set_here table n o low)
+cell_here table n o low = ap (λ (p : Option (Option NodeRef)). option_and_then (λ (q : Option NodeRef). q) p) (get_set_same table n o low)
 
 cell_there : (table : List (Option NodeRef)) (n m : ℕ) (o : Option NodeRef) → (m ≡ n → ⊥) → cell (set table n o) m ≡ cell table m
-cell_there table n m o apart = ap (λ (p : Option (Option NodeRef)). option_and_then (λ (q : Option NodeRef). q) p) (set_there table n m o apart)
+cell_there table n m o apart = ap (λ (p : Option (Option NodeRef)). option_and_then (λ (q : Option NodeRef). q) p) (get_set_other table n m o apart)
 
 -- what the table says is so, and of the first few declarations of the order it says all
 pub record Settled (links : List (Option Link)) (order : List Needed) (table : List (Option NodeRef)) (i : ℕ) : Type 0 where

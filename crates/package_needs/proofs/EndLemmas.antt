@@ -7,7 +7,7 @@ use Rattle.package_needs.specs.declared.ends.Link.{Link}
 use Rattle.package_needs.specs.Follow.{given, next, Peels, bare, in_parens, Ends, there, on, IsEnd}
 use Rattle.package_needs.specs.Links.{StepsBy, IsLink, AreLinks, Arrives, at_end, goes_on, ended_to, AreArrivals, AreEnds}
 use Rattle.package_needs.proofs.FollowLemmas.{unwraps_next, peels_end, peels_back, step_back, stop_back}
-use Rattle.package_needs.proofs.Lists.{same_some}
+use Rattle.gv_base.proofs.Lists.{same_some}
 
 absent : {A P : Type 0} (o : Option A) (x : A) → o ≡ None → o ≡ Some x → P
 absent o x p q = absurd (cc)

@@ -19,7 +19,7 @@ use Rattle.object_order.specs.Views.{number_in, entry_in, group_in, kin_in, node
 use Rattle.package_needs.specs.declared.kin.Method.{Method}
 use Rattle.package_needs.specs.Kin.{IsMethod, IsMethodAt, AreMethods, IsOf, is_method, is_defined}
 use Rattle.package_needs.specs.Groups.{PushesAt, GroupsGain, IsThis, InNodes, InFiles}
-use Rattle.package_needs.proofs.Lists.{split, set_here, set_there, same_some, item_is}
+use Rattle.gv_base.proofs.Lists.{get_set_other, get_set_same, item_is, same_some, split}
 
 -- ---- lists
 
@@ -44,8 +44,8 @@ items_of o = option_map_or (λ (group : Vec NodeRef). group.items) o []
 pub pushes_at : (old : List (Vec NodeRef)) (n : ℕ) (m : NodeRef) (row was : Vec NodeRef) → n < length old → was ≡ get_or old n was → row.items ≡ was.items ++ (m ∷ []) → PushesAt old (set old n row) n m
 pushes_at old n m row was low item now = record {
   size = length-set old n row;
-  here = ap items_of (set_here old n row low) ∙ (now ∙ ap (λ (xs : List NodeRef). xs ++ (m ∷ [])) (sym (ap items_of (item_is old n was low item))));
-  others = λ k apart. ap items_of (set_there old n k row apart);
+  here = ap items_of (get_set_same old n row low) ∙ (now ∙ ap (λ (xs : List NodeRef). xs ++ (m ∷ [])) (sym (ap items_of (item_is old n was low item))));
+  others = λ k apart. ap items_of (get_set_other old n k row apart);
 }
 
 blank_front : (rows : List (Vec NodeRef)) (row : Vec NodeRef) (k : ℕ) → row.items ≡ [] → group_in rows k ≡ [] → group_in (rows ++ (row ∷ [])) k ≡ []

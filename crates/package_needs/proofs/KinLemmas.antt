@@ -5,7 +5,7 @@ use Rattle.object_order.specs.Spots.{World}
 use Rattle.package_needs.specs.declared.kin.Method.{Method}
 use Rattle.package_needs.specs.Follow.{kind_at, part_in, IsEnd}
 use Rattle.package_needs.specs.Kin.{is_star, is_method, only_type, IsBase, IsOf, IsReceiver, IsMethod, IsBaseOf, IsTarget, IsBaseBy, IsReceiverOf, IsMethodAt, IsOwnerAt, method}
-use Rattle.package_needs.proofs.Lists.{same_some}
+use Rattle.gv_base.proofs.Lists.{same_some}
 
 absent : {A P : Type 0} (o : Option A) (x : A) → o ≡ None → o ≡ Some x → P
 absent o x p q = absurd (cc)

@@ -1,5 +1,4 @@
 mod FollowLemmas
-mod Lists
 mod LinkLemmas
 mod EndLemmas
 mod CircleLemmas

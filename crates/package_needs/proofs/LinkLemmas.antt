@@ -5,8 +5,8 @@ use Rattle.object_order.specs.declared.spot.Entry.{Entry}
 use Rattle.object_order.specs.Spots.{World}
 use Rattle.package_needs.specs.declared.ends.Link.{Link}
 use Rattle.package_needs.specs.Links.{IsLink, AreLinks}
-use Rattle.package_needs.proofs.Lists.{split, get_front, get_last, same_some, item_is}
 use Rattle.std.proofs.lemmas.List.{length-append}
+use Rattle.gv_base.proofs.Lists.{get_front, get_last, item_is, same_some, split}
 
 -- the links of the first few declarations
 pub record AreLinksBelow (w : World) (entries : List Entry) (far : Bool) (links : List (Option Link)) (n : ℕ) : Type 0 where

@@ -17,7 +17,7 @@ use Rattle.package_needs.specs.Follow.{kind_at, Ends, there, on, IsEnd}
 use Rattle.package_needs.specs.Links.{cell}
 use Rattle.package_needs.specs.Keys.{is_part_of, above_in, above, up, is_value, is_struct, is_part_at, held_in, held, written_in, written, inner_of, elided, IsInner, Literal, own, inner, IsKey, IsMentioned, IsInnerOf, IsLiteral, AreLiterals}
 use Rattle.package_needs.proofs.FollowLemmas.{step_back, stop_back}
-use Rattle.package_needs.proofs.Lists.{same_some, set_here, set_there}
+use Rattle.gv_base.proofs.Lists.{get_set_other, get_set_same, same_some}
 
 absent : {A P : Type 0} (o : Option A) (x : A) → o ≡ None → o ≡ Some x → P
 absent o x p q = absurd (cc)
@@ -156,10 +156,10 @@ held_known w trees at h types is known = (let (file, later) = held_later w trees
     subst (λ (f : ℕ). IsLiteral w (up trees) (place f h.braces.node) (cell types h.braces.node)) (sym file) (known h.braces.node (omega (arith, later))))
 
 cell_here : (table : List (Option NodeRef)) (n : ℕ) (o : Option NodeRef) → n < length table → cell (set table n o) n ≡ o
-cell_here table n o low = ap (λ (p : Option (Option NodeRef)). option_and_then (λ (q : Option NodeRef). q) p) (set_here table n o low)
+cell_here table n o low = ap (λ (p : Option (Option NodeRef)). option_and_then (λ (q : Option NodeRef). q) p) (get_set_same table n o low)
 
 cell_there : (table : List (Option NodeRef)) (n m : ℕ) (o : Option NodeRef) → (m ≡ n → ⊥) → cell (set table n o) m ≡ cell table m
-cell_there table n m o apart = ap (λ (p : Option (Option NodeRef)). option_and_then (λ (q : Option NodeRef). q) p) (set_there table n m o apart)
+cell_there table n m o apart = ap (λ (p : Option (Option NodeRef)). option_and_then (λ (q : Option NodeRef). q) p) (get_set_other table n m o apart)
 
 cell_none : (n k : ℕ) → cell (replicate n None) k ≡ None
 cell_none zero k = refl

@@ -11,7 +11,7 @@ use Rattle.go_tree.specs.declared.tree.NodeRef.{NodeRef}
 use Rattle.object_order.specs.Spots.{World, place}
 use Rattle.object_order.specs.Views.{node_in, meant_in, itself}
 use Rattle.package_needs.specs.Keys.{above_in, up, number_at, AreAbove, IsMentioned, IsRowBy, AreMentions}
-use Rattle.package_needs.proofs.Lists.{split, get_front, get_last, same_some, got}
+use Rattle.gv_base.proofs.Lists.{get_front, get_last, got, same_some, split}
 
 -- ---- one row
 

@@ -22,7 +22,7 @@ use Rattle.package_objects.specs.Declares.{gather, uses_of, declared_in, declare
 use Rattle.package_needs.specs.Keys.{up, AreMentions, IsRowBy}
 use Rattle.package_needs.specs.Kin.{IsMethod, IsOwnerAt, AreMethods}
 use Rattle.package_needs.specs.Worlds.{name_of, DenotesName, AreDenoted, IsFirstOf, AreEntries, IsPackage, MarkTheSame}
-use Rattle.package_needs.proofs.Lists.{same_some}
+use Rattle.gv_base.proofs.Lists.{same_some}
 use Rattle.package_needs.proofs.CarryLemmas.{leads, needs, carries}
 
 abbrev Use : Type 0

@@ -1,5 +1,5 @@
 //! The node of which each node of a file is a part.
-ghost use Rattle.std.specs.Prelude.{◌≡◌, ◌<◌, ◌&&◌, ℕ, ltb, nat_eq, length, IfOk, None};
+ghost use Rattle.std.specs.Prelude.{◌≡◌, ◌<◌, ◌≤◌, ◌^◌, ◌&&◌, ℕ, ltb, nat_eq, length, IfOk, None};
 ghost use Rattle.std.specs.List.{list_any};
 ghost use Rattle.package_needs.specs.Keys.{above_in, number_at, Marks};
 
@@ -37,13 +37,11 @@ fn mark_parts(table: &mut Vec<Option<u32>>, n: u32, parts: &[u32])
 
 /// The node above each node of a file.
 pub fn above_nodes(alloc: Global, nodes: &[Node]) -> Result<Vec<Option<u32>>, NoMemory>
+    requires { length nodes.now ≤ 2 ^ 32 }
     ensures { IfOk result (λ table. (p : ℕ) → number_at table.items p ≡ above_in nodes.now (length nodes.now) p) }
 {
     let end = nodes.len();
     let mut table = blank(alloc, end)?;
-    if end > 4_294_967_295 {
-        return Err(NoMemory);
-    }
     for n in 0..end {
         mark_parts(&mut table, n as u32, nodes[n].parts.as_slice());
     }

@@ -1,5 +1,6 @@
 //! The declared name of the package that each node denotes.
-ghost use Rattle.std.specs.Prelude.{IfOk, ◌≡◌, length};
+ghost use Rattle.std.specs.Prelude.{IfOk, ◌≡◌, ◌≤◌, ◌^◌, length};
+ghost use Rattle.package_objects.specs.Declares.{AreSmall};
 ghost use Rattle.package_needs.specs.Keys.{IsRowBy};
 ghost use Rattle.package_needs.specs.Worlds.{name_of, DenotesName, AreDenoted};
 
@@ -32,13 +33,18 @@ fn row_of(
     alloc: Global,
     b: &Bindings,
     file: u32,
-    end: u32,
+    end: usize,
 ) -> Result<Vec<Option<NodeRef>>, NoMemory>
+    requires { end ≤ 2 ^ 32 }
     ensures { IfOk result (λ row. IsRowBy (DenotesName b.now) file row.items end) }
 {
     let mut row = Vec::new(alloc);
     for node in 0..end {
-        row.push(name_at(b, NodeRef { file, node }))?;
+        let at = NodeRef {
+            file,
+            node: node as u32,
+        };
+        row.push(name_at(b, at))?;
     }
     Ok(row)
 }
@@ -49,30 +55,26 @@ fn tree_row(
     file: u32,
     tree: &FileTree,
 ) -> Result<Vec<Option<NodeRef>>, NoMemory>
+    requires { length tree.now.nodes ≤ 2 ^ 32 }
     ensures { IfOk result (λ row. IsRowBy (DenotesName b.now) file row.items (length tree.now.nodes)) }
 {
     let end = tree.nodes.as_slice().len();
-    if end > 4_294_967_295 {
-        return Err(NoMemory);
-    }
-    let row = row_of(alloc, b, file, end as u32)?;
+    let row = row_of(alloc, b, file, end)?;
     Ok(row)
 }
 
-/// For each node of each file the declared name of the package that it denotes. More than 2^32 files or nodes are
-/// answered as want of memory.
+/// For each node of each file the declared name of the package that it denotes.
 pub fn denoted(
     alloc: Global,
     b: &Bindings,
     trees: &[FileTree],
 ) -> Result<Vec<Vec<Option<NodeRef>>>, NoMemory>
+    requires small { AreSmall trees.now }
+    requires few { length trees.now ≤ 2 ^ 32 }
     ensures { IfOk result (λ rows. AreDenoted b.now trees.now rows.items) }
 {
     let mut rows = Vec::new(alloc);
     let end = trees.len();
-    if end > 4_294_967_295 {
-        return Err(NoMemory);
-    }
     for file in 0..end {
         rows.push(tree_row(alloc, b, file as u32, &trees[file])?)?;
     }

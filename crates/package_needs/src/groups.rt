@@ -1,9 +1,10 @@
 //! The methods of all types of a package.
-ghost use Rattle.std.specs.Prelude.{◌≡◌, ◌<◌, ℕ, [], true, false, length, slice_get, Some, IfOk, OnOk};
-ghost use Rattle.std.specs.Option.{option_copied, option_map_or};
+ghost use Rattle.std.specs.Prelude.{◌≡◌, ◌<◌, ◌≤◌, ◌^◌, ℕ, [], true, false, length, slice_get, Some, IfOk, OnOk};
+ghost use Rattle.std.specs.Option.{option_map_or};
 ghost use Rattle.go_tree.specs.declared.tree.FileTree.{FileTree};
 ghost use Rattle.go_tree.specs.declared.tree.NodeRef.{NodeRef};
 ghost use Rattle.object_order.specs.declared.spot.Entry.{Entry};
+ghost use Rattle.package_objects.specs.Declares.{AreSmall};
 ghost use Rattle.object_order.specs.Names.{AreNamed};
 ghost use Rattle.object_order.specs.Spots.{place};
 ghost use Rattle.object_order.specs.Views.{world_of, group_in, kin_in};
@@ -13,7 +14,7 @@ ghost use Rattle.package_needs.specs.Groups.{PushesAt, GroupsGain, IsThis, InNod
 
 use crate::kin::{Method, Tables, method_at};
 use crate::read::number_of;
-use go_tree::{FileTree, NodeRef};
+use go_tree::{NodeRef, tree_in};
 use gv_base::NoMemory;
 use object_order::View;
 use std::alloc::Global;
@@ -89,17 +90,13 @@ fn add_at(
     }
 }
 
-fn tree_of(trees: &[FileTree], file: u32) -> Option<&FileTree>
-    ensures { option_copied result ≡ slice_get trees.now file }
-{
-    trees.get(file as usize)
-}
-
 /// How many nodes a file has.
 fn nodes_in(view: &View, file: u32) -> usize
-    ensures { result ≡ option_map_or (λ (tree : FileTree). length tree.nodes) (slice_get view.now.trees.now file) 0 }
+    requires { AreSmall view.now.trees.now }
+    ensures small { result ≤ 2 ^ 32 }
+    ensures value { result ≡ option_map_or (λ (tree : FileTree). length tree.nodes) (slice_get view.now.trees.now file) 0 }
 {
-    match tree_of(view.trees, file) {
+    match tree_in(view.trees, file) {
         Some(tree) => tree.nodes.as_slice().len(),
         None => 0,
     }
@@ -110,9 +107,10 @@ fn add_nodes(
     view: &View,
     tables: &Tables,
     file: u32,
-    end: u32,
+    end: usize,
     groups: &mut Vec<Vec<NodeRef>>,
 ) -> Result<(), NoMemory>
+    requires small { end ≤ 2 ^ 32 }
     requires named { AreNamed view.now.entries.items view.now.numbers }
     requires size { length groups.old.items ≡ length view.now.entries.items }
     requires near { AreEnds (world_of view.now) view.now.entries.items false tables.now.near.items }
@@ -120,7 +118,11 @@ fn add_nodes(
     ensures { OnOk result (GroupsGain view.now.numbers groups.old.items groups.new.items (InNodes (world_of view.now) file end)) }
 {
     for node in 0..end {
-        add_at(view, tables, NodeRef { file, node }, groups)?;
+        let at = NodeRef {
+            file,
+            node: node as u32,
+        };
+        add_at(view, tables, at, groups)?;
     }
     Ok(())
 }
@@ -132,6 +134,7 @@ fn add_file(
     file: u32,
     groups: &mut Vec<Vec<NodeRef>>,
 ) -> Result<(), NoMemory>
+    requires small { AreSmall view.now.trees.now }
     requires named { AreNamed view.now.entries.items view.now.numbers }
     requires size { length groups.old.items ≡ length view.now.entries.items }
     requires near { AreEnds (world_of view.now) view.now.entries.items false tables.now.near.items }
@@ -139,15 +142,14 @@ fn add_file(
     ensures { OnOk result (GroupsGain view.now.numbers groups.old.items groups.new.items (λ t m. (n : ℕ) × IsMethod (world_of view.now) (place file n) t m)) }
 {
     let end = nodes_in(view, file);
-    if end > 4_294_967_295 {
-        return Err(NoMemory);
-    }
-    add_nodes(view, tables, file, end as u32, groups)?;
+    add_nodes(view, tables, file, end, groups)?;
     Ok(())
 }
 
-/// The methods of each declared type, and nothing else. More than 2^32 files or nodes are answered as want of memory.
+/// The methods of each declared type, and nothing else.
 pub fn groups_of(alloc: Global, view: &View, tables: &Tables) -> Result<Vec<Vec<NodeRef>>, NoMemory>
+    requires small { AreSmall view.now.trees.now }
+    requires few { length view.now.trees.now ≤ 2 ^ 32 }
     requires named { AreNamed view.now.entries.items view.now.numbers }
     requires near { AreEnds (world_of view.now) view.now.entries.items false tables.now.near.items }
     requires far { AreEnds (world_of view.now) view.now.entries.items true tables.now.far.items }
@@ -155,9 +157,6 @@ pub fn groups_of(alloc: Global, view: &View, tables: &Tables) -> Result<Vec<Vec<
 {
     let mut groups = blank_groups(alloc, count(view))?;
     let end = view.trees.len();
-    if end > 4_294_967_295 {
-        return Err(NoMemory);
-    }
     for file in 0..end {
         add_file(view, tables, file as u32, &mut groups)?;
     }

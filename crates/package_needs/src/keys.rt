@@ -1,8 +1,9 @@
 //! What each node mentions: what it denotes, unless it is a field key.
-ghost use Rattle.std.specs.Prelude.{◌≡◌, ◌<◌, ◌+◌, ◌↔◌, ◌^◌, ℕ, true, false, length, slice_get, slice_set, replicate, IfOk, Some, None};
+ghost use Rattle.std.specs.Prelude.{◌≡◌, ◌<◌, ◌+◌, ◌↔◌, ◌≤◌, ◌^◌, ℕ, true, false, length, slice_get, slice_set, replicate, IfOk, Some, None};
 ghost use Rattle.std.specs.Option.{option_map_or};
 ghost use Rattle.go_tree.specs.declared.tree.FileTree.{FileTree};
 ghost use Rattle.object_order.specs.Spots.{place};
+ghost use Rattle.package_objects.specs.Declares.{AreSmall};
 ghost use Rattle.object_order.specs.Views.{world_of, meant_in};
 ghost use Rattle.package_needs.specs.Follow.{kind_at as kind_in};
 ghost use Rattle.package_needs.specs.Links.{AreEnds, cell};
@@ -100,7 +101,7 @@ fn literals_in(
     requires far { AreEnds (world_of view.now) view.now.entries.items true far.now.items }
     requires above { AreAbove view.now.trees.now file table.now.items }
     requires count { count ≡ option_map_or (λ (tree : FileTree). length tree.nodes) (slice_get view.now.trees.now file) 0 }
-    requires few { count < 2 ^ 32 }
+    requires few { count ≤ 2 ^ 32 }
     ensures { IfOk result (λ types. AreLiterals (world_of view.now) (up view.now.trees.now) file types.items 0) }
 {
     let mut types = blank(alloc, count)?;
@@ -209,8 +210,9 @@ fn mention_row(
     table: &Vec<Option<u32>>,
     types: &Vec<Option<NodeRef>>,
     file: u32,
-    end: u32,
+    end: usize,
 ) -> Result<Vec<Option<NodeRef>>, NoMemory>
+    requires small { end ≤ 2 ^ 32 }
     requires far { AreEnds (world_of view.now) view.now.entries.items true far.now.items }
     requires above { AreAbove view.now.trees.now file table.now.items }
     requires known { AreLiterals (world_of view.now) (up view.now.trees.now) file types.now.items 0 }
@@ -218,7 +220,11 @@ fn mention_row(
 {
     let mut row = Vec::new(alloc);
     for node in 0..end {
-        row.push(mention_at(view, far, table, types, NodeRef { file, node }))?;
+        let at = NodeRef {
+            file,
+            node: node as u32,
+        };
+        row.push(mention_at(view, far, table, types, at))?;
     }
     Ok(row)
 }
@@ -232,34 +238,30 @@ fn tree_row(
 ) -> Result<Vec<Option<NodeRef>>, NoMemory>
     requires far { AreEnds (world_of view.now) view.now.entries.items true far.now.items }
     requires at { slice_get view.now.trees.now file ≡ Some tree.now }
+    requires small { length tree.now.nodes ≤ 2 ^ 32 }
     ensures { IfOk result (λ row. IsMentionRow (world_of view.now) (up view.now.trees.now) file row.items (length tree.now.nodes)) }
 {
     let nodes = tree.nodes.as_slice();
     let end = nodes.len();
-    if end > 4_294_967_295 {
-        return Err(NoMemory);
-    }
     let table = above_nodes(alloc, nodes)?;
     let types = literals_in(alloc, view, far, &table, file, end)?;
-    let row = mention_row(alloc, view, far, &table, &types, file, end as u32)?;
+    let row = mention_row(alloc, view, far, &table, &types, file, end)?;
     Ok(row)
 }
 
-/// What each node mentions: what it denotes, unless it is a field key. More than 2^32 files or nodes are answered as
-/// want of memory.
+/// What each node mentions: what it denotes, unless it is a field key.
 pub fn mentions_of(
     alloc: Global,
     view: &View,
     far: &Vec<Option<NodeRef>>,
 ) -> Result<Vec<Vec<Option<NodeRef>>>, NoMemory>
+    requires small { AreSmall view.now.trees.now }
+    requires few { length view.now.trees.now ≤ 2 ^ 32 }
     requires far { AreEnds (world_of view.now) view.now.entries.items true far.now.items }
     ensures { IfOk result (λ rows. AreMentions (world_of view.now) (up view.now.trees.now) (meant_in rows.items)) }
 {
     let mut rows = Vec::new(alloc);
     let end = view.trees.len();
-    if end > 4_294_967_295 {
-        return Err(NoMemory);
-    }
     for file in 0..end {
         rows.push(tree_row(alloc, view, far, file as u32, &view.trees[file])?)?;
     }

@@ -1,5 +1,6 @@
 //! The order of need of a package's objects.
-ghost use Rattle.std.specs.Prelude.{IfOk};
+ghost use Rattle.std.specs.Prelude.{◌≤◌, ◌^◌, length, IfOk};
+ghost use Rattle.package_objects.specs.Declares.{AreSmall};
 ghost use Rattle.package_needs.specs.Worlds.{IsOrderOf, AreNeedsOf};
 
 use crate::denoted::denoted;
@@ -26,6 +27,8 @@ pub struct Needs {
 
 /// What the declarations of a package's files need, and whose its methods are. `b` has what the uses in the files denote.
 pub fn needs_of(alloc: Global, b: &Bindings, files: &[FileTree]) -> Result<Needs, NoMemory>
+    requires small { AreSmall files.now }
+    requires few { length files.now ≤ 2 ^ 32 }
     ensures { IfOk result (λ needs. AreNeedsOf b.now files.now needs.order.items needs.owners.items) }
 {
     let rows = denoted(alloc, b, files)?;
@@ -63,6 +66,8 @@ pub fn needs_of(alloc: Global, b: &Bindings, files: &[FileTree]) -> Result<Needs
 
 /// The order of need alone.
 pub fn needs_order(alloc: Global, b: &Bindings, files: &[FileTree]) -> Result<Vec<Needed>, NoMemory>
+    requires small { AreSmall files.now }
+    requires few { length files.now ≤ 2 ^ 32 }
     ensures ordered { IfOk result (λ order. IsOrderOf b.now files.now order.items) }
 {
     let needs = needs_of(alloc, b, files)?;

@@ -1,6 +1,7 @@
 //! The types of a package's methods.
-ghost use Rattle.std.specs.Prelude.{◌≡◌, true, false, length, IfOk};
+ghost use Rattle.std.specs.Prelude.{◌≡◌, ◌≤◌, ◌^◌, true, false, length, IfOk};
 ghost use Rattle.object_order.specs.Views.{world_of};
+ghost use Rattle.package_objects.specs.Declares.{AreSmall};
 ghost use Rattle.package_needs.specs.Links.{AreEnds};
 ghost use Rattle.package_needs.specs.Keys.{IsRowBy};
 ghost use Rattle.package_needs.specs.Kin.{IsOwnerAt};
@@ -29,15 +30,20 @@ fn row_of(
     view: &View,
     tables: &Tables,
     file: u32,
-    end: u32,
+    end: usize,
 ) -> Result<Vec<Option<NodeRef>>, NoMemory>
+    requires small { end ≤ 2 ^ 32 }
     requires near { AreEnds (world_of view.now) view.now.entries.items false tables.now.near.items }
     requires far { AreEnds (world_of view.now) view.now.entries.items true tables.now.far.items }
     ensures { IfOk result (λ row. IsRowBy (IsOwnerAt (world_of view.now)) file row.items end) }
 {
     let mut row = Vec::new(alloc);
     for node in 0..end {
-        row.push(owner_at(view, tables, NodeRef { file, node }))?;
+        let at = NodeRef {
+            file,
+            node: node as u32,
+        };
+        row.push(owner_at(view, tables, at))?;
     }
     Ok(row)
 }
@@ -49,34 +55,31 @@ fn tree_row(
     file: u32,
     tree: &FileTree,
 ) -> Result<Vec<Option<NodeRef>>, NoMemory>
+    requires small { length tree.now.nodes ≤ 2 ^ 32 }
     requires near { AreEnds (world_of view.now) view.now.entries.items false tables.now.near.items }
     requires far { AreEnds (world_of view.now) view.now.entries.items true tables.now.far.items }
     ensures { IfOk result (λ row. IsRowBy (IsOwnerAt (world_of view.now)) file row.items (length tree.now.nodes)) }
 {
     let end = tree.nodes.as_slice().len();
-    if end > 4_294_967_295 {
-        return Err(NoMemory);
-    }
-    let row = row_of(alloc, view, tables, file, end as u32)?;
+    let row = row_of(alloc, view, tables, file, end)?;
     Ok(row)
 }
 
-/// For each node of each file the type of which it declares a method. More than 2^32 files or nodes are answered as want of memory.
+/// For each node of each file the type of which it declares a method.
 pub fn owners_of(
     alloc: Global,
     view: &View,
     tables: &Tables,
     trees: &[FileTree],
 ) -> Result<Vec<Vec<Option<NodeRef>>>, NoMemory>
+    requires small { AreSmall trees.now }
+    requires few { length trees.now ≤ 2 ^ 32 }
     requires near { AreEnds (world_of view.now) view.now.entries.items false tables.now.near.items }
     requires far { AreEnds (world_of view.now) view.now.entries.items true tables.now.far.items }
     ensures { IfOk result (λ rows. AreOwners (world_of view.now) trees.now rows.items) }
 {
     let mut rows = Vec::new(alloc);
     let end = trees.len();
-    if end > 4_294_967_295 {
-        return Err(NoMemory);
-    }
     for file in 0..end {
         rows.push(tree_row(alloc, view, tables, file as u32, &trees[file])?)?;
     }

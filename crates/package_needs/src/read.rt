@@ -2,10 +2,10 @@
 ghost use Rattle.std.specs.Prelude.{◌≡◌, ◌==◌, slice_get, option_and_then, option_map};
 ghost use Rattle.std.specs.Option.{option_copied};
 ghost use Rattle.object_order.specs.Spots.{place};
-ghost use Rattle.object_order.specs.Views.{node_in, number_in, entry_in, itself, meant_in, world_of};
+ghost use Rattle.object_order.specs.Views.{number_in, entry_in, itself, meant_in, world_of};
 ghost use Rattle.package_needs.specs.Follow.{kind_at as kind_in, part_in};
 
-use go_tree::{FileTree, Node, NodeKind, NodeRef};
+use go_tree::{Node, NodeKind, NodeRef, node_in};
 use object_order::{Entry, View};
 use std::collections::HashMap;
 
@@ -19,26 +19,11 @@ pub fn beside(at: NodeRef, node: u32) -> NodeRef
     }
 }
 
-fn tree_at<'a>(trees: &'a [FileTree], file: u32) -> Option<&'a FileTree>
-    ensures { option_copied result ≡ slice_get trees.now file }
-{
-    trees.get(file as usize)
-}
-
-fn node_in_trees<'a>(trees: &'a [FileTree], at: NodeRef) -> Option<&'a Node>
-    ensures { option_copied result ≡ node_in trees.now at }
-{
-    match tree_at(trees, at.file) {
-        Some(tree) => tree.nodes.as_slice().get(at.node as usize),
-        None => None,
-    }
-}
-
 /// A node, if it is there.
 pub fn node_at<'a>(view: &'a View, at: NodeRef) -> Option<&'a Node>
     ensures { option_copied result ≡ (world_of view.now).node at }
 {
-    node_in_trees(view.trees, at)
+    node_in(view.trees, at)
 }
 
 /// The kind of a node; that of a package clause, where there is no such node.
@@ -51,16 +36,10 @@ pub fn kind_at(view: &View, at: NodeRef) -> NodeKind
     }
 }
 
-fn nth(node: &Node, i: usize) -> Option<u32>
-    ensures { result ≡ slice_get node.now.parts i }
-{
-    node.parts.as_slice().get(i).copied()
-}
-
 fn part_of(node: &Node, i: usize, at: NodeRef) -> Option<NodeRef>
     ensures { result ≡ option_map (λ n. place at.file n) (slice_get node.now.parts i) }
 {
-    match nth(node, i) {
+    match node.part(i) {
         Some(part) => Some(beside(at, part)),
         None => None,
     }

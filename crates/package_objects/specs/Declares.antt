@@ -1,7 +1,7 @@
 -- The objects that a package's files declare, and on what each declaration rests (Go 1.17, "Declarations and scope"): constants,
 -- variables, types, functions, methods, and what functions declare in themselves. Labels, fields, the methods of an interface, parameters
 -- of signatures without a body and imports are none.
-use Rattle.std.specs.Prelude.{ℕ, zero, suc, ◌-◌, ◌==◌, ◌&&◌, Bool, true, false, if◌then◌else◌, List, [], ◌∷◌, ◌++◌, length, Option, Some, None, slice_get, is_some, option_map}
+use Rattle.std.specs.Prelude.{◌≡◌, ◌≤◌, ◌^◌, ℕ, zero, suc, ◌-◌, ◌==◌, ◌&&◌, Bool, true, false, if◌then◌else◌, List, [], ◌∷◌, ◌++◌, length, Option, Some, None, slice_get, is_some, option_map}
 use Rattle.std.specs.List.{cons_option}
 use Rattle.std.specs.Option.{option_map_or}
 use Rattle.go_tree.specs.declared.tree.Node.{Node}
@@ -223,6 +223,10 @@ declares file nodes uses n k.Alias node = name_of file form.Alias (cons_option (
 declares file nodes uses n _ node = []
 
 -- ---- files
+
+-- each tree has at most 2^32 nodes, so that each node has a number
+abbrev pub AreSmall : List FileTree → Type 0
+AreSmall trees = (f : ℕ) (tree : FileTree) → slice_get trees f ≡ Some tree → length tree.nodes ≤ 2 ^ 32
 
 abbrev pub declares_at : ℕ → List Node → List (Option NodeRef) → ℕ → List Entry
 declares_at file nodes uses n = option_map_or (λ (node : Node). declares file nodes uses n node.kind node) (slice_get nodes n) []

@@ -1,5 +1,5 @@
 //! What a node declares, by its kind.
-ghost use Rattle.std.specs.Prelude.{◌≡◌, ◌++◌, ◌∷◌, [], IfOk, OnOk};
+ghost use Rattle.std.specs.Prelude.{◌≡◌, ◌≤◌, ◌^◌, ◌++◌, ◌∷◌, [], length, IfOk, OnOk};
 ghost use Rattle.std.specs.List.{cons_option};
 ghost use Rattle.package_objects.specs.Declares.{rooted, part, with_values, itself, name_of, parameters, declares, declares_at, declared_in};
 
@@ -136,7 +136,7 @@ fn add_at(
     Ok(())
 }
 
-/// Adds what the nodes of a file declare. More than 2^32 nodes are answered as want of memory.
+/// Adds what the nodes of a file declare.
 pub fn add_file(
     alloc: Global,
     file: u32,
@@ -144,12 +144,10 @@ pub fn add_file(
     uses: &[Option<NodeRef>],
     out: &mut Vec<Entry>,
 ) -> Result<(), NoMemory>
+    requires { length nodes.now ≤ 2 ^ 32 }
     ensures { OnOk result (out.new.items ≡ out.old.items ++ declared_in file nodes.now uses.now) }
 {
     let end = nodes.len();
-    if end > 4_294_967_295 {
-        return Err(NoMemory);
-    }
     for n in 0..end {
         add_at(alloc, file, nodes, uses, n as u32, out)?;
     }

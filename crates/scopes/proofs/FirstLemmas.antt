@@ -7,7 +7,7 @@ use Rattle.std.proofs.Math.ListN.{get_or-append}
 use Rattle.std.proofs.Math.Seq.{get_or-append_seam}
 use Rattle.scopes.specs.declared.visible.Declaration.{Declaration}
 use Rattle.scopes.specs.Denotes.{IsRefused, IsFlags}
-use Rattle.scopes.proofs.VisibleLemmas.{same_some}
+use Rattle.gv_base.proofs.Lists.{same_some}
 
 abbrev pub slot_eq : ℕ × ℕ → ℕ × ℕ → Bool
 slot_eq a b = nat_eq a.0 b.0 && nat_eq a.1 b.1

@@ -11,13 +11,11 @@ use Rattle.scopes.specs.declared.visible.Declaration.{Declaration}
 use Rattle.scopes.specs.declared.visible.Use.{Use}
 use Rattle.scopes.specs.Denotes.{HasRegion, Holds, Within, Inner, Denotes, Answers, IsLaid, IsFlags, AreUses, AreAnswered}
 use Rattle.scopes.specs.Visible.{Ended, Lasts, Taken, TopLasts, TopTest, Chained, Encloses, IsVisible, AllVisible, Reached, NoneLeft, IfRegion, VisibleAt, AllEmpty, Walked}
+use Rattle.gv_base.proofs.Lists.{same_some}
 
 -- a declaration, for where there is none
 abbrev pub no_declaration : Declaration
 no_declaration = record { name = 0; start = 0; «end» = 0; local = false }
-
-pub same_some : {X : Type 0} (o : Option X) (a b : X) → o ≡ Some a → o ≡ Some b → a ≡ b
-same_some o a b p q = cc
 
 none_in : (k : ℕ) → Contains [] k → ⊥
 none_in k (i, h, e) = absurd (omega arith)

@@ -14,6 +14,7 @@ use Rattle.go_tree.specs.Forest.{Forest, Empty, Grow, ◌⊕◌}
 use Rattle.scopes.specs.Roles.{role}
 use Rattle.scopes.specs.Regions.{Scope, declare, declared, form_of, is_name, is_names, leaf_names, first_names, names_of, parameters, handed_within, handed_around, inside, before, after, is_soft}
 use Rattle.scopes.specs.Walk.{Shows, IsFormed}
+use Rattle.gv_base.proofs.Lists.{same_some}
 
 size_join : (f g : Forest) → size (f ⊕ g) ≡ size f + size g
 size_join Empty g = same (size g) where
@@ -74,9 +75,6 @@ parameters_join m (Grow k a z ps f) h = in_front parameters m _ ps f h (paramete
 pub declared_join : (s : Scope) → Additive (declared s)
 declared_join s m Empty h = at_same (declared s) m h
 declared_join s m (Grow k a z ps f) h = in_front (declared s) m _ ps f h (declared_join s (m + suc (size ps)) f h)
-
-pub same_some : {X : Type 0} (o : Option X) (a b : X) → o ≡ Some a → o ≡ Some b → a ≡ b
-same_some o a b p q = cc
 
 -- a loop over parts adds what a function gives of each
 pub more : {X : Type 0} (g : ℕ → Forest → List X) → Additive g → (nodes : List Node) (parts : List ℕ) (i : ℕ) (was now new : List X) → i < length parts

@@ -86,7 +86,7 @@ fn put_state(out: &mut Vec<u8>, state: &PackState) -> Result<(), NoMemory> {
 
 /// A package as a line: path, `*` of a stub, files, imports behind `>`, and state.
 fn put_package(out: &mut Vec<u8>, package: &Package) -> Result<(), NoMemory> {
-    out.extend_from_slice(package.path.as_slice())?;
+    out.extend_from_slice(package.path.as_str().as_bytes())?;
     if package.stub {
         out.push(b'*')?;
     }
@@ -205,13 +205,16 @@ fn a_broken_package_imports_nothing(rt: HostRuntime) -> Result<(), Fail> {
 fn module_of(alloc: Global, text: &[u8]) -> Result<Vec<u8>, NoMemory> {
     let mut files = Files::new(alloc);
     files.put("go.mod", text)?;
-    let path = module_path(&files).to_vec(alloc)?;
+    let path = module_path(&files).as_bytes().to_vec(alloc)?;
     Ok(path)
 }
 
 #[test]
 fn module_paths(rt: HostRuntime) -> Result<(), Fail> {
-    assert_eq!(rt; module_path(&Files::new(rt.alloc())), b"m".as_slice());
+    assert_eq!(rt;
+        module_path(&Files::new(rt.alloc())).as_bytes(),
+        b"m".as_slice()
+    );
     let rows: [(&[u8], &[u8]); 3] = [
         (b"module example.com/x\n\ngo 1.17\n", b"example.com/x"),
         (b"// module c\n\tmodule \t\"a/b\"// tail\n", b"a/b"),

@@ -2,13 +2,12 @@
 ghost use Rattle.std.specs.Prelude.{◌≡◌, ◌++◌, ◌≤◌, ◌^◌, length, IfOk, OnOk};
 ghost use Rattle.go_tree.specs.declared.tree.NodeRef.{NodeRef};
 ghost use Rattle.object_order.specs.Views.{group_in};
-ghost use Rattle.package_objects.specs.Declares.{gather};
+ghost use Rattle.package_objects.specs.Declares.{gather, AreSmall};
 ghost use Rattle.unit_blocks.specs.Blocks.{again_in_file, again_by, inner_again, is_redeclared, again_at};
 ghost use Rattle.unit_read.specs.Subjects.{flag, unit_of};
 ghost use Rattle.unit_read.specs.Units.{nodes_at};
 ghost use Rattle.unit_rows.specs.Drafts.{IsPlaced};
 ghost use Rattle.unit_rows.specs.Redeclared.{named_again};
-ghost use Rattle.unit_rows.specs.Rows.{AreSmall};
 ghost use Rattle.unit_rows.specs.Tables.{row_in};
 
 use crate::blocks::blocks_of;

@@ -5,7 +5,7 @@ use Rattle.std.proofs.lemmas.List.{take_more}
 use Rattle.std.proofs.lemmas.Option.{slice_get-get_or}
 use Rattle.go_tree.specs.declared.tree.FileTree.{FileTree}
 use Rattle.unit_read.specs.Units.{nodes_of}
-use Rattle.unit_rows.specs.Rows.{AreSmall}
+use Rattle.package_objects.specs.Declares.{AreSmall}
 
 pub got : {X : Type 0} (xs : List X) (k : ℕ) → k < length xs → (x : X) × (slice_get xs k ≡ Some x)
 got [] k low = absurd (omega arith)

@@ -1,5 +1,5 @@
 -- What is said of the nodes of a package's files.
-use Rattle.std.specs.Prelude.{◌≡◌, ℕ, ◌+◌, ◌≤◌, ◌^◌, if◌then◌else◌, List, length, Option, Some, slice_get, option_map}
+use Rattle.std.specs.Prelude.{◌≡◌, ℕ, ◌+◌, if◌then◌else◌, List, Option, Some, option_map}
 use Rattle.std.specs.List.{Contains, position_from}
 use Rattle.go_tree.specs.declared.bindings.Object.{Object}
 use Rattle.go_tree.specs.declared.tree.FileTree.{FileTree}
@@ -10,10 +10,6 @@ use Rattle.const_tree.specs.Constants.{specs_in, first_from}
 use Rattle.unit_read.specs.declared.place.Place.{Place}
 use Rattle.unit_read.specs.Places.{place_of}
 use Rattle.unit_read.specs.Units.{Unit, object_in, is_this, is_top, first_place}
-
--- each tree has at most 2^32 nodes
-abbrev pub AreSmall : List FileTree → Type 0
-AreSmall trees = (f : ℕ) (tree : FileTree) → slice_get trees f ≡ Some tree → length tree.nodes ≤ 2 ^ 32
 
 -- the uses have one object for a node at most
 abbrev pub AreSingle : List (NodeRef × Object) → Type 0

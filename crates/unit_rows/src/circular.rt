@@ -7,11 +7,10 @@ ghost use Rattle.object_order.specs.Names.{AreNamed};
 ghost use Rattle.object_order.specs.Views.{number_in, world_of as world_in};
 ghost use Rattle.name_circles.specs.Circles.{AreMarked};
 ghost use Rattle.object_order.specs.Spots.{place};
-ghost use Rattle.package_objects.specs.Declares.{declared};
+ghost use Rattle.package_objects.specs.Declares.{declared, AreSmall};
 ghost use Rattle.unit_read.specs.Rows.{IsRow, AreRows};
 ghost use Rattle.unit_read.specs.Subjects.{flag, unit_of, IsRead};
 ghost use Rattle.unit_rows.specs.Circular.{named_at, is_defined, part_at, name_in, method_names, methods_by, group_items, is_value, is_number, if_value, nth_value, all_values, if_flagged, flagged, AreCircular};
-ghost use Rattle.unit_rows.specs.Rows.{AreSmall};
 ghost use Rattle.unit_rows.specs.Tables.{is_listed};
 
 use crate::cyclic::all_cyclic;
@@ -276,8 +275,7 @@ fn flagged(
     Ok(out)
 }
 
-/// For each node of each file whether it is a name that is no type and leads back to itself. More than 2^32 files or nodes are answered as want of
-/// memory.
+/// For each node of each file whether it is a name that is no type and leads back to itself.
 pub fn circular_rows(alloc: Global, s: &Subject) -> Result<Vec<Vec<bool>>, NoMemory>
     requires read { IsRead s.now }
     requires small { AreSmall s.now.trees.now }

@@ -1,12 +1,10 @@
 //! The defined types of a package.
-ghost use Rattle.std.specs.Prelude.{◌≡◌, ◌++◌, ◌≤◌, ◌^◌, length, IfOk, OnOk, slice_get};
-ghost use Rattle.std.specs.Option.{option_copied};
-ghost use Rattle.package_objects.specs.Declares.{gather};
+ghost use Rattle.std.specs.Prelude.{◌≡◌, ◌++◌, ◌≤◌, ◌^◌, length, IfOk, OnOk};
+ghost use Rattle.package_objects.specs.Declares.{gather, AreSmall};
 ghost use Rattle.unit_read.specs.Units.{nodes_of, is_defined_node, named_node, named, defined_by, defined_at};
-ghost use Rattle.unit_rows.specs.Rows.{AreSmall};
 ghost use Rattle.unit_rows.specs.Defined.{nodes_in, defined_of, all_defined};
 
-use go_tree::{FileTree, Node, NodeKind, NodeRef};
+use go_tree::{FileTree, Node, NodeKind, NodeRef, tree_in};
 use gv_base::NoMemory;
 use package_objects::{node_of, part_of};
 use std::alloc::Global;
@@ -72,16 +70,10 @@ fn add_nodes(file: u32, nodes: &[Node], out: &mut Vec<NodeRef>) -> Result<(), No
     Ok(())
 }
 
-fn tree_of(trees: &[FileTree], file: u32) -> Option<&FileTree>
-    ensures { option_copied result ≡ slice_get trees.now file }
-{
-    trees.get(file as usize)
-}
-
 fn nodes_in(trees: &[FileTree], file: u32) -> &[Node]
     ensures { result.now ≡ nodes_in trees.now file }
 {
-    match tree_of(trees, file) {
+    match tree_in(trees, file) {
         Some(tree) => tree.nodes.as_slice(),
         None => &[],
     }

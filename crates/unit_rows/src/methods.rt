@@ -3,7 +3,7 @@ ghost use Rattle.std.specs.Prelude.{◌≡◌, ◌≤◌, ◌^◌, ◌++◌, ℕ
 ghost use Rattle.std.specs.Option.{option_map_or};
 ghost use Rattle.go_tree.specs.declared.tree.NodeRef.{NodeRef as ANode};
 ghost use Rattle.object_order.specs.Spots.{place};
-ghost use Rattle.package_objects.specs.Declares.{gather};
+ghost use Rattle.package_objects.specs.Declares.{gather, AreSmall};
 ghost use Rattle.unit_read.specs.Index.{texts_of};
 ghost use Rattle.unit_read.specs.Methods.{if_method, methods_in, all_methods, methods_of, part_name, method_name, method_names, named_again, owners, nth_group, nth_named_again, repeated_methods, is_repeated_method};
 ghost use Rattle.unit_read.specs.Rows.{AreRows};
@@ -11,7 +11,7 @@ ghost use Rattle.object_order.specs.Views.{group_in};
 ghost use Rattle.unit_read.specs.Subjects.{cell, flag, kept_methods, unit_of};
 ghost use Rattle.unit_read.specs.Units.{nodes_at};
 ghost use Rattle.unit_rows.specs.Grouping.{number_of, PutsBy, AreGroups};
-ghost use Rattle.unit_rows.specs.Rows.{AreSmall, first_in};
+ghost use Rattle.unit_rows.specs.Rows.{first_in};
 ghost use Rattle.unit_rows.specs.Tables.{is_listed};
 
 use crate::again::add_again;

@@ -3,7 +3,8 @@ ghost use Rattle.std.specs.Prelude.{◌≡◌, ◌≤◌, ◌^◌, IfOk, length}
 ghost use Rattle.object_order.specs.Spots.{place};
 ghost use Rattle.unit_read.specs.Rows.{IsRow, AreRows};
 ghost use Rattle.unit_read.specs.Units.{object_in};
-ghost use Rattle.unit_rows.specs.Rows.{AreSmall, AreSingle, object_for};
+ghost use Rattle.package_objects.specs.Declares.{AreSmall};
+ghost use Rattle.unit_rows.specs.Rows.{AreSingle, object_for};
 
 use go_tree::{Bindings, FileTree, NodeRef, Object};
 use gv_base::NoMemory;

@@ -1,7 +1,7 @@
 //! Which names are declared before at package level.
-ghost use Rattle.std.specs.Prelude.{◌≡◌, ◌++◌, [], length, map, IfOk, OnOk};
+ghost use Rattle.std.specs.Prelude.{◌≡◌, ◌≤◌, ◌^◌, ◌++◌, [], length, map, IfOk, OnOk};
 ghost use Rattle.go_tree.specs.declared.tree.NodeRef.{NodeRef};
-ghost use Rattle.package_objects.specs.Declares.{declared};
+ghost use Rattle.package_objects.specs.Declares.{AreSmall, declared};
 ghost use Rattle.unit_read.specs.Index.{texts_of};
 ghost use Rattle.unit_read.specs.Subjects.{flag, unit_of};
 ghost use Rattle.unit_read.specs.Units.{name_at};
@@ -126,7 +126,9 @@ fn all_in_block(alloc: Global, s: &Subject, entries: &[Entry]) -> Result<Vec<Nod
 
 /// The names of the package block, in order of file and node.
 pub fn package_names(alloc: Global, s: &Subject) -> Result<Vec<NodeRef>, NoMemory>
-    requires { IsPlaced s.now }
+    requires placed { IsPlaced s.now }
+    requires small { AreSmall s.now.trees.now }
+    requires few { length s.now.trees.now ≤ 2 ^ 32 }
     ensures { IfOk result (λ names. names.items ≡ package_names (unit_of s.now)) }
 {
     let entries = entries_of(alloc, s.trees, &[])?;
@@ -154,9 +156,11 @@ pub fn named_again(alloc: Global, s: &Subject, nodes: &[NodeRef]) -> Result<Vec<
     Ok(list)
 }
 
-/// The names that are declared before in the package block. More than 2^32 files or nodes are answered as want of memory.
+/// The names that are declared before in the package block.
 pub fn redeclared(alloc: Global, s: &Subject) -> Result<Vec<NodeRef>, NoMemory>
-    requires { IsPlaced s.now }
+    requires placed { IsPlaced s.now }
+    requires small { AreSmall s.now.trees.now }
+    requires few { length s.now.trees.now ≤ 2 ^ 32 }
     ensures { IfOk result (λ list. list.items ≡ redeclared (unit_of s.now)) }
 {
     let names = package_names(alloc, s)?;
@@ -166,7 +170,9 @@ pub fn redeclared(alloc: Global, s: &Subject) -> Result<Vec<NodeRef>, NoMemory>
 
 /// For each node of each file whether it is a name that is declared before in the package block.
 pub fn redeclared_rows(alloc: Global, s: &Subject) -> Result<Vec<Vec<bool>>, NoMemory>
-    requires { IsPlaced s.now }
+    requires placed { IsPlaced s.now }
+    requires small { AreSmall s.now.trees.now }
+    requires few { length s.now.trees.now ≤ 2 ^ 32 }
     ensures { IfOk result (λ flags. (at : NodeRef) → flag flags.items at ≡ is_redeclared (unit_of s.now) at) }
 {
     let list = redeclared(alloc, s)?;

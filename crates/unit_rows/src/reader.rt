@@ -5,7 +5,7 @@ ghost use Rattle.unit_read.specs.Environments.{IsEnvironment};
 ghost use Rattle.unit_read.specs.Index.{texts_of};
 ghost use Rattle.unit_read.specs.Subjects.{unit_of, IsRead};
 ghost use Rattle.unit_rows.specs.Drafts.{package_unit, with_flags};
-ghost use Rattle.unit_rows.specs.Rows.{AreSmall};
+ghost use Rattle.package_objects.specs.Declares.{AreSmall};
 
 use crate::copies::copy_rows;
 use crate::listing::defined;

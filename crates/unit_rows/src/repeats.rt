@@ -5,7 +5,7 @@ ghost use Rattle.object_order.specs.Spots.{place};
 ghost use Rattle.unit_read.specs.Members.{repeats_of, is_member_list, repeats_by, repeats_at, repeats_in, repeats, is_repeat};
 ghost use Rattle.unit_read.specs.Subjects.{flag, unit_of};
 ghost use Rattle.unit_read.specs.Units.{nodes_at};
-ghost use Rattle.unit_rows.specs.Rows.{AreSmall};
+ghost use Rattle.package_objects.specs.Declares.{AreSmall};
 
 use crate::again::add_again;
 use crate::flags::listed_rows;

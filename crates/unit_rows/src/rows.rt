@@ -1,7 +1,8 @@
 //! What is said of nodes by their files alone: specifications and places.
 ghost use Rattle.std.specs.Prelude.{◌≡◌, ◌≤◌, ◌^◌, IfOk, length};
 ghost use Rattle.unit_read.specs.Rows.{IsRow, AreRows};
-ghost use Rattle.unit_rows.specs.Rows.{AreSmall, spec_in, place_in};
+ghost use Rattle.package_objects.specs.Declares.{AreSmall};
+ghost use Rattle.unit_rows.specs.Rows.{spec_in, place_in};
 
 use const_tree::{Spec, spec_row, specs_in};
 use go_tree::FileTree;

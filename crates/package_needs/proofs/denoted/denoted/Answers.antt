@@ -1,7 +1,7 @@
 use Rattle.std.proofs.Common.{arith}
 use Rattle.package_needs.specs.Worlds.{DenotesName}
-use Rattle.package_needs.proofs.Lists.{item_is}
 use Rattle.package_needs.proofs.MentionLemmas.{rows_none, rows_more}
+use Rattle.gv_base.proofs.Lists.{item_is}
 use Rattle.package_needs.proofs.denoted.denoted.Goals as goal
 
 pub loop-file-init : goal.loop-file-init

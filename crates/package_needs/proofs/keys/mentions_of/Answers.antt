@@ -2,8 +2,8 @@ use Rattle.std.proofs.Common.{arith, refl, sym, subst, length}
 use Rattle.go_tree.specs.declared.tree.FileTree.{FileTree}
 use Rattle.object_order.specs.Views.{world_of}
 use Rattle.package_needs.specs.Keys.{up, IsMentioned, IsRowBy}
-use Rattle.package_needs.proofs.Lists.{item_is}
 use Rattle.package_needs.proofs.MentionLemmas.{rows_none, rows_more, rows_all}
+use Rattle.gv_base.proofs.Lists.{item_is}
 use Rattle.package_needs.proofs.keys.mentions_of.Goals as goal
 
 pub loop-file-init : goal.loop-file-init

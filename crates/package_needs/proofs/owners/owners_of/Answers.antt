@@ -1,7 +1,7 @@
 use Rattle.std.proofs.Common.{arith}
 use Rattle.object_order.specs.Views.{world_of}
 use Rattle.package_needs.specs.Kin.{IsOwnerAt}
-use Rattle.package_needs.proofs.Lists.{item_is}
+use Rattle.gv_base.proofs.Lists.{item_is}
 use Rattle.package_needs.proofs.MentionLemmas.{rows_none, rows_more}
 use Rattle.package_needs.proofs.owners.owners_of.Goals as goal
 
