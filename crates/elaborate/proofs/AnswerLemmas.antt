@@ -1,12 +1,11 @@
 -- Rules that go on with methods.
-use Rattle.std.proofs.Common.{◌≡◌, List, [], ◌∷◌, map, Option, true, refl, sym, ap, ◌∙◌}
+use Rattle.std.proofs.Common.{◌≡◌, Option, true, refl, sym, ap}
 use Rattle.std.specs.Global.{Vec}
 use Rattle.gv_base.specs.declared.constant.Const.{Const}
 use Rattle.mark_walk.specs.Telling.{Outcome, Puts, tell}
 use Rattle.type_model.specs.declared.term.Method.{Method}
 use Rattle.type_model.specs.declared.term.TypeId.{TypeId}
-use Rattle.type_model.specs.GoTypes.{GoType, GoMethods, AndMethod, signature_of, methods_of}
-use Rattle.type_model.specs.Parts.{method_of}
+use Rattle.type_model.specs.GoTypes.{GoType, GoMethods}
 use Rattle.type_model.specs.Tables.{types_in}
 use Rattle.method_sets.specs.Replies.{listed_in}
 use Rattle.rel_growth.specs.Assign.{ToAssign}
@@ -22,12 +21,9 @@ use Rattle.rule_words.specs.declared.step.Rest.{Rest}
 use Rattle.rule_words.specs.Putting.{methods_from, assigned_with}
 use Rattle.rule_words.specs.Scenes.{type_in, IsTypeOf}
 use Rattle.rule_words.specs.Steps.{step_in, rest_in, IsRestOf, IsStepOf}
+use Rattle.type_answers.proofs.AnswerLemmas.{methods_same}
 use Rattle.elaborate.specs.declared.questions.Answered.TheVariants as answered
 use Rattle.elaborate.specs.Settling.{by_methods, IsToldOf}
-
-methods_same : (types : List GoType) (list : List Method) → methods_from (map (λ m. method_of types m) list) ≡ methods_of types list
-methods_same types [] = refl
-methods_same types (m ∷ list) = ap (λ ms. AndMethod m.name m.package m.pointer (signature_of types m.of) ms) (methods_same types list)
 
 abbrev assign_with : GoType → Option Const → GoMethods → GoType → ToAssign
 assign_with of value set to = record { v = of; value = value; set = set; to = to }

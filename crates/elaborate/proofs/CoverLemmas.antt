@@ -27,7 +27,8 @@ use Rattle.type_model.specs.declared.term.TypeName.{TypeName}
 use Rattle.typed_tree.specs.Basics.{HasBasics}
 use Rattle.elaborate.proofs.WalkLemmas.{first_declared}
 use Rattle.type_questions.specs.Over.{declared}
-use Rattle.elaborate.specs.Walks.{blocks_of, count_of, says_of, pends_of, item_rule, IsItemOf, answers_last}
+use Rattle.elaborate.specs.Walks.{blocks_of, count_of, item_rule, IsItemOf}
+use Rattle.type_answers.specs.Answering.{says_of, pends_of, answers_last}
 use Rattle.elaborate.specs.Elaborated.{IsAtWork, IsAnnotated, IsInCircle}
 use Rattle.elaborate.specs.Covering.{Went, Ended, IsAtRest, IsCircleAt, IsElaborated, IsNodeOf, IsNodeMarked, AreStagesMarked, AreStagesOfNodes, AreNodesOf, AreNodesMarked, AreBlocksMarked}
 

@@ -1,5 +1,4 @@
 mod AnswerLemmas
 mod WalkLemmas
 mod StepLemmas
-mod QuestionLemmas
 mod CoverLemmas

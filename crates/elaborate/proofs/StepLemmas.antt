@@ -30,9 +30,13 @@ use Rattle.unit_read.specs.Units.{Unit, base_of}
 use Rattle.unit_read.specs.Subjects.{unit_of}
 use Rattle.rule_words.specs.Asking.{Rule, type_item, declaration_told}
 use Rattle.rule_words.specs.Scenes.{IsScene}
-use Rattle.elaborate.specs.Walks.{says_of, pends_of, item_rule, IsItemOf, answers_last}
+use Rattle.elaborate.specs.Walks.{item_rule, IsItemOf}
+use Rattle.type_answers.specs.Answering.{says_of, pends_of, answers_last}
 use Rattle.elaborate.specs.Elaborated.{IsAtWork}
-use Rattle.elaborate.specs.Settling.{StepsBy, IsWholeBy, is_got}
+use Rattle.rule_words.specs.declared.step.Step.{Step}
+use Rattle.rule_words.specs.declared.step.Step.TheVariants as step
+use Rattle.type_answers.specs.Coming.{says_at, pends_at, ComesTo, GivesAt, AwaitsAt}
+use Rattle.elaborate.specs.Settling.{StepsAs, StepsBy, YieldsAt, ExpectsAt, IsWholeBy, is_got}
 use Rattle.elaborate.proofs.WalkLemmas.{rule_of_item}
 
 -- what has no mark is an item
@@ -56,6 +60,35 @@ steps_by rule u s next i (Some j) is work (expects, stays) =
     (expects_awaits (says_of (unit_of u)) (pends_of (unit_of u)) (so_far s) (rule (unit_of u) i) (tell (so_far s) (rule (unit_of u) i)) j refl expects) in
     let none = awaited_none (says_of (unit_of u)) (pends_of (unit_of u)) (answers_last (unit_of u)) (so_far s) (item_rule rule (unit_of u) i) j awaits in
     (subst (λ (blocks : List Block). IsItem blocks j) work.blocks (item_at s j none), awaits, stays)
+
+-- the same, by what the code came to
+pub steps_as : (rule : Unit → Item → Rule) (u : Subject) (s next : State) (i : Item) (waits : Option Item) → IsItemOf (unit_of u) i → IsAtWork u s
+    → StepsAs u s next i (rule (unit_of u) i) waits
+    → Steps (says_of (unit_of u)) (pends_of (unit_of u)) (IsItemOf (unit_of u)) (item_rule rule (unit_of u)) (so_far s) (so_far next) i waits
+unfolding says_at pends_at
+steps_as rule u s next i None is work (m, gives, adds) = (
+  m,
+  subst (λ (r : Rule). Gives (says_of (unit_of u)) (so_far s) r m) (sym (rule_of_item rule (unit_of u) i is)) gives,
+  adds,
+)
+steps_as rule u s next i (Some j) is work (waits, stays) =
+    let awaits : Awaits (says_of (unit_of u)) (pends_of (unit_of u)) (so_far s) (item_rule rule (unit_of u) i) j =
+    subst (λ (r : Rule). Awaits (says_of (unit_of u)) (pends_of (unit_of u)) (so_far s) r j) (sym (rule_of_item rule (unit_of u) i is)) waits in
+    let none = awaited_none (says_of (unit_of u)) (pends_of (unit_of u)) (answers_last (unit_of u)) (so_far s) (item_rule rule (unit_of u) i) j awaits in
+    (subst (λ (blocks : List Block). IsItem blocks j) work.blocks (item_at s j none), awaits, stays)
+
+-- what comes of a step that comes to what a rule does comes of the rule
+pub comes_yields : (u : Subject) (s : State) (rule : Rule) (x : Step) (m : Meaning) → ComesTo u s rule x → YieldsAt u s x m → GivesAt u s rule m
+unfolding says_at pends_at
+comes_yields u s rule (step.Says given) m comes same = subst (λ (n : Meaning). GivesAt u s rule n) same comes
+comes_yields u s rule (step.Waits i) m comes never = absurd never
+comes_yields u s rule (step.Puts asked rest) m comes yields = comes.gives m yields
+
+pub comes_expects : (u : Subject) (s : State) (rule : Rule) (x : Step) (j : Item) → ComesTo u s rule x → ExpectsAt u s x j → AwaitsAt u s rule j
+unfolding says_at pends_at
+comes_expects u s rule (step.Says given) j comes never = absurd never
+comes_expects u s rule (step.Waits i) j comes same = subst (λ (k : Item). AwaitsAt u s rule k) same comes
+comes_expects u s rule (step.Puts asked rest) j comes expects = comes.awaits j expects
 
 pub stays_itself : (s : State) → Stays (so_far s) (so_far s)
 stays_itself s = record { stays = λ j n e. e; only = λ j n e. e }

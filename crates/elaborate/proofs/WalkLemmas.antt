@@ -34,28 +34,10 @@ use Rattle.rule_words.specs.Steps.{IsStepOf}
 use Rattle.elaborate.specs.Settling.{told_in, Follows, IsSettled, left, outcome_of}
 use Rattle.rule_words.specs.Asking.{Rule, type_item, declaration_told, item}
 use Rattle.mark_walk.specs.declared.walk.Walk.{Walk}
-use Rattle.elaborate.specs.Walks.{blocks_of, says_of, pends_of, item_rule, IsItemOf}
+use Rattle.elaborate.specs.Walks.{blocks_of, item_rule, IsItemOf}
+use Rattle.type_answers.specs.Answering.{says_of, pends_of}
 use Rattle.elaborate.specs.Elaborated.{IsAtWork}
 use Rattle.elaborate.specs.Covering.{Went, Ended, AreStagesMarked, AreStagesOfNodes, AreNodesMarked, AreBlocksMarked}
-
--- ---- what is declared by nothing, or waits
-
-pub of_nothing : (u : Unit) (so_far : Item → Option Meaning) (name : TypeName) → declared (base_of u) (type_item u) declaration_told so_far name ≡ None
-    → ((i : Item) → type_item u name ≡ Some i → so_far i ≡ None → ⊥) → IsOfNothing (type_item u) declaration_told so_far name
-of_nothing u so_far name none marked = by (type_item u name) refl none where
-  told : (b : Option _) (m : Meaning) → option_or b (declaration_told m) ≡ None → declaration_told m ≡ None
-  told None m e = e
-  told (Some d) m e = absurd cc
-
-  at : (i : Item) → type_item u name ≡ Some i → (o : Option Meaning) → so_far i ≡ o → option_or (base_of u name) (option_map_or declaration_told o None) ≡ None
-      → IsOfNothing (type_item u) declaration_told so_far name
-  at i is None e none = absurd (marked i is e)
-  at i is (Some m) e none = inr (i, m, is, e, told (base_of u name) m none)
-
-  by : (o : Option Item) → type_item u name ≡ o → option_or (base_of u name) (option_map_or declaration_told (option_map_or so_far o None) None) ≡ None
-      → IsOfNothing (type_item u) declaration_told so_far name
-  by None is none = inl is
-  by (Some i) is none = at i is (so_far i) refl none
 
 -- ---- rules of items
 
@@ -126,16 +108,6 @@ follows_waits u s asked rest item waits = record {
   yields = λ m never. absurd never;
   expects = λ i same. inl (subst (λ (j : Item). pends_of (unit_of u) (so_far s) (question_in s asked) j) same waits);
 }
-
--- ---- what is pending
-
-pub pending_found : (u : Unit) (so_far : Item → Option Meaning) (t : TypeTable) (of : TypeId) (result : Option Item)
-    → IfSome result (λ i. so_far i ≡ None)
-    → ((name : TypeName) → type_at (types_in t) of ≡ DefinedType name → IfSome result (λ i. type_item u name ≡ Some i))
-    → ((name : TypeName) (i : Item) → type_at (types_in t) of ≡ DefinedType name → result ≡ None → type_item u name ≡ Some i → so_far i ≡ None → ⊥)
-    → MatchOption result (RestsOnNothing t (base_of u) (type_item u) declaration_told so_far of) (λ i. RestsOn t (base_of u) (type_item u) declaration_told so_far of i)
-pending_found u so_far t of None waits is none = λ name named undeclared. of_nothing u so_far name undeclared (λ i at free. none name i named refl at free)
-pending_found u so_far t of (Some i) waits is none = λ name named undeclared. (is name named, waits)
 
 -- ---- before anything is marked
 

@@ -15,7 +15,8 @@ use Rattle.unit_read.specs.declared.subject.Subject.{Subject}
 use Rattle.unit_read.specs.Units.{Unit}
 use Rattle.unit_read.specs.Subjects.{unit_of}
 use Rattle.rule_words.specs.Asking.{Rule, item}
-use Rattle.elaborate.specs.Walks.{IsItemOf, count_of, number_in, says_of, pends_of, item_rule}
+use Rattle.elaborate.specs.Walks.{IsItemOf, count_of, number_in, item_rule}
+use Rattle.type_answers.specs.Answering.{says_of, pends_of}
 use Rattle.rule_words.specs.Scenes.{IsScene}
 use Rattle.elaborate.specs.declared.whole.Elaborated.{Elaborated}
 use Rattle.elaborate.specs.declared.whole.Elaborated.TheVariants as e

@@ -10,7 +10,8 @@ use Rattle.unit_read.specs.Units.{Unit}
 use Rattle.unit_read.specs.Subjects.{unit_of}
 use Rattle.rule_words.specs.Asking.{Rule}
 use Rattle.rule_words.specs.Scenes.{IsScene}
-use Rattle.elaborate.specs.Walks.{blocks_of, count_of, says_of, pends_of, item_rule}
+use Rattle.elaborate.specs.Walks.{blocks_of, count_of, item_rule}
+use Rattle.type_answers.specs.Answering.{says_of, pends_of}
 
 -- the package is read, and the state has cells for its items
 pub record IsAtWork (u : Subject) (s : State) : Type 0 where

@@ -4,22 +4,21 @@ use Rattle.mark_walk.specs.Asks.{Adds, Stays}
 use Rattle.mark_walk.specs.Telling.{Outcome, Yields, Expects}
 use Rattle.typed_marks.specs.declared.item.Item.{Item}
 use Rattle.typed_marks.specs.declared.state.State.{State}
-use Rattle.typed_marks.specs.Meanings.{Meaning, constant_at}
+use Rattle.typed_marks.specs.Meanings.{Meaning}
 use Rattle.typed_marks.specs.declared.mark.ConstId.{ConstId}
 use Rattle.type_model.specs.declared.term.TypeId.{TypeId}
-use Rattle.rule_words.specs.Scenes.{type_in}
 use Rattle.typed_marks.specs.States.{so_far}
 use Rattle.std.specs.Global.{Vec}
 use Rattle.type_model.specs.declared.term.Method.{Method}
-use Rattle.type_model.specs.GoTypes.{GoType, MethodsBelow, methods_of}
-use Rattle.type_model.specs.Tables.{types_in, count}
+use Rattle.type_model.specs.GoTypes.{GoType, MethodsBelow}
+use Rattle.type_model.specs.Tables.{count}
 use Rattle.method_sets.specs.Replies.{listed_in}
 use Rattle.type_questions.specs.declared.reached.Reached.{Reached}
 use Rattle.type_questions.specs.declared.reached.Reached.TheVariants.{Got, Lost}
 use Rattle.type_questions.specs.Judging.{seen_as}
 use Rattle.type_questions.specs.declared.reached.Found.{Found}
 use Rattle.type_questions.specs.declared.reached.Found.TheVariants as f
-use Rattle.type_questions.specs.Questions.{Question, AssignableTo, IsComparable, Told, Holds, Listing}
+use Rattle.type_questions.specs.Questions.{Question, IsComparable, Told, Holds, Listing}
 use Rattle.unit_read.specs.declared.subject.Subject.{Subject}
 use Rattle.unit_read.specs.Subjects.{unit_of}
 use Rattle.rule_words.specs.declared.answer.Answer.{Answer}
@@ -31,10 +30,12 @@ use Rattle.rule_words.specs.declared.step.Step.TheVariants as step
 use Rattle.rule_words.specs.declared.step.Rest.{Rest}
 use Rattle.rule_words.specs.declared.step.Rest.TheVariants as r
 use Rattle.rule_words.specs.Answers.{answer_in, IsAnswerOf}
+use Rattle.rule_words.specs.Asking.{Rule}
 use Rattle.rule_words.specs.Steps.{step_in}
 use Rattle.elaborate.specs.declared.questions.Answered.{Answered}
 use Rattle.elaborate.specs.declared.questions.Answered.TheVariants as a
-use Rattle.elaborate.specs.Walks.{says_of, pends_of}
+use Rattle.type_answers.specs.Answering.{says_of, pends_of}
+use Rattle.type_answers.specs.Coming.{GivesAt, AwaitsAt}
 
 abbrev pub told_in : State → Answered → Told
 told_in s (a.Holds reached) = Holds reached
@@ -77,11 +78,6 @@ abbrev pub IsSettled : Subject → State → Step → Found Answer Item → Type
 IsSettled u s first (f.Is given) = IsAnswerOf s given × YieldsAt u s first (answer_in s given)
 IsSettled u s first (f.Wait item) = ExpectsAt u s first item
 
--- the question whether an operand with these methods is assignable to a type
-abbrev pub assign_by : State → TypeId → Option ConstId → List Method → TypeId → Question
-assign_by s of value methods to =
-    AssignableTo (record { v = type_in s of; value = constant_at s.constants.items value; set = methods_of (types_in s.table) methods; to = type_in s to })
-
 -- an answer to a question over the marks so far, or an item for which it waits
 abbrev pub IsAnsweredTo : Subject → State → Question → Found Answered Item → Type 0
 IsAnsweredTo u s q (f.Is told) = IsToldOf s told × says_of (unit_of u) (so_far s) q (told_in s told)
@@ -97,6 +93,11 @@ abbrev pub outcome_of : Step → Found Answer Item
 outcome_of (step.Says given) = f.Is given
 outcome_of (step.Waits item) = f.Wait item
 outcome_of (step.Puts asked rest) = f.Is (answer.Mark Silent)
+
+-- One step of marking, by the item's rule: the item is marked with what it gives, or it waits for another.
+abbrev pub StepsAs : Subject → State → State → Item → Rule → Option Item → Type 0
+StepsAs u s next i rule None = (m : Meaning) × GivesAt u s rule m × Adds (so_far s) (so_far next) i m
+StepsAs u s next i rule (Some j) = AwaitsAt u s rule j × Stays (so_far s) (so_far next)
 
 -- One step of marking, by how far the item's rule goes: the item is marked, or its rule waits for another.
 abbrev pub StepsBy : Subject → State → State → Item → Outcome Item Meaning Question Told Meaning → Option Item → Type 0

@@ -1,20 +1,18 @@
--- A package as what is walked over: its items, their numbers, and what is answered to questions about types.
-use Rattle.std.specs.Prelude.{◌≡◌, ℕ, List, Bool, true, false, if◌then◌else◌, Option}
-use Rattle.mark_walk.specs.Asks.{done, Lasting}
+-- A package as what is walked over: its items and their numbers.
+use Rattle.std.specs.Prelude.{◌≡◌, ℕ, List, Bool, true, false, if◌then◌else◌}
+use Rattle.mark_walk.specs.Asks.{done}
 use Rattle.mark_walk.specs.Marking.{AreNumbers}
 use Rattle.typed_marks.specs.declared.item.Item.{Item}
 use Rattle.typed_marks.specs.declared.item.Block.{Block}
 use Rattle.typed_marks.specs.declared.item.Stage.{Stage}
 use Rattle.typed_marks.specs.declared.item.Stage.TheVariants as s
 use Rattle.typed_marks.specs.Items.{is_item, IsItem, number_of}
-use Rattle.typed_marks.specs.Meanings.{Meaning, Quiet}
+use Rattle.typed_marks.specs.Meanings.{Quiet}
 use Rattle.typed_marks.specs.States.{laid, room}
 use Rattle.typed_marks.proofs.NumberLemmas.{laid_blocks, number_below, one_item}
-use Rattle.type_questions.specs.Questions.{Question, Told, says, pends}
-use Rattle.type_questions.proofs.QuestionLaws.{questions_last}
-use Rattle.unit_read.specs.Units.{Unit, base_of}
+use Rattle.unit_read.specs.Units.{Unit}
 use Rattle.unit_read.specs.Passages.{passages, spans}
-use Rattle.rule_words.specs.Asking.{Rule, type_item, declaration_told}
+use Rattle.rule_words.specs.Asking.{Rule}
 
 abbrev pub blocks_of : Unit → List Block
 blocks_of u = laid 0 (spans (passages u.trees))
@@ -34,16 +32,6 @@ own_numbers u = record {
   within = λ i is. number_below (blocks_of u) (count_of u) i (laid_blocks (spans (passages u.trees))) is;
   apart = λ i j one other same. one_item (blocks_of u) (count_of u) (laid_blocks (spans (passages u.trees))) i j one other same;
 }
-
--- the answers to questions, over what is declared from the start and what the marks declare
-abbrev pub says_of : Unit → (Item → Option Meaning) → Question → Told → Type 0
-says_of u so_far q told = says (base_of u) (type_item u) declaration_told so_far q told
-
-abbrev pub pends_of : Unit → (Item → Option Meaning) → Question → Item → Type 0
-pends_of u so_far q i = pends (base_of u) (type_item u) declaration_told so_far q i
-
-pub answers_last : (u : Unit) → Lasting (says_of u) (pends_of u)
-answers_last u = questions_last (base_of u) (type_item u) declaration_told
 
 -- the item says what a type is declared with
 abbrev pub is_declaring : Stage → Bool

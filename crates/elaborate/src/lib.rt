@@ -6,7 +6,6 @@ mod answers;
 mod nodes;
 mod questions;
 mod rules;
-mod scene;
 mod settling;
 mod steps;
 mod whole;

@@ -8,8 +8,9 @@ ghost use Rattle.unit_read.specs.Units.{Unit};
 ghost use Rattle.unit_read.specs.Subjects.{unit_of};
 ghost use Rattle.rule_words.specs.Asking.{Rule};
 ghost use Rattle.rule_words.specs.Scenes.{IsScene};
-ghost use Rattle.rule_words.specs.Steps.{step_in, IsStepOf};
+ghost use Rattle.rule_words.specs.Steps.{IsStepOf};
 ghost use Rattle.rule_words.specs.Declaring.{declaring_in, IsDeclaringAt};
+ghost use Rattle.type_answers.specs.Coming.{ComesTo};
 ghost use Rattle.elaborate.specs.Walks.{is_declaring};
 
 use gv_base::NoMemory;
@@ -23,12 +24,12 @@ pub trait Rules {
     /// The rule of each item of a package.
     ghost rule: { Unit → AnItem → Rule };
 
-    /// How far the rule of an item goes over the marks so far, of one that declares no type.
+    /// What the rule of an item comes to over the marks so far, of one that declares no type.
     fn judge(&self, alloc: Global, u: &Subject, s: &State, item: Item) -> Result<Step, NoMemory>
         requires scene { IsScene u.now s.now }
         requires item { IsItem s.now.blocks.items item }
         requires stage { is_declaring item.stage ≡ false }
-        ensures is { IfOk result (λ step. step_in s.now step ≡ tell (so_far s.now) (rule (unit_of u.now) item)) }
+        ensures comes { IfOk result (ComesTo u.now s.now (rule (unit_of u.now) item)) }
         ensures over { IfOk result (IsStepOf s.now) };
 
     /// How far the rule goes that says what a type is declared with.

@@ -9,16 +9,16 @@ ghost use Rattle.rule_words.specs.Scenes.{IsScene, IsTypeOf, type_in};
 ghost use Rattle.rule_words.specs.Declaring.{declaring_in, IsDeclaration};
 ghost use Rattle.elaborate.specs.Walks.{IsItemOf, is_declaring};
 ghost use Rattle.elaborate.specs.Elaborated.{IsAtWork};
-ghost use Rattle.elaborate.specs.Settling.{StepsBy, IsWholeBy, is_got};
+ghost use Rattle.elaborate.specs.Settling.{StepsAs, StepsBy, IsWholeBy, is_got};
 
 use crate::rules::Rules;
-use crate::scene::Scene;
 use crate::settling::settle;
 use gv_base::NoMemory;
 use rule_words::{Answer, Declaring, declare, keep};
 use std::alloc::Global;
+use type_answers::comparable_at;
 use type_model::{Method, TypeId};
-use type_questions::{Found, Reached, is_comparable};
+use type_questions::{Found, Reached};
 use typed_marks::{Item, Mark, State};
 use unit_read::Subject;
 
@@ -35,7 +35,7 @@ pub fn judge_by<R: Rules>(
     requires stage { is_declaring item.stage ≡ false }
     requires unmarked { so_far s.old item ≡ None }
     ensures work { OnOk result (IsAtWork u.now s.new) }
-    ensures steps { IfOk result (StepsBy u.now s.old s.new item (tell (so_far s.old) (R.rule (unit_of u.now) item))) }
+    ensures steps { IfOk result (StepsAs u.now s.old s.new item (R.rule (unit_of u.now) item)) }
 {
     let step = rules.judge(alloc, u, s, item)?;
     let found = settle(alloc, u, s, step)?;
@@ -59,11 +59,7 @@ fn is_whole(
     requires within { IsTypeOf s.now of }
     ensures { IfOk result (IsWholeBy u.now s.now (type_in s.now of)) }
 {
-    let scene = Scene {
-        subject: u,
-        state: s,
-    };
-    let found = is_comparable(alloc, &scene, &s.table, of)?;
+    let found = comparable_at(alloc, u, s, of)?;
     match found {
         Found::Is(reached) => Ok(Found::Is(is_got(&reached))),
         Found::Wait(item) => Ok(Found::Wait(item)),

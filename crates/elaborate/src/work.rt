@@ -6,7 +6,8 @@ ghost use Rattle.type_questions.specs.Questions.{Question, Told};
 ghost use Rattle.unit_read.specs.Units.{Unit};
 ghost use Rattle.unit_read.specs.Subjects.{unit_of};
 ghost use Rattle.mark_walk.specs.Marking.{Steps};
-ghost use Rattle.elaborate.specs.Walks.{IsItemOf, count_of, number_in, own_numbers, says_of, pends_of, answers_last, item_rule, is_declaring};
+ghost use Rattle.elaborate.specs.Walks.{IsItemOf, count_of, number_in, own_numbers, item_rule, is_declaring};
+ghost use Rattle.type_answers.specs.Answering.{says_of, pends_of, answers_last};
 ghost use Rattle.elaborate.specs.Elaborated.{IsAtWork};
 
 use crate::rules::Rules;

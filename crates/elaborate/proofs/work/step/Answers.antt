@@ -1,4 +1,4 @@
-use Rattle.elaborate.proofs.StepLemmas.{steps_by}
+use Rattle.elaborate.proofs.StepLemmas.{steps_as, steps_by}
 use Rattle.elaborate.proofs.work.step.Goals as goal
 
 pub returns-in_ok-waits-clause-steps : goal.returns-in_ok-waits-clause-steps
@@ -7,4 +7,4 @@ returns-in_ok-waits-clause-steps g c =
 
 pub returns-in_ok-waits-2-clause-steps : goal.returns-in_ok-waits-2-clause-steps
 returns-in_ok-waits-2-clause-steps g c =
-    steps_by g.R.Rules.rule c.args.u.now c.args.s.now c.judge_by.new.s c.args.item c.in_ok-waits-2.waits c.requires.item c.requires.work c.in_ok-waits-2.ensures.steps
+    steps_as g.R.Rules.rule c.args.u.now c.args.s.now c.judge_by.new.s c.args.item c.in_ok-waits-2.waits c.requires.item c.requires.work c.in_ok-waits-2.ensures.steps

@@ -1,7 +1,7 @@
 use Rattle.typed_marks.specs.States.{so_far}
 use Rattle.unit_read.specs.Subjects.{unit_of}
-use Rattle.elaborate.proofs.WalkLemmas.{pending_found}
-use Rattle.elaborate.proofs.scene.SceneSeen.pending.Goals as goal
+use Rattle.type_answers.proofs.PendingLemmas.{pending_found}
+use Rattle.type_answers.proofs.scene.SceneSeen.pending.Goals as goal
 
 pub returns : goal.returns
 returns c =

@@ -1,0 +1,5 @@
+pub mod AnswerLemmas
+pub mod ComingLaws
+pub mod OperandLemmas
+pub mod PendingLemmas
+pub mod SelectionLemmas

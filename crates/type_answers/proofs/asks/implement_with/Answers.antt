@@ -1,0 +1,10 @@
+use Rattle.std.proofs.Common.{sym, subst}
+use Rattle.type_model.specs.GoTypes.{MethodsBelow}
+use Rattle.type_model.specs.Tables.{count}
+use Rattle.type_answers.specs.Answering.{AreListedBelow}
+use Rattle.type_answers.proofs.asks.implement_with.Goals as goal
+
+pub missing_at-requires-clause-methods : goal.missing_at-requires-clause-methods
+missing_at-requires-clause-methods c =
+    let t = c.args.s.now.table in
+    subst (MethodsBelow (count t)) (sym c.deref.ensures.value) (subst (AreListedBelow t) c.in-Got.is c.requires.methods)
