@@ -1,0 +1,12 @@
+pub mod Addresses
+pub mod Asserting
+pub mod Forms
+pub mod InCode
+pub mod Indexing
+pub mod Operands
+pub mod Receiving
+pub mod Rules
+pub mod Selecting
+pub mod Shapes
+pub mod Slicing
+pub mod Wants

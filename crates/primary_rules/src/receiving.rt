@@ -1,0 +1,170 @@
+//! The receive operator, and receive-only channel types.
+ghost use Rattle.std.specs.Prelude.{◌≡◌, option_map};
+ghost use Rattle.mark_walk.specs.Telling.{tell};
+ghost use Rattle.typed_marks.specs.States.{so_far};
+ghost use Rattle.typed_tree.specs.Basics.{HasBasics};
+ghost use Rattle.unit_read.specs.Subjects.{unit_of};
+ghost use Rattle.rule_words.specs.Scenes.{IsScene, type_in, IsTypeOf, MayBeTypeOf, part_in, IsSeenOf};
+ghost use Rattle.rule_words.specs.Steps.{step_in, IsStepOf};
+ghost use Rattle.type_answers.specs.Coming.{ComesTo};
+ghost use Rattle.primary_rules.specs.InCode.{facts_in, AreFactsOf, shape_in, IsShapeOf};
+ghost use Rattle.primary_rules.specs.Receiving.{received, receive_shape, receive_under, receive, arrow_inward, arrow_sent, arrow_direction, arrow_shape, receive_of, receive_rule};
+
+use crate::operand::{bad, is_type, silent, standing};
+use crate::shape::{Shape, shape_of};
+use rule_words::{Answer, Seen, Step};
+use type_answers::ask_under;
+use type_model::{Dir, Term, TypeId};
+use type_questions::Found;
+use typed_marks::{Facts, Mark, State};
+use typed_tree::{CANNOT_RECEIVE, Mode, NOT_A_TYPE};
+use unit_read::Subject;
+
+fn received(s: &State, direction: Dir, of: TypeId) -> Step
+    requires { IsTypeOf s.now of }
+    ensures is { step_in s.now result ≡ tell (so_far s.now) (received direction (type_in s.now of)) }
+    ensures over { IsStepOf s.now result }
+{
+    match direction {
+        Dir::Both => Step::Says(standing(s, Mode::CommaOk, of)),
+        Dir::Receive => Step::Says(standing(s, Mode::CommaOk, of)),
+        Dir::Send => Step::Says(bad(CANNOT_RECEIVE)),
+    }
+}
+
+fn receive_shape(s: &State, shape: Shape) -> Step
+    requires { IsShapeOf s.now shape }
+    ensures is { step_in s.now result ≡ tell (so_far s.now) (receive_shape (shape_in s.now shape)) }
+    ensures over { IsStepOf s.now result }
+{
+    match shape {
+        Shape::Channels(direction, of) => received(s, direction, of),
+        Shape::Texts => Step::Says(bad(CANNOT_RECEIVE)),
+        Shape::Slices(_) => Step::Says(bad(CANNOT_RECEIVE)),
+        Shape::Arrays(_, _) => Step::Says(bad(CANNOT_RECEIVE)),
+        Shape::Maps(_, _) => Step::Says(bad(CANNOT_RECEIVE)),
+        Shape::Pointers(_) => Step::Says(bad(CANNOT_RECEIVE)),
+        Shape::Interfaces => Step::Says(bad(CANNOT_RECEIVE)),
+        Shape::Others => Step::Says(bad(CANNOT_RECEIVE)),
+    }
+}
+
+#[tactic(auto, using(type_answers::proofs::ComingLaws::same_comes))]
+fn receive_under(u: &Subject, s: &State, under: Option<TypeId>) -> Step
+    requires scene { IsScene u.now s.now }
+    requires under { MayBeTypeOf s.now under }
+    ensures comes { ComesTo u.now s.now (receive_under (option_map (type_in s.now) under)) result }
+    ensures over { IsStepOf s.now result }
+{
+    let _ = u;
+    match under {
+        Some(under) => receive_shape(s, shape_of(s, under)),
+        None => Step::Says(silent()),
+    }
+}
+
+#[tactic(auto, using(type_answers::proofs::ComingLaws::bind_comes, type_answers::proofs::ComingLaws::bind_waits), unfolding(crate::specs::Receiving::receive))]
+fn receive(u: &Subject, s: &State, x: Facts) -> Step
+    requires scene { IsScene u.now s.now }
+    requires facts { AreFactsOf s.now x }
+    ensures comes { ComesTo u.now s.now (receive (unit_of u.now) (facts_in s.now x)) result }
+    ensures over { IsStepOf s.now result }
+{
+    match ask_under(u, s, x.last) {
+        Found::Is(under) => receive_under(u, s, under),
+        Found::Wait(item) => Step::Waits(item),
+    }
+}
+
+fn arrow_inward(s: &State, direction: Dir) -> Step
+    ensures is { step_in s.now result ≡ tell (so_far s.now) (arrow_inward direction) }
+    ensures over { IsStepOf s.now result }
+{
+    let _ = s;
+    match direction {
+        Dir::Both => Step::Says(silent()),
+        Dir::Send => Step::Says(silent()),
+        Dir::Receive => Step::Says(bad(NOT_A_TYPE)),
+    }
+}
+
+/// E10.
+fn arrow_sent(s: &State, shape: Shape) -> Step
+    requires { IsShapeOf s.now shape }
+    ensures is { step_in s.now result ≡ tell (so_far s.now) (arrow_sent (shape_in s.now shape)) }
+    ensures over { IsStepOf s.now result }
+{
+    match shape {
+        Shape::Channels(direction, _) => arrow_inward(s, direction),
+        Shape::Texts => Step::Says(bad(NOT_A_TYPE)),
+        Shape::Slices(_) => Step::Says(bad(NOT_A_TYPE)),
+        Shape::Arrays(_, _) => Step::Says(bad(NOT_A_TYPE)),
+        Shape::Maps(_, _) => Step::Says(bad(NOT_A_TYPE)),
+        Shape::Pointers(_) => Step::Says(bad(NOT_A_TYPE)),
+        Shape::Interfaces => Step::Says(bad(NOT_A_TYPE)),
+        Shape::Others => Step::Says(bad(NOT_A_TYPE)),
+    }
+}
+
+fn arrow_direction(s: &State, direction: Dir, of: TypeId) -> Step
+    requires basics { HasBasics s.now.table }
+    requires of { IsTypeOf s.now of }
+    ensures is { step_in s.now result ≡ tell (so_far s.now) (arrow_direction direction (type_in s.now of)) }
+    ensures over { IsStepOf s.now result }
+{
+    match direction {
+        Dir::Both => Step::Says(Answer::Type(Mode::TypeName, Term::Chan(Dir::Receive, of))),
+        Dir::Send => arrow_sent(s, shape_of(s, of)),
+        Dir::Receive => Step::Says(bad(NOT_A_TYPE)),
+    }
+}
+
+/// Before a channel type `<-` makes it receive-only.
+fn arrow_shape(s: &State, shape: Shape) -> Step
+    requires basics { HasBasics s.now.table }
+    requires shape { IsShapeOf s.now shape }
+    ensures is { step_in s.now result ≡ tell (so_far s.now) (arrow_shape (shape_in s.now shape)) }
+    ensures over { IsStepOf s.now result }
+{
+    match shape {
+        Shape::Channels(direction, of) => arrow_direction(s, direction, of),
+        Shape::Texts => Step::Says(silent()),
+        Shape::Slices(_) => Step::Says(silent()),
+        Shape::Arrays(_, _) => Step::Says(silent()),
+        Shape::Maps(_, _) => Step::Says(silent()),
+        Shape::Pointers(_) => Step::Says(silent()),
+        Shape::Interfaces => Step::Says(silent()),
+        Shape::Others => Step::Says(silent()),
+    }
+}
+
+#[tactic(auto, using(type_answers::proofs::ComingLaws::same_comes))]
+fn receive_of(u: &Subject, s: &State, x: Facts) -> Step
+    requires scene { IsScene u.now s.now }
+    requires facts { AreFactsOf s.now x }
+    ensures comes { ComesTo u.now s.now (receive_of (unit_of u.now) (facts_in s.now x)) result }
+    ensures over { IsStepOf s.now result }
+{
+    if is_type(x.mode) {
+        return arrow_shape(s, shape_of(s, x.of));
+    }
+    receive(u, s, x)
+}
+
+/// What the rule of `<-x` comes to: E78.
+#[tactic(auto, unfolding(crate::specs::Receiving::receive_rule))]
+pub fn judge_receive(u: &Subject, s: &State, p: Seen) -> Step
+    requires scene { IsScene u.now s.now }
+    requires part { IsSeenOf s.now p }
+    ensures comes { ComesTo u.now s.now (receive_rule (unit_of u.now) (part_in s.now p)) result }
+    ensures over { IsStepOf s.now result }
+{
+    match p.mark {
+        Mark::Good(x) => receive_of(u, s, x),
+        Mark::Bad(_) => Step::Says(silent()),
+        Mark::Outside(_) => Step::Says(silent()),
+        Mark::Silent => Step::Says(silent()),
+        Mark::Wants(_, _) => Step::Says(silent()),
+        Mark::Declared(_) => Step::Says(silent()),
+    }
+}
