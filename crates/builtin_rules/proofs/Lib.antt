@@ -1,0 +1,5 @@
+pub mod BindLaws
+mod LevelLemmas
+pub mod ListLemmas
+mod QuietLemmas
+pub mod SpecificationFacts

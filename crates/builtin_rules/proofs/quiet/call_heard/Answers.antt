@@ -1,0 +1,12 @@
+use Rattle.std.proofs.Common.{ap}
+use Rattle.mark_walk.specs.Telling.{Says}
+use Rattle.typed_marks.specs.States.{so_far}
+use Rattle.unit_read.specs.Subjects.{unit_of}
+use Rattle.builtin_rules.specs.Quiet.{is_no_call_ask, unless_loud}
+use Rattle.builtin_rules.proofs.BindLaws.{says_bind}
+use Rattle.builtin_rules.proofs.quiet.call_heard.Goals as goal
+
+pub returns-in-Is : goal.returns-in-Is
+returns-in-Is c =
+    says_bind (so_far c.args.s.now) (is_no_call_ask (unit_of c.args.u.now) c.args.block c.args.n c.args.node.now) unless_loud c.in-Is.quiet (Says c.unless_loud.result) c.in-Is.ensures
+    (ap Says c.unless_loud.ensures)

@@ -1,0 +1,10 @@
+pub mod Builtin
+pub mod Builtins
+pub mod InCode
+pub mod Musts
+pub mod Named
+pub mod Quiet
+pub mod Types
+pub mod Values
+pub mod Wants
+pub mod Wishes

@@ -1,0 +1,5 @@
+mod ConvertLaws
+pub mod FoundLaws
+mod ListLemmas
+mod ResultLemmas
+pub mod SpecificationFacts

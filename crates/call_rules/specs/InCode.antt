@@ -1,0 +1,16 @@
+-- What is found of results, in code.
+use Rattle.std.specs.Prelude.{Bool, true, not}
+use Rattle.type_questions.specs.declared.reached.Found.{Found}
+use Rattle.type_questions.specs.declared.reached.Found.TheVariants as f
+use Rattle.type_questions.specs.declared.reached.Reached.{Reached}
+use Rattle.type_questions.specs.declared.reached.Reached.TheVariants.{Got, Lost}
+use Rattle.typed_marks.specs.declared.item.Item.{Item}
+
+abbrev pub is_refused : Reached Bool → Bool
+is_refused (Got holds) = not holds
+is_refused Lost = true
+
+-- what is found of a result ends the search for one that isn't assignable
+abbrev pub ends : Found (Reached Bool) Item → Bool
+ends (f.Is told) = is_refused told
+ends (f.Wait i) = true

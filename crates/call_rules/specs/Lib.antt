@@ -1,0 +1,10 @@
+pub mod Callees
+pub mod Calling
+pub mod Converting
+pub mod Given
+pub mod InCode
+pub mod Laws
+pub mod Passing
+pub mod Rules
+pub mod Types
+pub mod Wants
