@@ -1,0 +1,7 @@
+mod AgainLemmas
+pub mod BindLaws
+mod FieldLemmas
+mod ItemLemmas
+mod KeyLemmas
+mod RowLemmas
+mod SpecificationFacts

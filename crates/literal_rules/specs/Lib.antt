@@ -1,0 +1,12 @@
+pub mod Again
+pub mod Forms
+pub mod InCode
+pub mod Items
+pub mod Keys
+pub mod Maps
+pub mod Rows
+pub mod Rules
+pub mod Sets
+pub mod Shapes
+pub mod Structs
+pub mod Wants
