@@ -20,7 +20,6 @@ use Rattle.decl_rules.specs.declared.forms.Valuing.{Valuing}
 use Rattle.decl_rules.specs.declared.forms.Valuing.TheVariants as valuing
 
 abbrev pub simple_form : NodeKind → Option Simple
-simple_form k.Star = Some simple.Star
 simple_form k.SliceType = Some simple.Slice
 simple_form k.SpreadParam = Some simple.Slice
 simple_form k.Variadic = Some simple.Slice
@@ -55,8 +54,6 @@ abbrev pub line_form : NodeKind → Option Line
 line_form k.ConstNames = Some line.Constants
 line_form k.ConstValues = Some line.Constants
 line_form k.ConstTyped = Some line.Typed
-line_form k.VarValues = Some (line.Variables 1)
-line_form k.VarTypedValues = Some (line.Variables 2)
 line_form k.ImportPath = Some line.Import
 line_form k.ImportDot = Some line.Import
 line_form k.ImportNamed = Some line.Import
@@ -79,7 +76,7 @@ named_form k.ConstNames = Some named.Constant
 named_form k.ConstValues = Some named.Constant
 named_form k.ConstTyped = Some named.Constant
 named_form k.VarTyped = Some named.Typed
-named_form k.VarTypedValues = Some named.Typed
+named_form k.VarTypedValues = Some named.Valued
 named_form k.VarValues = Some named.Valued
 named_form k.Param = Some named.Param
 named_form k.SpreadParam = Some named.Param
@@ -93,10 +90,7 @@ named_form _ = None
 
 -- what wants a value, by what stands around it
 abbrev pub valuing_form : NodeKind → Option Valuing
-valuing_form k.Star = Some valuing.Star
 valuing_form k.ArrayType = Some valuing.Array
 valuing_form k.ConstValues = Some valuing.Constants
 valuing_form k.ConstTyped = Some valuing.TypedConstants
-valuing_form k.VarValues = Some valuing.Variables
-valuing_form k.VarTypedValues = Some valuing.TypedVariables
 valuing_form _ = None

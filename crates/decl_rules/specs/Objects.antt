@@ -9,7 +9,7 @@ use Rattle.go_tree.specs.declared.tree.NodeRef.{NodeRef}
 use Rattle.object_order.specs.Spots.{place}
 use Rattle.const_tree.specs.declared.constant.Spec.{Spec}
 use Rattle.const_tree.specs.Constants.{typing_of, values_of, is_repeated}
-use Rattle.package_objects.specs.Declares.{items, part}
+use Rattle.package_objects.specs.Declares.{part}
 use Rattle.type_model.specs.GoTypes.{GoType, DefinedType}
 use Rattle.mark_walk.specs.Asks.{done, bind}
 use Rattle.typed_tree.specs.Declarations.{has_constants}
@@ -29,6 +29,7 @@ use Rattle.decl_rules.specs.declared.forms.Named.{Named}
 use Rattle.decl_rules.specs.declared.forms.Named.TheVariants as named
 use Rattle.decl_rules.specs.Forms.{named_form}
 use Rattle.rule_words.specs.Good.{given, known_told}
+use Rattle.variable_rules.specs.Objects.{variable_object}
 use Rattle.decl_rules.specs.Late.{map_part, member_part}
 use Rattle.decl_rules.specs.Methods.{has_field}
 use Rattle.type_rules.specs.Structs.{owner_of}
@@ -49,10 +50,6 @@ variable_mark m = given m (λ x. done (variable x.of))
 abbrev pub function_mark : Meaning → Rule
 function_mark m = given m (λ x. done (function x.of))
 
--- "Variable declarations": without a type each variable has that of its value, converted first to its default type if it is untyped
-abbrev pub valued_mark : Meaning → Rule
-valued_mark m = given m (λ x. done (variable x.last))
-
 abbrev pub alias_mark : Meaning → Rule
 alias_mark m = given m (λ x. done (Right (record { mode = x.mode; of = x.of; value = None; last = x.of })))
 
@@ -60,11 +57,6 @@ alias_mark m = given m (λ x. done (Right (record { mode = x.mode; of = x.of; va
 abbrev pub placed_ask : Unit → ℕ → Option ℕ → (Meaning → Rule) → Rule
 placed_ask u file None rest = done Quiet
 placed_ask u file (Some n) rest = bind (mark_ask u s.Placed file n) (λ m. rest m)
-
--- the value of a variable: nothing is said here where one value stands for several
-abbrev pub value_node : List Node → Node → ℕ → Option ℕ
-value_node nodes node i =
-    if length (items nodes (part node 0)) == length (items nodes (part node 1)) then slice_get (items nodes (part node 1)) i else None
 
 -- ---- methods
 
@@ -155,7 +147,7 @@ defined_rule u name = option_map_or (λ n. gives_type (DefinedType n)) (type_nam
 abbrev pub form_rule : Unit → NodeRef → Place → Node → Named → Rule
 form_rule u name p node named.Constant = constant_rule u name p.index
 form_rule u name p node named.Typed = placed_ask u name.file (part node 1) variable_mark
-form_rule u name p node named.Valued = placed_ask u name.file (value_node (nodes_at u name.file) node p.index) valued_mark
+form_rule u name p node named.Valued = variable_object u name.file node p.index
 form_rule u name p node named.Param = placed_ask u name.file (Some p.around) variable_mark
 form_rule u name p node named.Function = placed_ask u name.file (Some p.around) function_mark
 form_rule u name p node named.Method = method_part u name p

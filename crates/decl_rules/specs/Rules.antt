@@ -5,7 +5,6 @@ use Rattle.go_tree.specs.declared.tree.Node.{Node}
 use Rattle.go_tree.specs.declared.tree.NodeKind.{NodeKind}
 use Rattle.go_tree.specs.declared.tree.NodeKind.TheVariants as k
 use Rattle.go_tree.specs.declared.tree.NodeRef.{NodeRef}
-use Rattle.package_objects.specs.Declares.{part}
 use Rattle.mark_walk.specs.Asks.{done}
 use Rattle.typed_tree.specs.declared.rule.Limit.{Limit}
 use Rattle.typed_marks.specs.Meanings.{Beyond, Quiet}
@@ -28,10 +27,10 @@ use Rattle.decl_rules.specs.declared.forms.Listed.TheVariants as listed
 use Rattle.decl_rules.specs.declared.forms.Line.{Line}
 use Rattle.decl_rules.specs.declared.forms.Line.TheVariants as line
 use Rattle.decl_rules.specs.Forms.{simple_form, member_form, signed_form, listed_form, line_form}
-use Rattle.type_rules.specs.Types.{star_rule, pointing_rule, slice_rule, chan_rule, map_rule, array_rule, same_rule}
+use Rattle.type_rules.specs.Types.{pointing_rule, slice_rule, chan_rule, map_rule, array_rule, same_rule}
 use Rattle.type_rules.specs.Signatures.{signature_rule}
 use Rattle.type_rules.specs.Receivers.{list_rule}
-use Rattle.decl_rules.specs.Specifications.{is_fit, const_rule, var_rule, member_rule}
+use Rattle.decl_rules.specs.Specifications.{is_fit, const_rule, member_rule}
 use Rattle.type_rules.specs.Structs.{field_rule, struct_rule}
 use Rattle.type_rules.specs.Interfaces.{interface_rule}
 
@@ -43,7 +42,6 @@ at_slot i how slot = if slot == i then Some how else None
 
 -- How the parts in each slot are read. Parameters and results are asked for by the rule of a signature.
 abbrev pub decl_reads : NodeKind → ℕ → Option How
-decl_reads k.Star slot = Some h.Mark
 decl_reads k.SliceType slot = Some h.Type
 decl_reads k.ArrayType slot = Some h.Type
 decl_reads k.MapType slot = Some h.Type
@@ -65,7 +63,6 @@ decl_reads _ slot = None
 -- ---- type expressions
 
 abbrev pub simple_rule : Simple → Part → Part → Rule
-simple_rule simple.Star a b = star_rule a
 simple_rule simple.Slice a b = slice_rule a
 simple_rule simple.Array a b = array_rule a b
 simple_rule simple.Map a b = map_rule a b
@@ -102,27 +99,26 @@ limited limit = option_map_or (λ l. done (Beyond l)) limit (done nothing)
 abbrev pub import_rule : Unit → NodeRef → Rule
 import_rule u at = limited (option_and_then (λ (l : Lead). l.limit) (lead_at u at))
 
-abbrev pub line_rule : Unit → NodeRef → Node → Part → Line → Rule
-line_rule u at node p line.Constants = const_rule u at true
-line_rule u at node p line.Typed = const_rule u at (is_fit p.under)
-line_rule u at node p (line.Variables i) = var_rule (nodes_at u at.file) (part node 0) (part node i)
-line_rule u at node p line.Import = import_rule u at
-line_rule u at node p line.Plain = done nothing
+abbrev pub line_rule : Unit → NodeRef → Part → Line → Rule
+line_rule u at p line.Constants = const_rule u at true
+line_rule u at p line.Typed = const_rule u at (is_fit p.under)
+line_rule u at p line.Import = import_rule u at
+line_rule u at p line.Plain = done nothing
 
 -- ---- all
 
 abbrev pub simple_of : List Part → Simple → Rule
 simple_of ps form = simple_rule form (part_at ps 0) (part_at ps 1)
 
-abbrev pub line_of : Unit → NodeRef → Node → List Part → Line → Rule
-line_of u at node ps form = line_rule u at node (part_at ps 0) form
+abbrev pub line_of : Unit → NodeRef → List Part → Line → Rule
+line_of u at ps form = line_rule u at (part_at ps 0) form
 
 abbrev pub in_member : Unit → NodeRef → Node → List Part → Member → Rule
 in_member u at node ps form = member_of u at node (part_at ps 0) form
 
 -- nothing is said yet of the package clause
 abbrev pub or_line : Unit → NodeRef → Node → List Part → Rule
-or_line u at node ps = option_map_or (line_of u at node ps) (line_form node.kind) (done Quiet)
+or_line u at node ps = option_map_or (line_of u at ps) (line_form node.kind) (done Quiet)
 
 abbrev pub or_member : Unit → NodeRef → Node → List Part → Rule
 or_member u at node ps = option_map_or (in_member u at node ps) (member_form node.kind) (or_line u at node ps)

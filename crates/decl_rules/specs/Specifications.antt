@@ -1,17 +1,13 @@
--- Specifications and names that are declared (Go 1.17, "Constant declarations", "Variable declarations", "Struct types", "Interface types").
+-- Specifications of constants, and names that are declared (Go 1.17, "Constant declarations", "Struct types", "Interface types").
 use Rattle.std.specs.Prelude.{ℕ, ◌==◌, Bool, true, false, not, if◌then◌else◌, List, length, Option}
 use Rattle.std.specs.Option.{option_map_or}
 use Rattle.go_tree.specs.declared.tree.Node.{Node}
-use Rattle.go_tree.specs.declared.tree.NodeKind.{NodeKind}
-use Rattle.go_tree.specs.declared.tree.NodeKind.TheVariants as k
 use Rattle.go_tree.specs.declared.tree.NodeRef.{NodeRef}
 use Rattle.const_tree.specs.declared.constant.Spec.{Spec}
 use Rattle.const_tree.specs.Constants.{names_of, values_of}
-use Rattle.package_objects.specs.Declares.{items, kind_at}
 use Rattle.type_model.specs.GoTypes.{GoType}
 use Rattle.mark_walk.specs.Asks.{done}
 use Rattle.typed_tree.specs.Declarations.{has_constants}
-use Rattle.typed_marks.specs.Meanings.{Meaning, Wrong, Quiet}
 use Rattle.unit_read.specs.Units.{Unit, nodes_at, spec_at}
 use Rattle.unit_read.specs.Members.{is_repeat}
 use Rattle.rule_words.specs.Asking.{Rule}
@@ -31,31 +27,6 @@ counted_rule fit nodes spec =
 
 abbrev pub const_rule : Unit → NodeRef → Bool → Rule
 const_rule u at fit = option_map_or (counted_rule fit (nodes_at u at.file)) (spec_at u at) (done nothing)
-
--- ---- variables
-
--- an expression that may give several values, or one and whether there is one
-abbrev pub may_be_several : NodeKind → Bool
-may_be_several k.Call = true
-may_be_several k.CallSpread = true
-may_be_several k.Index = true
-may_be_several k.Assert = true
-may_be_several k.Unary = true
-may_be_several k.Paren = true
-may_be_several _ = false
-
-abbrev pub is_several : List Node → Option ℕ → Bool
-is_several nodes o = option_map_or (λ n. may_be_several (kind_at nodes n)) o false
-
--- one value for names that differ in number: nothing is said here of what may be several
-abbrev pub differing : Bool → Meaning
-differing true = Quiet
-differing false = Wrong WRONG_NUMBER_OF_VALUES
-
--- E99; a call may give a value to each name
-abbrev pub var_rule : List Node → Option ℕ → Option ℕ → Rule
-var_rule nodes names values =
-    if length (items nodes names) == length (items nodes values) then done nothing else done (differing (is_several nodes values))
 
 -- ---- members
 

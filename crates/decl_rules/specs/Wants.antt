@@ -1,11 +1,11 @@
 -- What the places in type expressions and declarations want (Go 1.17, "Types", "Declarations and scope").
-use Rattle.std.specs.Prelude.{ℕ, ◌==◌, ◌&&◌, nat_le, not, Bool, true, false, if◌then◌else◌, List, [], length, Option, Some, None}
+use Rattle.std.specs.Prelude.{ℕ, ◌==◌, nat_le, not, Bool, true, false, if◌then◌else◌, Option, Some, None}
 use Rattle.std.specs.Option.{option_map_or}
 use Rattle.gv_base.specs.declared.constant.Kind.TheVariants as kind
 use Rattle.go_tree.specs.declared.tree.Node.{Node}
 use Rattle.go_tree.specs.declared.tree.NodeKind.{NodeKind}
 use Rattle.go_tree.specs.declared.tree.NodeKind.TheVariants as k
-use Rattle.package_objects.specs.Declares.{items, part}
+use Rattle.package_objects.specs.Declares.{part}
 use Rattle.type_model.specs.GoTypes.{BasicType}
 use Rattle.mark_walk.specs.Asks.{done, bind}
 use Rattle.typed_tree.specs.Places.{is_type}
@@ -15,14 +15,12 @@ use Rattle.typed_marks.specs.declared.item.Stage.TheVariants as s
 use Rattle.typed_marks.specs.Meanings.{Known, Wish, Free, Takes, Assigned, Meaning, Wishes}
 use Rattle.unit_read.specs.declared.passage.Passage.{Passage}
 use Rattle.unit_read.specs.declared.place.Place.{Place}
-use Rattle.unit_read.specs.Units.{Unit, passage_at, nodes_at}
+use Rattle.unit_read.specs.Units.{Unit, passage_at}
 use Rattle.rule_words.specs.Asking.{Rule, mark_ask}
-use Rattle.rule_words.specs.Words.{wanted_in}
 use Rattle.decl_rules.specs.declared.forms.Valuing.{Valuing}
 use Rattle.decl_rules.specs.declared.forms.Valuing.TheVariants as valuing
 use Rattle.decl_rules.specs.Forms.{valuing_form}
 use Rattle.rule_words.specs.Good.{known_told}
-use Rattle.decl_rules.specs.Specifications.{is_several}
 
 -- whether the parts in a slot are types
 abbrev pub is_type_slot : NodeKind → ℕ → Bool
@@ -45,7 +43,6 @@ is_type_slot k.Defined slot = slot == 1
 is_type_slot k.Alias slot = slot == 1
 is_type_slot k.ConstTyped slot = slot == 1
 is_type_slot k.VarTyped slot = slot == 1
-is_type_slot k.VarTypedValues slot = slot == 1
 is_type_slot k.Method slot = nat_le 1 slot
 is_type_slot k.FuncDecl slot = nat_le 1 slot
 is_type_slot k.MethodDecl slot = not (slot == 1)
@@ -70,41 +67,12 @@ abbrev pub written_wants : Unit → ℕ → Demand → Option ℕ → Rule
 written_wants u block demand None = wants demand Free
 written_wants u block demand (Some n) = bind (mark_ask u s.Placed (file_of u block) n) (λ m. wants demand (wish_by m))
 
--- what stands behind `*` is a type where the whole has to be one; between parentheses it may be a type or a value
-abbrev pub star_demand : Demand → Demand
-star_demand demand.Type = demand.Type
-star_demand demand.Inside = demand.Inside
-star_demand demand.Nothing = demand.Operand
-star_demand demand.Owner = demand.Operand
-star_demand demand.Operand = demand.Operand
-star_demand demand.Count = demand.Operand
-star_demand demand.Constant = demand.Operand
-
-abbrev pub star_wants : Unit → ℕ → ℕ → Rule
-star_wants u block whole = bind (mark_ask u s.Wanted block whole) (λ m. wants (star_demand (wanted_in m).demand) Free)
-
--- One value may stand for several names; what it gives is then looked at by the specification.
-abbrev pub stands_for_several : List Node → Node → ℕ → Bool
-stands_for_several nodes around i = not (length (items nodes (part around 0)) == length (items nodes (part around i))) && is_several nodes (part around i)
-
-abbrev pub value_demand : List Node → Node → ℕ → Demand
-value_demand nodes around i = if stands_for_several nodes around i then demand.Nothing else demand.Operand
-
-abbrev pub nodes_of_block : Unit → ℕ → List Node
-nodes_of_block u block = option_map_or (λ (p : Passage). nodes_at u p.file) (passage_at u block) []
-
--- the wish of a value: a length takes `int`, whose range the array type tests; the value of a variable without a type is a single one that takes
--- its default type
+-- the wish of a value: a length takes `int`, whose range the array type tests
 abbrev pub value_wants : Unit → ℕ → Place → Node → Valuing → Rule
-value_wants u block p around valuing.Star = star_wants u block p.around
 value_wants u block p around valuing.Array = wants demand.Operand (Takes (BasicType kind.Int))
 value_wants u block p around valuing.Constants = if p.slot == 1 then wants demand.Constant Free else wants demand.Nothing Free
 value_wants u block p around valuing.TypedConstants =
     if p.slot == 2 then written_wants u block demand.Constant (part around 1) else wants demand.Nothing Free
-value_wants u block p around valuing.Variables =
-    if p.slot == 1 then wants (value_demand (nodes_of_block u block) around 1) Free else wants demand.Nothing Free
-value_wants u block p around valuing.TypedVariables =
-    if p.slot == 2 then written_wants u block (value_demand (nodes_of_block u block) around 2) (part around 1) else wants demand.Nothing Free
 
 abbrev pub or_value : Unit → ℕ → Place → Node → Rule
 or_value u block p around = option_map_or (value_wants u block p around) (valuing_form around.kind) (wants demand.Nothing Free)

@@ -10,14 +10,13 @@ ghost use Rattle.typed_tree.specs.Basics.{HasBasics};
 ghost use Rattle.unit_read.specs.Subjects.{unit_of, IsRead};
 ghost use Rattle.rule_words.specs.Scenes.{type_in, IsTypeOf, MayBeTypeOf};
 ghost use Rattle.rule_words.specs.Steps.{step_in, IsStepOf};
-ghost use Rattle.decl_rules.specs.Specifications.{is_fit, counted_rule, const_rule, may_be_several, is_several, differing, var_rule, declared_name_rule};
+ghost use Rattle.decl_rules.specs.Specifications.{is_fit, counted_rule, const_rule, declared_name_rule};
 
 use const_tree::{Spec, name_count, value_count};
-use go_tree::{Node, NodeKind, NodeRef};
+use go_tree::{Node, NodeRef};
 use gv_base::Kind;
-use package_objects::{count, kind_of};
 use rule_words::Step;
-use rule_words::good::{basic_type, broken, good, silent};
+use rule_words::good::{basic_type, broken, good};
 use type_model::{Term, TypeId};
 use typed_marks::{Facts, State};
 use typed_tree::{BAD_CONSTANT_TYPE, DUPLICATE_MEMBER, Mode, WRONG_NUMBER_OF_VALUES};
@@ -96,54 +95,6 @@ pub fn constants(u: &Subject, s: &State, at: NodeRef, fit: bool) -> Step
     match u.spec_at(at) {
         Some(spec) => counted(s, fit, u.nodes_at(at.file), spec),
         None => nothing(s),
-    }
-}
-
-fn may_be_several(kind: NodeKind) -> bool
-    ensures { result ≡ may_be_several kind }
-{
-    match kind {
-        NodeKind::Call => true,
-        NodeKind::CallSpread => true,
-        NodeKind::Index => true,
-        NodeKind::Assert => true,
-        NodeKind::Unary => true,
-        NodeKind::Paren => true,
-        _ => false,
-    }
-}
-
-pub fn is_several(nodes: &[Node], values: Option<u32>) -> bool
-    ensures { result ≡ is_several nodes.now values }
-{
-    match values {
-        Some(n) => may_be_several(kind_of(nodes, n)),
-        None => false,
-    }
-}
-
-fn differing(s: &State, several: bool) -> Step
-    ensures is { step_in s.now result ≡ Says (differing several) }
-    ensures over { IsStepOf s.now result }
-{
-    let _ = s;
-    if several {
-        silent()
-    } else {
-        broken(WRONG_NUMBER_OF_VALUES)
-    }
-}
-
-/// A specification of variables: E99.
-pub fn variables(s: &State, nodes: &[Node], names: Option<u32>, values: Option<u32>) -> Step
-    requires { HasBasics s.now.table }
-    ensures is { step_in s.now result ≡ tell (so_far s.now) (var_rule nodes.now names values) }
-    ensures over { IsStepOf s.now result }
-{
-    if count(nodes, names) == count(nodes, values) {
-        nothing(s)
-    } else {
-        differing(s, is_several(nodes, values))
     }
 }
 

@@ -8,8 +8,6 @@ use type_model::Dir;
 /// A type expression that is made of the types of its parts.
 #[derive(Clone, Copy, PartialEq, Eq, Drop)]
 pub enum Simple {
-    /// `*T`.
-    Star,
     /// `[]T`, and a variadic parameter.
     Slice,
     Array,
@@ -51,8 +49,6 @@ pub enum Line {
     Constants,
     /// Constants of a type that is written.
     Typed,
-    /// Variables whose values are this part.
-    Variables(usize),
     Import,
     /// One that has no test of its own.
     Plain,
@@ -62,9 +58,9 @@ pub enum Line {
 #[derive(Clone, Copy, PartialEq, Eq, Drop)]
 pub enum Named {
     Constant,
-    /// A variable whose type is written.
+    /// A variable without a value.
     Typed,
-    /// A variable that has the type of its value.
+    /// A variable with a value.
     Valued,
     Param,
     Function,
@@ -80,21 +76,16 @@ pub enum Named {
 /// Around a value: what wants it.
 #[derive(Clone, Copy, PartialEq, Eq, Drop)]
 pub enum Valuing {
-    Star,
     Array,
     Constants,
     /// Constants of a type that is written.
     TypedConstants,
-    Variables,
-    /// Variables of a type that is written.
-    TypedVariables,
 }
 
 pub fn simple_form(kind: NodeKind) -> Option<Simple>
     ensures { result ≡ simple_form kind }
 {
     match kind {
-        NodeKind::Star => Some(Simple::Star),
         NodeKind::SliceType => Some(Simple::Slice),
         NodeKind::SpreadParam => Some(Simple::Slice),
         NodeKind::Variadic => Some(Simple::Slice),
@@ -149,8 +140,6 @@ pub fn line_form(kind: NodeKind) -> Option<Line>
         NodeKind::ConstNames => Some(Line::Constants),
         NodeKind::ConstValues => Some(Line::Constants),
         NodeKind::ConstTyped => Some(Line::Typed),
-        NodeKind::VarValues => Some(Line::Variables(1)),
-        NodeKind::VarTypedValues => Some(Line::Variables(2)),
         NodeKind::ImportPath => Some(Line::Import),
         NodeKind::ImportDot => Some(Line::Import),
         NodeKind::ImportNamed => Some(Line::Import),
@@ -177,7 +166,7 @@ pub fn named_form(kind: NodeKind) -> Option<Named>
         NodeKind::ConstValues => Some(Named::Constant),
         NodeKind::ConstTyped => Some(Named::Constant),
         NodeKind::VarTyped => Some(Named::Typed),
-        NodeKind::VarTypedValues => Some(Named::Typed),
+        NodeKind::VarTypedValues => Some(Named::Valued),
         NodeKind::VarValues => Some(Named::Valued),
         NodeKind::Param => Some(Named::Param),
         NodeKind::SpreadParam => Some(Named::Param),
@@ -195,12 +184,9 @@ pub fn valuing_form(kind: NodeKind) -> Option<Valuing>
     ensures { result ≡ valuing_form kind }
 {
     match kind {
-        NodeKind::Star => Some(Valuing::Star),
         NodeKind::ArrayType => Some(Valuing::Array),
         NodeKind::ConstValues => Some(Valuing::Constants),
         NodeKind::ConstTyped => Some(Valuing::TypedConstants),
-        NodeKind::VarValues => Some(Valuing::Variables),
-        NodeKind::VarTypedValues => Some(Valuing::TypedVariables),
         _ => None,
     }
 }

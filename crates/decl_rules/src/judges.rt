@@ -11,14 +11,13 @@ ghost use Rattle.decl_rules.specs.Specifications.{member_rule};
 ghost use Rattle.type_rules.specs.Types.{same_rule, pointing_rule};
 ghost use Rattle.decl_rules.specs.Rules.{decl_rule, simple_rule, simple_of, member_of, in_member, method_rule, signed_rule, listed_rule, limited, import_rule, line_rule, line_of, or_line, or_member, or_listed, or_signed};
 
-use crate::declared::{constants, is_fit, nothing, variables};
+use crate::declared::{constants, is_fit, nothing};
 use crate::forms::{
     Line, Listed, Member, Signed, Simple, line_form, listed_form, member_form, signed_form,
     simple_form,
 };
 use go_tree::{Node, NodeRef};
 use gv_base::NoMemory;
-use package_objects::part_of;
 use rule_words::good::{beyond, broken, part_at, silent};
 use rule_words::{Seen, Step, Wanted};
 use std::alloc::Global;
@@ -27,7 +26,7 @@ use type_rules::interfaces::interface;
 use type_rules::receivers::list;
 use type_rules::signatures::judge_signature;
 use type_rules::structs::structure;
-use type_rules::types::{array, chan, map, pointing, same, slice, star};
+use type_rules::types::{array, chan, map, pointing, same, slice};
 use typed_marks::State;
 use typed_tree::{DUPLICATE_MEMBER, Limit};
 use unit_read::Subject;
@@ -39,7 +38,6 @@ fn judge_simple(s: &State, form: Simple, a: Seen, b: Seen) -> Step
     ensures over { IsStepOf s.now result }
 {
     match form {
-        Simple::Star => star(s, a),
         Simple::Slice => slice(s, a),
         Simple::Array => array(s, a, b),
         Simple::Map => map(s, a, b),
@@ -211,29 +209,28 @@ fn judge_import(u: &Subject, s: &State, at: NodeRef) -> Step
     }
 }
 
-fn judge_line(u: &Subject, s: &State, at: NodeRef, node: &Node, p: Seen, form: Line) -> Step
+fn judge_line(u: &Subject, s: &State, at: NodeRef, p: Seen, form: Line) -> Step
     requires scene { IsScene u.now s.now }
     requires part { IsSeenOf s.now p }
-    ensures is { step_in s.now result ≡ tell (so_far s.now) (line_rule (unit_of u.now) at node.now (part_in s.now p) form) }
+    ensures is { step_in s.now result ≡ tell (so_far s.now) (line_rule (unit_of u.now) at (part_in s.now p) form) }
     ensures over { IsStepOf s.now result }
 {
     match form {
         Line::Constants => constants(u, s, at, true),
         Line::Typed => constants(u, s, at, is_fit(s, p.under)),
-        Line::Variables(i) => variables(s, u.nodes_at(at.file), part_of(node, 0), part_of(node, i)),
         Line::Import => judge_import(u, s, at),
         Line::Plain => nothing(s),
     }
 }
 
-fn of_line(u: &Subject, s: &State, at: NodeRef, node: &Node, parts: &[Seen], form: Line) -> Step
+fn of_line(u: &Subject, s: &State, at: NodeRef, parts: &[Seen], form: Line) -> Step
     requires scene { IsScene u.now s.now }
     requires parts { AreSeenOf s.now parts.now }
-    ensures is { step_in s.now result ≡ tell (so_far s.now) (line_of (unit_of u.now) at node.now (parts_in s.now parts.now) form) }
+    ensures is { step_in s.now result ≡ tell (so_far s.now) (line_of (unit_of u.now) at (parts_in s.now parts.now) form) }
     ensures over { IsStepOf s.now result }
 {
     let first = part_at(s, parts, 0);
-    judge_line(u, s, at, node, first, form)
+    judge_line(u, s, at, first, form)
 }
 
 fn or_line(u: &Subject, s: &State, at: NodeRef, node: &Node, parts: &[Seen]) -> Step
@@ -243,7 +240,7 @@ fn or_line(u: &Subject, s: &State, at: NodeRef, node: &Node, parts: &[Seen]) -> 
     ensures over { IsStepOf s.now result }
 {
     match line_form(node.kind) {
-        Some(form) => of_line(u, s, at, node, parts, form),
+        Some(form) => of_line(u, s, at, parts, form),
         None => silent(),
     }
 }

@@ -6,7 +6,7 @@ ghost use Rattle.unit_read.specs.Subjects.{unit_of, IsRead};
 ghost use Rattle.unit_read.specs.Units.{type_name_at};
 ghost use Rattle.rule_words.specs.Scenes.{IsScene, said, IsMarkOf};
 ghost use Rattle.rule_words.specs.Steps.{step_in, IsStepOf};
-ghost use Rattle.decl_rules.specs.Objects.{variable_mark, function_mark, valued_mark, alias_mark, placed_ask, value_node, defined_rule, form_rule, kind_rule, object_in, placed_object, object_rule};
+ghost use Rattle.decl_rules.specs.Objects.{variable_mark, function_mark, alias_mark, placed_ask, defined_rule, form_rule, kind_rule, object_in, placed_object, object_rule};
 
 use crate::constant::judge_constant;
 use crate::forms::{Named, named_form};
@@ -15,7 +15,7 @@ use crate::method_names::method_part;
 use crate::refusal::{is_exempt, refusal_of};
 use go_tree::{Node, NodeRef};
 use gv_base::{NoMemory, Text};
-use package_objects::{count, item, part_of};
+use package_objects::part_of;
 use rule_words::good::{broken, gives_type, good, known, silent};
 use rule_words::{Step, look};
 use std::alloc::Global;
@@ -24,6 +24,7 @@ use type_questions::Found;
 use typed_marks::{Facts, Mark, Stage, State};
 use typed_tree::Mode;
 use unit_read::{Place, Subject};
+use variable_rules::judge_variable_object;
 
 fn variable(s: &State, m: Mark) -> Step
     requires { IsMarkOf s.now m }
@@ -52,23 +53,6 @@ fn function(s: &State, m: Mark) -> Step
             of: x.of,
             value: None,
             last: x.of,
-        }),
-        None => silent(),
-    }
-}
-
-/// A variable without a type: it has the final type of its value.
-fn valued(s: &State, m: Mark) -> Step
-    requires { IsMarkOf s.now m }
-    ensures is { step_in s.now result ≡ tell (so_far s.now) (valued_mark (said s.now m)) }
-    ensures over { IsStepOf s.now result }
-{
-    match known(s, m) {
-        Some(x) => good(Facts {
-            mode: Mode::Variable,
-            of: x.last,
-            value: None,
-            last: x.last,
         }),
         None => silent(),
     }
@@ -123,28 +107,6 @@ pub(crate) fn function_at(u: &Subject, s: &State, file: u32, n: u32) -> Step
     }
 }
 
-fn valued_by(u: &Subject, s: &State, file: u32, n: u32) -> Step
-    requires { IsScene u.now s.now }
-    ensures is { step_in s.now result ≡ tell (so_far s.now) (placed_ask (unit_of u.now) file (Some n) valued_mark) }
-    ensures over { IsStepOf s.now result }
-{
-    match look(u, s, Stage::Placed, file as usize, n) {
-        Found::Is(m) => valued(s, m),
-        Found::Wait(item) => Step::Waits(item),
-    }
-}
-
-fn valued_at(u: &Subject, s: &State, file: u32, n: Option<u32>) -> Step
-    requires { IsScene u.now s.now }
-    ensures is { step_in s.now result ≡ tell (so_far s.now) (placed_ask (unit_of u.now) file n valued_mark) }
-    ensures over { IsStepOf s.now result }
-{
-    match n {
-        Some(n) => valued_by(u, s, file, n),
-        None => silent(),
-    }
-}
-
 fn alias_by(u: &Subject, s: &State, file: u32, n: u32) -> Step
     requires { IsScene u.now s.now }
     ensures is { step_in s.now result ≡ tell (so_far s.now) (placed_ask (unit_of u.now) file (Some n) alias_mark) }
@@ -164,16 +126,6 @@ fn alias_at(u: &Subject, s: &State, file: u32, n: Option<u32>) -> Step
     match n {
         Some(n) => alias_by(u, s, file, n),
         None => silent(),
-    }
-}
-
-fn value_node(nodes: &[Node], node: &Node, i: usize) -> Option<u32>
-    ensures { result ≡ value_node nodes.now node.now i }
-{
-    if count(nodes, part_of(node, 0)) == count(nodes, part_of(node, 1)) {
-        item(nodes, part_of(node, 1), i)
-    } else {
-        None
     }
 }
 
@@ -232,11 +184,10 @@ fn judge_form(
     ensures over { IfOk result (IsStepOf s.now) }
 {
     let file = name.file;
-    let nodes = u.nodes_at(file);
     match form {
         Named::Constant => Ok(judge_constant(u, s, name, p.index)),
         Named::Typed => Ok(variable_at(u, s, file, part_of(node, 1))),
-        Named::Valued => Ok(valued_at(u, s, file, value_node(nodes, node, p.index))),
+        Named::Valued => Ok(judge_variable_object(u, s, file, node, p.index)),
         Named::Param => Ok(variable_at(u, s, file, Some(p.around))),
         Named::Function => Ok(function_at(u, s, file, p.around)),
         Named::Method => {

@@ -16,7 +16,6 @@ pub fn decl_reads(kind: NodeKind, slot: usize) -> Option<How>
     ensures { result ≡ decl_reads kind slot }
 {
     match kind {
-        NodeKind::Star => Some(How::Mark),
         NodeKind::SliceType => Some(How::Type),
         NodeKind::ArrayType => Some(How::Type),
         NodeKind::MapType => Some(How::Type),

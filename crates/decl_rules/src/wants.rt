@@ -10,15 +10,14 @@ ghost use Rattle.typed_marks.specs.States.{so_far};
 ghost use Rattle.unit_read.specs.Subjects.{unit_of, IsRead};
 ghost use Rattle.rule_words.specs.Scenes.{IsScene, told_by, IfFound, said, IsMarkOf};
 ghost use Rattle.rule_words.specs.Good.{known_of, AreFactsOf};
-ghost use Rattle.decl_rules.specs.Wants.{is_type_slot, assigned_to, wish_by, file_of, wants, stands_for_several, value_demand, nodes_of_block, declares_names, written_wants, star_demand, star_wants, value_wants, or_value, decl_wants};
+ghost use Rattle.decl_rules.specs.Wants.{is_type_slot, assigned_to, wish_by, file_of, wants, declares_names, written_wants, value_wants, or_value, decl_wants};
 
-use crate::declared::is_several;
 use crate::forms::{Valuing, valuing_form};
 use go_tree::{Node, NodeKind};
 use gv_base::Kind;
-use package_objects::{count, part_of};
+use package_objects::part_of;
 use rule_words::good::{basic_type, known};
-use rule_words::{look, wanted_by};
+use rule_words::look;
 use type_questions::Found;
 use type_rules::types::is_type;
 use typed_marks::{Facts, Item, Mark, Stage, State, Want};
@@ -48,7 +47,6 @@ fn is_type_slot(kind: NodeKind, slot: usize) -> bool
         NodeKind::Alias => slot == 1,
         NodeKind::ConstTyped => slot == 1,
         NodeKind::VarTyped => slot == 1,
-        NodeKind::VarTypedValues => slot == 1,
         NodeKind::Method => slot >= 1,
         NodeKind::FuncDecl => slot >= 1,
         NodeKind::MethodDecl => slot != 1,
@@ -124,65 +122,6 @@ fn written(
     }
 }
 
-fn star_demand(demand: Demand) -> Demand
-    ensures { result ≡ star_demand demand }
-{
-    match demand {
-        Demand::Type => Demand::Type,
-        Demand::Inside => Demand::Inside,
-        Demand::Nothing => Demand::Operand,
-        Demand::Owner => Demand::Operand,
-        Demand::Operand => Demand::Operand,
-        Demand::Count => Demand::Operand,
-        Demand::Constant => Demand::Operand,
-    }
-}
-
-fn star(u: &Subject, s: &State, block: usize, whole: u32) -> Found<Mark, Item>
-    requires { IsScene u.now s.now }
-    ensures is { told_by (said s.now) result ≡ tell (so_far s.now) (star_wants (unit_of u.now) block whole) }
-    ensures over { IfFound result (IsMarkOf s.now) }
-{
-    match look(u, s, Stage::Wanted, block, whole) {
-        Found::Is(m) => wants(star_demand(wanted_by(s, m).demand), Want::Free),
-        Found::Wait(item) => Found::Wait(item),
-    }
-}
-
-fn stands_for_several(nodes: &[Node], around: &Node, i: usize) -> bool
-    ensures { result ≡ stands_for_several nodes.now around.now i }
-{
-    let values = part_of(around, i);
-    count(nodes, part_of(around, 0)) != count(nodes, values) && is_several(nodes, values)
-}
-
-fn value_demand(nodes: &[Node], around: &Node, i: usize) -> Demand
-    ensures { result ≡ value_demand nodes.now around.now i }
-{
-    if stands_for_several(nodes, around, i) {
-        Demand::Nothing
-    } else {
-        Demand::Operand
-    }
-}
-
-fn nodes_of_block<'a>(u: &Subject<'a>, block: usize) -> &'a [Node]
-    requires { IsRead u.now }
-    ensures { result.now ≡ nodes_of_block (unit_of u.now) block }
-{
-    match u.passage_at(block) {
-        Some(passage) => u.nodes_at(passage.file),
-        None => &[],
-    }
-}
-
-fn block_demand(u: &Subject, block: usize, around: &Node, i: usize) -> Demand
-    requires { IsRead u.now }
-    ensures { result ≡ value_demand (nodes_of_block (unit_of u.now) block) around.now i }
-{
-    value_demand(nodes_of_block(u, block), around, i)
-}
-
 fn assigned(
     u: &Subject,
     s: &State,
@@ -226,14 +165,9 @@ fn value(
     ensures over { IfFound result (IsMarkOf s.now) }
 {
     match form {
-        Valuing::Star => star(u, s, block, p.around),
         Valuing::Array => wants(Demand::Operand, Want::Takes(basic_type(s, Kind::Int))),
         Valuing::Constants => freely(s, p, Demand::Constant),
         Valuing::TypedConstants => assigned(u, s, block, p, Demand::Constant, around),
-        Valuing::Variables => freely(s, p, block_demand(u, block, around, 1)),
-        Valuing::TypedVariables => {
-            assigned(u, s, block, p, block_demand(u, block, around, 2), around)
-        }
     }
 }
 

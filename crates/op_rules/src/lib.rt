@@ -24,8 +24,9 @@ mod values;
 mod wants;
 mod wishes;
 
+pub use binary::judge_binary;
 pub use forms::op_reads;
 pub use laws::{basic_types_are_apart, what_goes_beside_is_assignable};
 pub use placed::judge_placed;
 pub use rules::judge_op;
-pub use wants::want_op;
+pub use wants::{operator_asked, want_op};

@@ -313,7 +313,7 @@ fn operator_wants(
 }
 
 #[tactic(auto, unfolding(crate::specs::Wants::operator_asked))]
-fn operator_asked(
+pub fn operator_asked(
     u: &Subject,
     s: &State,
     block: usize,

@@ -7,7 +7,6 @@ use Rattle.type_model.specs.declared.term.Dir.{Dir}
 use Rattle.type_model.specs.GoTypes.{GoType, PointerTo, SliceOf, ArrayOf, MapOf, ChanOf}
 use Rattle.mark_walk.specs.Asks.{done}
 use Rattle.typed_tree.specs.declared.mark.Mode.TheVariants as mode
-use Rattle.typed_tree.specs.Places.{is_type}
 use Rattle.typed_tree.specs.declared.rule.TheConstants.{BAD_ARRAY_LENGTH}
 use Rattle.typed_marks.specs.Meanings.{Known, Meaning, Right, Wrong, Quiet}
 use Rattle.rule_words.specs.Parts.{Part}
@@ -18,13 +17,6 @@ use Rattle.rule_words.specs.Good.{given}
 -- a type expression that gives this type
 abbrev pub gives_type : GoType → Rule
 gives_type of = done (typed mode.TypeName of)
-
--- "Pointer types": `*T`. What `*` makes of a value is no type expression, and nothing is said of it here.
-abbrev pub pointer_rule : Known → Rule
-pointer_rule x = if is_type x.mode then gives_type (PointerTo x.of) else done Quiet
-
-abbrev pub star_rule : Part → Rule
-star_rule p = given p.mark (λ x. pointer_rule x)
 
 -- an embedded pointer: "a pointer to a non-interface type name"
 abbrev pub pointing_rule : Part → Rule

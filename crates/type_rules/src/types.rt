@@ -7,7 +7,7 @@ ghost use Rattle.typed_tree.specs.Places.{is_type};
 ghost use Rattle.rule_words.specs.Scenes.{part_in, IsSeenOf};
 ghost use Rattle.rule_words.specs.Steps.{step_in, IsStepOf};
 ghost use Rattle.rule_words.specs.Good.{known_of, AreFactsOf};
-ghost use Rattle.type_rules.specs.Types.{pointer_rule, star_rule, pointing_rule, slice_rule, chan_rule, map_of, map_rule, length_in, length_of, array_of, sized_rule, array_rule, same_rule};
+ghost use Rattle.type_rules.specs.Types.{pointing_rule, slice_rule, chan_rule, map_of, map_rule, length_in, length_of, array_of, sized_rule, array_rule, same_rule};
 
 use gv_base::Const;
 use rule_words::good::{broken, gives_type, good, known, silent};
@@ -22,30 +22,6 @@ pub fn is_type(mode: Mode) -> bool
     match mode {
         Mode::TypeName => true,
         _ => false,
-    }
-}
-
-fn pointer(s: &State, x: Facts) -> Step
-    requires { AreFactsOf s.now x }
-    ensures is { step_in s.now result ≡ tell (so_far s.now) (pointer_rule (known_of s.now x)) }
-    ensures over { IsStepOf s.now result }
-{
-    if is_type(x.mode) {
-        gives_type(Term::Pointer(x.of))
-    } else {
-        silent()
-    }
-}
-
-/// `*` before a type, or a value.
-pub fn star(s: &State, p: Seen) -> Step
-    requires { IsSeenOf s.now p }
-    ensures is { step_in s.now result ≡ tell (so_far s.now) (star_rule (part_in s.now p)) }
-    ensures over { IsStepOf s.now result }
-{
-    match known(s, p.mark) {
-        Some(x) => pointer(s, x),
-        None => silent(),
     }
 }
 

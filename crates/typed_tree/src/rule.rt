@@ -51,6 +51,12 @@ pub const BLANK_USED_AS_VALUE: Rule = Rule(17);
 /// E20 no such field or method
 pub const NO_SUCH_FIELD_OR_METHOD: Rule = Rule(20);
 
+/// E21 ambiguous selector
+pub const AMBIGUOUS_SELECTOR: Rule = Rule(21);
+
+/// E22 needs an address
+pub const NEEDS_AN_ADDRESS: Rule = Rule(22);
+
 /// E24 not a value
 pub const NOT_A_VALUE: Rule = Rule(24);
 
@@ -83,6 +89,78 @@ pub const BAD_SHIFT_COUNT: Rule = Rule(36);
 
 /// E37 shifted operand is not an integer
 pub const SHIFTED_OPERAND_IS_NOT_AN_INTEGER: Rule = Rule(37);
+
+/// E39 cannot take address
+pub const CANNOT_TAKE_ADDRESS: Rule = Rule(39);
+
+/// E40 not a pointer
+pub const NOT_A_POINTER: Rule = Rule(40);
+
+/// E41 cannot index
+pub const CANNOT_INDEX: Rule = Rule(41);
+
+/// E42 bad index
+pub const BAD_INDEX: Rule = Rule(42);
+
+/// E43 index out of range
+pub const INDEX_OUT_OF_RANGE: Rule = Rule(43);
+
+/// E44 cannot slice
+pub const CANNOT_SLICE: Rule = Rule(44);
+
+/// E45 slice indexes out of order
+pub const INDEXES_OUT_OF_ORDER: Rule = Rule(45);
+
+/// E46 not an interface
+pub const NOT_AN_INTERFACE: Rule = Rule(46);
+
+/// E47 impossible type
+pub const IMPOSSIBLE_TYPE: Rule = Rule(47);
+
+/// E50 not a function
+pub const NOT_A_FUNCTION: Rule = Rule(50);
+
+/// E51 wrong number of arguments
+pub const WRONG_NUMBER_OF_ARGUMENTS: Rule = Rule(51);
+
+/// E52 bad ...
+pub const BAD_DOTS: Rule = Rule(52);
+
+/// E53 cannot convert
+pub const CANNOT_CONVERT: Rule = Rule(53);
+
+/// E54 conversion takes one argument
+pub const CONVERSION_TAKES_ONE_ARGUMENT: Rule = Rule(54);
+
+/// E55 bad built-in argument
+pub const BAD_BUILTIN_ARGUMENT: Rule = Rule(55);
+
+/// E60 bad literal type
+pub const BAD_LITERAL_TYPE: Rule = Rule(60);
+
+/// E61 keys mixed
+pub const KEYS_MIXED: Rule = Rule(61);
+
+/// E62 unknown field
+pub const UNKNOWN_FIELD: Rule = Rule(62);
+
+/// E63 duplicate key
+pub const DUPLICATE_KEY: Rule = Rule(63);
+
+/// E64 wrong number of fields
+pub const WRONG_NUMBER_OF_FIELDS: Rule = Rule(64);
+
+/// E65 missing key
+pub const MISSING_KEY: Rule = Rule(65);
+
+/// E66 bad index key
+pub const BAD_INDEX_KEY: Rule = Rule(66);
+
+/// E67 implicit field not exported
+pub const IMPLICIT_FIELD_NOT_EXPORTED: Rule = Rule(67);
+
+/// E78 cannot receive
+pub const CANNOT_RECEIVE: Rule = Rule(78);
 
 /// E97 not constant
 pub const NOT_CONSTANT: Rule = Rule(97);

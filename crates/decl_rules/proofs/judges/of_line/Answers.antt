@@ -8,4 +8,4 @@ use Rattle.decl_rules.proofs.judges.of_line.Goals as goal
 
 pub returns-clause-is : goal.returns-clause-is
 returns-clause-is c =
-    c.judge_line.ensures.is ∙ ap (λ (p : Part). tell (so_far c.args.s.now) (line_rule (unit_of c.args.u.now) c.args.at c.args.node.now p c.args.form)) c.part_at-first.ensures.is
+    c.judge_line.ensures.is ∙ ap (λ (p : Part). tell (so_far c.args.s.now) (line_rule (unit_of c.args.u.now) c.args.at p c.args.form)) c.part_at-first.ensures.is

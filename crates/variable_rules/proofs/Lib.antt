@@ -1,0 +1,4 @@
+mod FormLemmas
+mod ResultLemmas
+mod SharingLemmas
+mod SpecificationFacts

@@ -1,0 +1,18 @@
+//! The rules of variables with values: how many values a specification needs, what their places want, and the variables that it declares.
+#![tactic(auto)]
+
+mod assigning;
+mod counts;
+mod forms;
+mod objects;
+mod rules;
+mod several;
+mod sharing;
+mod wants;
+
+pub use forms::variable_reads;
+pub use objects::judge_variable_object;
+pub use rules::judge_variables;
+pub use several::given_to;
+pub use sharing::{is_shared, judge_shared};
+pub use wants::want_variable;
