@@ -1,5 +1,5 @@
 -- What a package exports, as it is listed.
-use Rattle.std.proofs.Common.{◌≡◌, ℕ, ◌+◌, ◌<◌, ◌↔◌, ◌==◌, IsTrue, true, false, List, [], ◌∷◌, ◌++◌, length, slice_get, get_or, Option, Some, None, below_more, refl, sym, ap, ◌∙◌, subst, inl, inr, arith}
+use Rattle.std.proofs.Common.{◌≡◌, ℕ, ◌+◌, ◌<◌, ◌↔◌, ◌==◌, IsTrue, Bool, true, false, if◌then◌else◌, List, [], ◌∷◌, ◌++◌, length, slice_get, get_or, Option, Some, None, option_and_then, below_more, refl, sym, ap, ◌∙◌, subst, inl, inr, arith}
 use Rattle.std.specs.List.{Contains}
 use Rattle.std.specs.List.Sorted.{IsPermutation, IsSortedBy}
 use Rattle.std.proofs.lemmas.Bool.Decides.{nat_tests}
@@ -12,13 +12,15 @@ use Rattle.go_tree.specs.Lexeme.{place_of}
 use Rattle.go_tree.specs.declared.tree.NodeRef.{NodeRef}
 use Rattle.export_data.specs.declared.constants.ConstOut.{ConstOut}
 use Rattle.export_data.specs.Order.{names_rise}
+use Rattle.export_data.specs.Spelling.{has_constants}
 use Rattle.type_model.specs.Declarations.{Declaration}
+use Rattle.type_model.specs.GoTypes.{GoType, BasicType, DefinedType, PointerTo, SliceOf, ArrayOf, MapOf, ChanOf, FuncOf, StructOf, InterfaceOf}
 use Rattle.typed_marks.specs.declared.item.Item.{Item}
-use Rattle.typed_marks.specs.Meanings.{Meaning, declared}
+use Rattle.typed_marks.specs.Meanings.{Meaning, Right, Wrong, Beyond, Quiet, Wishes, Declares, declared}
 use Rattle.unit_read.specs.Units.{Unit, name_at}
 use Rattle.unit_rows.specs.Redeclared.{package_names}
 use Rattle.check_pkg.specs.Exports.{ExportsNamed, AddsNamed, AddsExport, AreDistinct}
-use Rattle.check_pkg.specs.Interfaces.{is_exported, worth_of, object_item, ExportsNth, IsExported}
+use Rattle.check_pkg.specs.Interfaces.{is_constant, is_exported, kept_kind, kind_of, worth_of, worth_with, object_item, ExportsNth, IsExported}
 use Rattle.check_pkg.specs.Names.{spelled_names}
 use Rattle.check_pkg.proofs.Lists.{same_some}
 use Rattle.check_pkg.proofs.NameOrder.{before, distinct_push, distinct_permuted, sorted_rise}
@@ -30,6 +32,43 @@ declared_worthless (Some d) = refl
 
 some_is : {X : Type 0} (a b : X) → Some a ≡ Some b → a ≡ b
 some_is a b h = cc
+
+-- ---- kinds
+
+kept_is : (k kind : Kind) → kept_kind k ≡ Some kind → has_constants kind ≡ true
+kept_is k kind h = by (has_constants k) refl h where
+  by : (b : Bool) → has_constants k ≡ b → (if b then Some k else None) ≡ Some kind → has_constants kind ≡ true
+  by true e h = ap has_constants (sym (some_is k kind h)) ∙ e
+  by false e h = absurd cc
+
+kind_kept : (of : GoType) (kind : Kind) → kind_of of ≡ Some kind → has_constants kind ≡ true
+kind_kept (BasicType k) kind h = kept_is k kind h
+kind_kept (DefinedType name) kind h = absurd cc
+kind_kept (PointerTo of) kind h = absurd cc
+kind_kept (SliceOf of) kind h = absurd cc
+kind_kept (ArrayOf size of) kind h = absurd cc
+kind_kept (MapOf key of) kind h = absurd cc
+kind_kept (ChanOf way of) kind h = absurd cc
+kind_kept (FuncOf signature) kind h = absurd cc
+kind_kept (StructOf fields) kind h = absurd cc
+kind_kept (InterfaceOf methods) kind h = absurd cc
+
+-- what is exported isn't of the type of nil
+pub worth_kept : (x : Meaning) (p : Kind × Const) → worth_of x ≡ Some p → has_constants p.0 ≡ true
+worth_kept (Right x) p h = by (is_constant x.mode) (kind_of x.of) refl x.value h where
+  by : (b : Bool) (k : Option Kind) → kind_of x.of ≡ k → (v : Option Const) → (if b then option_and_then (λ kind. worth_with kind v) k else None) ≡ Some p → has_constants p.0 ≡ true
+  by false k e v h = absurd cc
+  by true None e v h = absurd cc
+  by true (Some kind) e None h = absurd cc
+  by true (Some kind) e (Some c) h =
+      let q : Kind × Const = (kind, c) in
+      let same : kind ≡ p.0 = ap (λ (y : Kind × Const). y.0) (some_is q p h) in
+      subst (λ (k : Kind). has_constants k ≡ true) same (kind_kept x.of kind e)
+worth_kept (Wrong rule) p h = absurd cc
+worth_kept (Beyond limit) p h = absurd cc
+worth_kept Quiet p h = absurd cc
+worth_kept (Wishes demand wish) p h = absurd cc
+worth_kept (Declares d) p h = absurd cc
 
 -- ---- one constant
 

@@ -4,7 +4,7 @@ use Rattle.std.specs.List.{Contains}
 use Rattle.std.proofs.lemmas.Bool.{cases_eq}
 use Rattle.std.proofs.lemmas.List.Elements.{Contains-append_left, Contains-push, Contains-push_cases}
 use Rattle.check_pkg.specs.declared.refusal.Refusal.{Refusal}
-use Rattle.check_pkg.specs.Gains.{Gains, SomeBelow, SomeBetween}
+use Rattle.check_pkg.specs.Gains.{Gains, SomeBelow, SomeBetween, OfSome}
 
 -- nothing is gained
 pub gains_none : (P : Refusal → Type 0) (old new : List Refusal) → new ≡ old → ((x : Refusal) → P x → ⊥) → Gains P old new
@@ -68,10 +68,6 @@ below_more Nth k start old new before here =
 -- as many as there are
 pub below_all : (Nth : ℕ → Refusal → Type 0) (k count : ℕ) (start new : List Refusal) → k ≡ count → Gains (SomeBelow k Nth) start new → Gains (SomeBelow count Nth) start new
 below_all Nth k count start new same gains = subst (λ n. Gains (SomeBelow n Nth) start new) same gains
-
--- what one thing gives that is there, or nothing
-abbrev pub OfSome : {X : Type 0} → Option X → (X → Refusal → Type 0) → Refusal → Type 0
-OfSome {X} o P x = (c : X) × (o ≡ Some c) × P c x
 
 pub gains_some : {X : Type 0} (o : Option X) (P : X → Refusal → Type 0) (c : X) (old new : List Refusal) → o ≡ Some c → Gains (P c) old new → Gains (OfSome o P) old new
 gains_some {X} o P c old new is gains = gains_as (P c) (OfSome o P) old new gains (λ x. (

@@ -10,6 +10,8 @@ pub mod NameLemmas
 pub mod UsedLemmas
 pub mod ImportLemmas
 pub mod UniverseLemmas
+pub mod InitialLemmas
+pub mod LateLemmas
 pub mod PackageLemmas
 pub mod ReadLemmas
 pub mod StandLemmas

@@ -1,5 +1,6 @@
 -- A package and the unit that is judged.
-use Rattle.std.proofs.Common.{◌≡◌, ◌↔◌, ℕ, true, List, [], map, refl, sym, ap, ◌∙◌, subst, inl, inr, arith}
+use Rattle.std.proofs.Common.{◌≡◌, ◌⊎◌, ◌↔◌, ℕ, true, List, [], map, refl, sym, ap, ◌∙◌, subst, inl, inr, arith}
+use Rattle.std.proofs.Math.Path.{fun_ext}
 use Rattle.std.specs.List.{Contains}
 use Rattle.export_data.specs.declared.constants.ConstInterface.{ConstInterface}
 use Rattle.export_data.specs.declared.constants.ConstOut.{ConstOut}
@@ -15,7 +16,8 @@ use Rattle.typed_marks.specs.declared.item.Item.{Item}
 use Rattle.typed_marks.specs.Meanings.{Meaning}
 use Rattle.unit_read.specs.Units.{Unit}
 use Rattle.rule_words.specs.Asking.{Rule}
-use Rattle.elaborate.specs.Walks.{says_of, item_rule}
+use Rattle.elaborate.specs.Walks.{item_rule}
+use Rattle.type_answers.specs.Answering.{says_of}
 use Rattle.check_pkg.specs.declared.judging.Checked.{Checked}
 use Rattle.check_pkg.specs.declared.judging.Outcome.{Outcome}
 use Rattle.check_pkg.specs.declared.refusal.Refusal.{Refusal}
@@ -25,6 +27,7 @@ use Rattle.check_pkg.specs.Gains.{Gains}
 use Rattle.check_pkg.specs.ImportLists.{RefusesAllImports}
 use Rattle.check_pkg.specs.Imports.{IsRefusedImport}
 use Rattle.check_pkg.specs.Items.{IsRefusedItem}
+use Rattle.check_pkg.specs.Late.{IsRefusedLate}
 use Rattle.check_pkg.specs.Interfaces.{worth_of, object_item, IsExported}
 use Rattle.check_pkg.specs.Packages.{package_of, text_of, known_of}
 use Rattle.check_pkg.specs.Refusals.{IsRefused}
@@ -45,7 +48,8 @@ refused_alike u a b alike x (inl r) = inl (record {
   told = r.told;
   refuses = (ap fault_in (sym (alike (record { stage = r.stage; block = r.block; node = r.node }))) ∙ r.refuses.0, r.refuses.1);
 })
-refused_alike u a b alike x (inr import) = inr import
+refused_alike u a b alike x (inr (inl import)) = inr (inl import)
+refused_alike u a b alike x (inr (inr late)) = inr (inr (subst (λ (m : Item → Meaning). IsRefusedLate u m x) (fun_ext alike) late))
 
 exported_alike : (u : Unit) (a b : Item → Meaning) → ((i : Item) → a i ≡ b i) → (out : ConstOut) → IsExported u a out → IsExported u b out
 exported_alike u a b alike out (k, r) = (
@@ -114,15 +118,16 @@ is_outcome rule path files trees env named uses outcome known ordered bound by =
   comes = by.comes;
 }
 
-pub collected : (u : Unit) (marks : Item → Meaning) (start mid last : List Refusal) → start ≡ [] → Gains (IsRefusedItem u marks) start mid → Gains (RefusesAllImports u) mid last
-    → (x : Refusal) → Contains last x ↔ IsRefused u marks x
-collected u marks start mid last empty items imports x =
-    let all = gains_then (IsRefusedItem u marks) (RefusesAllImports u) start mid last items imports in (
+pub collected : (u : Unit) (marks : Item → Meaning) (start mid last end : List Refusal) → start ≡ [] → Gains (IsRefusedItem u marks) start mid → Gains (RefusesAllImports u) mid last
+    → Gains (IsRefusedLate u marks) last end → (x : Refusal) → Contains end x ↔ IsRefused u marks x
+collected u marks start mid last end empty items imports lates x =
+    let all = gains_then (IsRefusedItem u marks) (λ y. RefusesAllImports u y ⊎ IsRefusedLate u marks y) start mid end items
+    (gains_then (RefusesAllImports u) (IsRefusedLate u marks) mid last end imports lates) in (
       λ h. elim ((all.all x).0 h) [
         | inl before ↦ absurd (nothing start x empty before)
-        | inr gained ↦ elim gained [ inl item ↦ inl item | inr import ↦ inr (down_imports u x import) ]
+        | inr gained ↦ elim gained [ inl item ↦ inl item | inr other ↦ inr (elim other [ inl import ↦ inl (down_imports u x import) | inr late ↦ inr late ]) ]
       ],
-      λ h. (all.all x).1 (inr (elim h [ inl item ↦ inl item | inr import ↦ inr (up_import u x import) ])),
+      λ h. (all.all x).1 (inr (elim h [ inl item ↦ inl item | inr other ↦ inr (elim other [ inl import ↦ inl (up_import u x import) | inr late ↦ inr late ]) ])),
     ) where
       nothing : (list : List Refusal) (x : Refusal) → list ≡ [] → Contains list x → ⊥
       nothing list x is has = let none : Contains [] x = subst (λ (l : List Refusal). Contains l x) is has in absurd (let (k, low, e) = none in omega arith)

@@ -23,13 +23,15 @@ use Rattle.typed_marks.specs.declared.item.Span.{Span}
 use Rattle.typed_marks.specs.Meanings.{Meaning}
 use Rattle.unit_read.specs.declared.passage.Passage.{Passage}
 use Rattle.unit_read.specs.Passages.{passages, file_passage, nth_file, copied, copies_from, copies_by, nth_copy, copies_in, file_copies, values_span}
-use Rattle.unit_read.specs.Units.{Unit, text_in, tree_at, node_at}
+use Rattle.unit_read.specs.Units.{Unit, text_in, tree_at, nodes_of, node_at}
 use Rattle.rule_words.specs.Asking.{Rule}
 use Rattle.bind.specs.Answers.{AreSpelled}
 use Rattle.check_pkg.specs.declared.refusal.Fault.{Fault}
 use Rattle.check_pkg.specs.declared.refusal.Refusal.{Refusal}
-use Rattle.check_pkg.specs.Faults.{start_of, offset_of, constraint_in, constraint_offset, is_constraint, bearer, written_offset, value_in, copied_offset}
+use Rattle.check_pkg.specs.declared.late_rules.Late.{Late}
+use Rattle.check_pkg.specs.Faults.{start_of, spot, offset_of, constraint_in, constraint_offset, is_constraint, bearer, written_offset, value_in, copied_offset}
 use Rattle.check_pkg.specs.Items.{IsRefusedItem}
+use Rattle.check_pkg.specs.Late.{late_token}
 use Rattle.check_pkg.specs.Packages.{Package, Env, text_of, IsUnit}
 use Rattle.check_pkg.specs.Refusals.{IsRefused, HasMarks}
 
@@ -190,13 +192,28 @@ item_lies p env u marks x is spelled within r =
           (λ m. offset_low p env u (place r.passage.file m) t.0 found.0 is within read found.1) (constraint_lies p env u r.passage.file t.0 found.0 is read found.1);
     }
 
+tree_there : (u : Unit) (at : NodeRef) (node : Node) → node_at u at ≡ Some node → (tree : FileTree) × (tree_at u at.file ≡ Some tree)
+tree_there u at node there = by (tree_at u at.file) refl there where
+  by : (o : Option FileTree) → tree_at u at.file ≡ o → slice_get (nodes_of o) at.node ≡ Some node → (tree : FileTree) × (tree_at u at.file ≡ Some tree)
+  by None is e = absurd (nothing at.node node e)
+  by (Some tree) is e = (tree, is)
+
+late_lies : (p : Package) (env : Env) (u : Unit) (late : Late) (at : NodeRef) (node : Node) (x : Refusal) → IsUnit p env u → AreSpelled p.trees p.files → AreInText p → node_at u at ≡ Some node
+    → x.place ≡ spot at.file (start_of u at.file (late_token late node)) → Lies p x.place
+late_lies p env u late at node x is spelled within there lies =
+    let t = tree_there u at node there in
+    let read : slice_get p.trees at.file ≡ Some t.0 = ap (λ (ts : List FileTree). slice_get ts at.file) (sym is.trees) ∙ t.1 in
+    let found = file_of p at.file t.0 spelled read in
+    subst (Lies p) (sym lies) record { file = found.0; there = found.1; within = start_low p env u at.file (late_token late node) t.0 found.0 is within read found.1 }
+
 -- each refusal stands in a file of the package
 pub refusal_stands : (rule : Unit → Item → Rule) (p : Package) (env : Env) (u : Unit) (list : List Refusal) → IsUnit p env u → AreSpelled p.trees p.files → AreInText p → HasMarks rule u list
     → (x : Refusal) → Contains list x → Lies p x.place
 refusal_stands rule p env u list is spelled within has x there = by ((has.each has.marks has.annotated x).0 there) where
   by : IsRefused u has.marks x → Lies p x.place
   by (inl item) = item_lies p env u has.marks x is spelled within item
-  by (inr (at, name, (tree, here, among), named, lies, fault)) =
+  by (inr (inr (late, (at, refuses, (node, here, (lies, fault)))))) = late_lies p env u late at node x is spelled within here lies
+  by (inr (inl (at, name, (tree, here, among), named, lies, fault))) =
       let read : slice_get p.trees at.file ≡ Some tree = ap (λ (ts : List FileTree). slice_get ts at.file) (sym is.trees) ∙ here in
       let found = file_of p at.file tree spelled read in
       subst (Lies p) (sym lies) record { file = found.0; there = found.1; within = offset_low p env u at tree found.0 is within read found.1 }

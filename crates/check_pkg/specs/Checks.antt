@@ -5,7 +5,8 @@ use Rattle.typed_marks.specs.declared.item.Item.{Item}
 use Rattle.typed_marks.specs.Meanings.{Meaning}
 use Rattle.unit_read.specs.Units.{Unit}
 use Rattle.rule_words.specs.Asking.{Rule}
-use Rattle.elaborate.specs.Walks.{says_of, pends_of, item_rule}
+use Rattle.elaborate.specs.Walks.{item_rule}
+use Rattle.type_answers.specs.Answering.{says_of, pends_of}
 use Rattle.check_pkg.specs.declared.judging.Checked.{Checked}
 use Rattle.check_pkg.specs.declared.judging.Outcome.{Outcome}
 use Rattle.check_pkg.specs.declared.judging.Outcome.TheVariants as o

@@ -11,10 +11,10 @@ use Rattle.typed_marks.specs.declared.item.Item.{Item}
 use Rattle.typed_marks.specs.Meanings.{Meaning}
 use Rattle.unit_read.specs.Units.{Unit}
 use Rattle.check_pkg.specs.declared.exports.Worth.{Worth}
-use Rattle.check_pkg.specs.Interfaces.{is_exported, worth_of, object_item, ExportsNth}
+use Rattle.check_pkg.specs.Interfaces.{is_exported, kept_kind, worth_of, object_item, ExportsNth}
 
 abbrev pub kind_in : Term → Option Kind
-kind_in (Basic kind) = Some kind
+kind_in (Basic kind) = kept_kind kind
 kind_in term = None
 
 abbrev pub seen : Worth → Kind × Const

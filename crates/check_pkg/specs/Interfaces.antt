@@ -10,6 +10,7 @@ use Rattle.go_tree.specs.Lexeme.{place_of}
 use Rattle.go_tree.specs.declared.tree.NodeRef.{NodeRef}
 use Rattle.export_data.specs.declared.constants.ConstOut.{ConstOut}
 use Rattle.export_data.specs.Order.{names_rise}
+use Rattle.export_data.specs.Spelling.{has_constants}
 use Rattle.type_model.specs.GoTypes.{GoType, BasicType}
 use Rattle.typed_tree.specs.declared.mark.Mode.{Mode}
 use Rattle.typed_tree.specs.declared.mark.Mode.TheVariants as mode
@@ -43,8 +44,12 @@ abbrev pub is_constant : Mode → Bool
 is_constant mode.Constant = true
 is_constant _ = false
 
+-- a basic type that constants have
+abbrev pub kept_kind : Kind → Option Kind
+kept_kind kind = if has_constants kind then Some kind else None
+
 abbrev pub kind_of : GoType → Option Kind
-kind_of (BasicType kind) = Some kind
+kind_of (BasicType kind) = kept_kind kind
 kind_of of = None
 
 abbrev pub worth_with : Kind → Option Const → Option (Kind × Const)

@@ -12,3 +12,5 @@ pub mod ImportLists
 pub mod Exports
 pub mod Readings
 pub mod Universes
+pub mod Initial
+pub mod Late

@@ -6,18 +6,20 @@ use Rattle.typed_marks.specs.declared.item.Item.{Item}
 use Rattle.typed_marks.specs.Meanings.{Meaning}
 use Rattle.unit_read.specs.Units.{Unit}
 use Rattle.rule_words.specs.Asking.{Rule}
-use Rattle.elaborate.specs.Walks.{says_of, item_rule}
+use Rattle.elaborate.specs.Walks.{item_rule}
+use Rattle.type_answers.specs.Answering.{says_of}
 use Rattle.check_pkg.specs.declared.refusal.Refusal.{Refusal}
 use Rattle.check_pkg.specs.Imports.{IsRefusedImport}
 use Rattle.check_pkg.specs.Items.{IsRefusedItem}
+use Rattle.check_pkg.specs.Late.{IsRefusedLate}
 
 -- each item of the package has the mark that its rule gives
 abbrev pub IsAnnotation : (Unit → Item → Rule) → Unit → (Item → Meaning) → Type 0
 IsAnnotation rule u marks = Annotates (says_of u) (item_rule rule u) marks
 
--- All that refuses a unit: marks of its items, and faults of its imports.
+-- All that refuses a unit: marks of its items, faults of its imports, and faults by late rules.
 abbrev pub IsRefused : Unit → (Item → Meaning) → Refusal → Type 0
-IsRefused u marks x = IsRefusedItem u marks x ⊎ IsRefusedImport u x
+IsRefused u marks x = IsRefusedItem u marks x ⊎ (IsRefusedImport u x ⊎ IsRefusedLate u marks x)
 
 -- The list is that of all that refuses the unit by these rules, whatever annotation is read.
 pub record HasMarks (rule : Unit → Item → Rule) (u : Unit) (list : List Refusal) : Type 0 where

@@ -25,7 +25,7 @@ fn declaration_at(u: &Subject, name: NodeRef) -> Option<Stretch>
     }
 }
 
-/// The first part of a node: the receiver of a method's declaration.
+/// The first part of a node.
 fn first_part(node: Option<&Node>) -> Option<u32> {
     match node {
         Some(node) => part_of(node, 0),
@@ -33,12 +33,46 @@ fn first_part(node: Option<&Node>) -> Option<u32> {
     }
 }
 
-/// From the receiver of a method to the end of its declaration.
-fn method_at(u: &Subject, at: NodeRef) -> Option<Stretch> {
-    match first_part(u.node_at(at)) {
-        Some(first) => Some(Stretch {
-            block: at.file as usize,
-            low: first as usize,
+/// A node of a file by its number, if there is one.
+fn node_of(file: u32, node: Option<u32>) -> Option<NodeRef> {
+    match node {
+        Some(node) => Some(NodeRef { file, node }),
+        None => None,
+    }
+}
+
+/// The list of a method's receivers.
+fn receivers(u: &Subject, at: NodeRef) -> Option<NodeRef> {
+    node_of(at.file, first_part(u.node_at(at)))
+}
+
+/// The first entry of a list.
+fn entry(u: &Subject, list: Option<NodeRef>) -> Option<NodeRef> {
+    match list {
+        Some(list) => node_of(list.file, first_part(u.node_at(list))),
+        None => None,
+    }
+}
+
+/// The receiver of a method.
+fn receiver_at(u: &Subject, at: NodeRef) -> Option<Stretch> {
+    match entry(u, receivers(u, at)) {
+        Some(entry) => Some(Stretch {
+            block: entry.file as usize,
+            low: entry.node as usize,
+            end: entry.node as usize + 1,
+        }),
+        None => None,
+    }
+}
+
+/// From behind the list of a method's receivers to the end of its declaration. That list asks for the type, which asks for the
+/// signatures and receivers of all its methods, so that it comes later.
+fn signature_at(u: &Subject, at: NodeRef) -> Option<Stretch> {
+    match receivers(u, at) {
+        Some(list) => Some(Stretch {
+            block: list.file as usize,
+            low: list.node as usize + 1,
             end: at.node as usize + 1,
         }),
         None => None,
@@ -63,7 +97,9 @@ fn add_methods(u: &Subject, name: NodeRef, out: &mut Vec<Stretch>) -> Result<(),
 {
     let methods = u.methods_of(name);
     for i in 0..methods.len() {
-        add(method_at(u, nth(methods, i)), out)?;
+        let method = nth(methods, i);
+        add(receiver_at(u, method), out)?;
+        add(signature_at(u, method), out)?;
     }
     Ok(())
 }

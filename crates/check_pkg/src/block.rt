@@ -1,5 +1,6 @@
 //! The names of the package block.
-ghost use Rattle.std.specs.Prelude.{◌≡◌, IfOk, map};
+ghost use Rattle.std.specs.Prelude.{◌≡◌, ◌≤◌, ◌^◌, IfOk, length, map};
+ghost use Rattle.package_objects.specs.Declares.{AreSmall};
 ghost use Rattle.unit_read.specs.Index.{texts_of};
 ghost use Rattle.unit_read.specs.Subjects.{unit_of, IsRead};
 ghost use Rattle.unit_read.specs.Units.{name_at};
@@ -32,7 +33,9 @@ fn spelled<'a>(alloc: Global, u: &Subject<'a>, names: &[NodeRef]) -> Result<Vec<
 
 /// The names of a package's block.
 pub fn package_block<'a>(alloc: Global, u: &Subject<'a>) -> Result<PackageBlock<'a>, NoMemory>
-    requires { IsRead u.now }
+    requires read { IsRead u.now }
+    requires small { AreSmall u.now.trees.now }
+    requires few { length u.now.trees.now ≤ 2 ^ 32 }
     ensures { IfOk result (IsBlock (unit_of u.now)) }
 {
     let names = package_names(alloc, u)?;

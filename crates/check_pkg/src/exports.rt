@@ -13,7 +13,7 @@ ghost use Rattle.unit_read.specs.Subjects.{unit_of};
 ghost use Rattle.unit_rows.specs.Redeclared.{package_names};
 ghost use Rattle.rule_words.specs.Scenes.{said, IsMarkOf};
 ghost use Rattle.check_pkg.specs.Names.{spelled_names, IsBlock};
-ghost use Rattle.check_pkg.specs.Interfaces.{is_upper, is_exported, is_constant, kind_of, worth_with, worth_by, worth_of, object_item, IsExported};
+ghost use Rattle.check_pkg.specs.Interfaces.{is_upper, is_exported, is_constant, kept_kind, kind_of, worth_with, worth_by, worth_of, object_item, IsExported};
 ghost use Rattle.check_pkg.specs.Exports.{kind_in, seen, AddsNamed, AddsExport, AreDistinct};
 ghost use Rattle.export_data.specs.Order.{names_rise};
 ghost use Rattle.export_data.specs.declared.constants.ConstOut.{ConstOut as ExportedConst};
@@ -68,26 +68,21 @@ fn text_of(name: &[u8]) -> Result<&str, NoMemory>
 fn is_constant(mode: Mode) -> bool
     ensures { result ≡ is_constant mode }
 {
-    match mode {
-        Mode::Constant => true,
-        Mode::NoValue => false,
-        Mode::TypeName => false,
-        Mode::Variable => false,
-        Mode::MapIndex => false,
-        Mode::Value => false,
-        Mode::CommaOk => false,
-        Mode::Nil => false,
-        Mode::Builtin => false,
-        Mode::Package => false,
-        Mode::Many => false,
-    }
+    matches!(mode, Mode::Constant)
+}
+
+/// The kind, if constants have it.
+fn kept_kind(kind: Kind) -> Option<Kind>
+    ensures { result ≡ kept_kind kind }
+{
+    if !kind.is_nil() { Some(kind) } else { None }
 }
 
 fn kind_of_term(term: &Term) -> Option<Kind>
     ensures { result ≡ kind_in term.now }
 {
     match term {
-        Term::Basic(kind) => Some(*kind),
+        Term::Basic(kind) => kept_kind(*kind),
         Term::Defined(_) => None,
         Term::Pointer(_) => None,
         Term::Slice(_) => None,
@@ -100,7 +95,7 @@ fn kind_of_term(term: &Term) -> Option<Kind>
     }
 }
 
-/// The kind of a basic type.
+/// The kind of a basic type that constants have.
 fn kind_of(t: &TypeTable, a: TypeId) -> Option<Kind>
     requires table { IsTable t.now }
     requires within { a.0 < count t.now }
@@ -201,7 +196,7 @@ fn copied(alloc: Global, c: &Const) -> Result<Const, NoMemory>
 fn constant_out(alloc: Global, name: &str, worth: Worth<'_>) -> Result<ConstOut, NoMemory>
     ensures { IfOk result (λ out. out ≡ record { name = name.now; kind = worth.entry.kind; value = worth.entry.value.now }) }
 {
-    let name = Text::new(String::from_str(alloc, name)?);
+    let name = Text::of(alloc, name)?;
     let value = copied(alloc, worth.value)?;
     Ok(ConstOut {
         name,

@@ -1,7 +1,6 @@
 //! The names that the imports of a file declare (Go 1.17, "Import declarations").
-ghost use Rattle.std.specs.Prelude.{◌≡◌, ◌<◌, ◌++◌, ◌==◌, ◌+◌, [], IfOk, OnOk, length, option_map, cond, drop, get_or, slice_get};
-ghost use Rattle.go_tree.specs.Head.{node_at, is_import};
-ghost use Rattle.bind.specs.Imports.{piece_specs, specs_in, last_segment, default_name, line_name, package_of};
+ghost use Rattle.std.specs.Prelude.{◌≡◌, ◌++◌, IfOk, OnOk, length, option_map, slice_get};
+ghost use Rattle.bind.specs.Imports.{default_name, line_name, package_of};
 ghost use Rattle.bind.specs.Imported.{imported};
 ghost use Rattle.bind.specs.Package.{listed};
 ghost use Rattle.unit_read.specs.Environments.{IsEnvironment};
@@ -9,8 +8,9 @@ ghost use Rattle.unit_read.specs.Index.{found};
 ghost use Rattle.check_pkg.specs.Packages.{known_of};
 ghost use Rattle.check_pkg.specs.ImportLists.{pairs};
 
+use bind::last_segment;
 use export_data::ConstInterface;
-use go_tree::{FileTree, ImportLine, LocalName, NodeKind, NodeRef};
+use go_tree::{ImportLine, LocalName, NodeRef};
 use gv_base::NoMemory;
 use std::alloc::Global;
 use std::collections::HashMap;
@@ -21,101 +21,6 @@ use unit_read::Environment;
 pub struct Declared<'a> {
     pub name: &'a [u8],
     pub at: NodeRef,
-}
-
-fn is_import(kind: NodeKind) -> bool
-    ensures { result ≡ is_import kind }
-{
-    match kind {
-        NodeKind::Import | NodeKind::ImportGroup => true,
-        _ => false,
-    }
-}
-
-fn kind_at(tree: &FileTree, at: u32) -> NodeKind
-    ensures { result ≡ (node_at tree.now at).kind }
-{
-    let nodes = tree.nodes.as_slice();
-    if (at as usize) < nodes.len() {
-        nodes[at as usize].kind
-    } else {
-        NodeKind::Name
-    }
-}
-
-fn parts_at(tree: &FileTree, at: u32) -> &[u32]
-    ensures { result.now ≡ (node_at tree.now at).parts }
-{
-    let nodes = tree.nodes.as_slice();
-    if (at as usize) < nodes.len() {
-        nodes[at as usize].parts.as_slice()
-    } else {
-        &[]
-    }
-}
-
-fn push_all(parts: &[u32], out: &mut Vec<u32>) -> Result<(), NoMemory>
-    ensures { OnOk result (out.new.items ≡ out.old.items ++ parts.now) }
-{
-    for part in parts {
-        out.push(*part)?;
-    }
-    Ok(())
-}
-
-/// Adds the specs of the imports in a piece.
-fn push_specs(tree: &FileTree, top: u32, out: &mut Vec<u32>) -> Result<(), NoMemory>
-    ensures { OnOk result (out.new.items ≡ out.old.items ++ piece_specs tree.now top) }
-{
-    if is_import(kind_at(tree, top)) {
-        push_all(parts_at(tree, top), out)?;
-    }
-    Ok(())
-}
-
-/// The specs of a file's imports, in turn.
-pub fn specs_in(alloc: Global, tree: &FileTree) -> Result<Vec<u32>, NoMemory>
-    ensures { IfOk result (λ specs. specs.items ≡ specs_in tree.now tree.now.tops) }
-{
-    let mut out = Vec::new(alloc);
-    for top in tree.tops.as_slice() {
-        push_specs(tree, *top, &mut out)?;
-    }
-    Ok(out)
-}
-
-/// What stands from a place on.
-fn behind(bytes: &[u8], place: usize) -> &[u8]
-    ensures { result.now ≡ drop place bytes.now }
-{
-    if place < bytes.len() {
-        &bytes[place..]
-    } else {
-        &bytes[..0]
-    }
-}
-
-/// What stands behind a place, where a slash stands there.
-fn next_segment<'a>(path: &'a [u8], at: usize, segment: &'a [u8]) -> &'a [u8]
-    requires { at < length path.now }
-    ensures { result.now ≡ cond (get_or path.now at 0 == 47) (drop (at + 1) path.now) segment.now }
-{
-    if path[at] == b'/' {
-        behind(path, at + 1)
-    } else {
-        segment
-    }
-}
-
-/// What stands behind the last slash.
-fn last_segment(path: &[u8]) -> &[u8]
-    ensures { result.now ≡ last_segment path.now }
-{
-    let mut segment = path;
-    for at in 0..path.len() {
-        segment = next_segment(path, at, segment);
-    }
-    segment
 }
 
 fn place_of(paths: &HashMap<&[u8], usize>, path: &[u8]) -> Option<usize>

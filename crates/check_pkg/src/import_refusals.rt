@@ -10,10 +10,11 @@ ghost use Rattle.check_pkg.specs.Imports.{IsDeclared, IsTaken};
 ghost use Rattle.check_pkg.specs.Names.{IsBlock};
 
 use crate::block::PackageBlock;
-use crate::import_names::{Declared, import_names, specs_in};
+use crate::import_names::{Declared, import_names};
 use crate::places::{place_of, text_in};
 use crate::refusal::{Fault, Refusal};
 use crate::used::{has, used_in};
+use bind::specs_in;
 use go_tree::{FileTree, NodeRef};
 use gv_base::{NoMemory, Place};
 use std::alloc::Global;

@@ -22,6 +22,7 @@ use crate::block::{PackageBlock, package_block};
 use crate::exports::exports;
 use crate::faults::refuse_items;
 use crate::import_refusals::refuse_imports;
+use crate::late_rules::refuse_late;
 use crate::order::{distinct, sort};
 use crate::read::read;
 use crate::refusal::Refusal;
@@ -39,8 +40,8 @@ use unit_read::{Environment, Subject};
 /// What has been found of a package.
 #[derive(Drop)]
 pub struct Checked {
-    /// The place and the fault of each mark and of each import that refuses the package, each once, by file, by offset
-    /// in bytes, rules before limits and then by number. It is empty exactly where the package keeps all rules.
+    /// The place and the fault of each mark, of each import and of each late rule that refuses the package, each once, by file, by
+    /// offset in bytes, rules before limits and then by number. It is empty exactly where the package keeps all rules.
     pub refused: Vec<Refusal>,
     /// The constants that the package exports, in byte order of the names. Nothing where the package is refused.
     pub exports: Vec<ConstOut>,
@@ -62,6 +63,7 @@ fn unsorted(
     block: &PackageBlock,
 ) -> Result<Vec<Refusal>, NoMemory>
     requires read { IsRead u.now }
+    requires small { AreSmall u.now.trees.now }
     requires few { length u.now.trees.now < 2 ^ 32 }
     requires state { IsState s.now }
     requires block { IsBlock (unit_of u.now) block.now }
@@ -70,6 +72,7 @@ fn unsorted(
     let mut list = Vec::new(alloc);
     refuse_items(alloc, u, s, &mut list)?;
     refuse_imports(alloc, u, block, &mut list)?;
+    refuse_late(alloc, u, s, &mut list)?;
     Ok(list)
 }
 
@@ -81,6 +84,7 @@ fn refusals(
     block: &PackageBlock,
 ) -> Result<Vec<Refusal>, NoMemory>
     requires read { IsRead u.now }
+    requires small { AreSmall u.now.trees.now }
     requires few { length u.now.trees.now < 2 ^ 32 }
     requires state { IsState s.now }
     requires block { IsBlock (unit_of u.now) block.now }
@@ -123,6 +127,7 @@ fn accepted(
 /// What is found of a package that has been read and whose items are marked.
 fn judge(alloc: Global, u: &Subject, s: &State) -> Result<Checked, NoMemory>
     requires read { IsRead u.now }
+    requires small { AreSmall u.now.trees.now }
     requires few { length u.now.trees.now < 2 ^ 32 }
     requires state { IsState s.now }
     ensures all { IfOk result (λ c. (x : OneRefusal) → Contains c.refused.items x ↔ IsRefused (unit_of u.now) (filled Quiet (so_far s.now)) x) }
@@ -145,6 +150,7 @@ fn judge_unit<R: Rules>(
     first: &[Stretch],
 ) -> Result<Outcome, NoMemory>
     requires read { IsRead u.now }
+    requires small { AreSmall u.now.trees.now }
     requires few { length u.now.trees.now < 2 ^ 32 }
     ensures { IfOk result (IsOutcome R.rule (unit_of u.now)) }
 {

@@ -1,5 +1,5 @@
-//! What refuses a package, by the marks of its items and by its imports, in order and each once; and what an accepted package exports. The
-//! marks are those of any rules.
+//! What refuses a package, by the marks of its items, by its imports and by late rules, in order and each once; and what an accepted package
+//! exports. The marks are those of any rules.
 #![tactic(auto)]
 
 mod ahead;
@@ -8,7 +8,9 @@ mod exports;
 mod faults;
 mod import_names;
 mod import_refusals;
+mod initial;
 mod judging;
+mod late_rules;
 mod order;
 mod places;
 mod read;
@@ -18,4 +20,4 @@ mod universe;
 mod used;
 
 pub use judging::{Checked, Outcome, check};
-pub use refusal::{Fault, Refusal};
+pub use refusal::{Fault, Refusal, limit_number};

@@ -1,30 +1,13 @@
 //! The order of refusals.
 ghost use Rattle.std.specs.Prelude.{◌≡◌, ◌<◌, ◌≤◌, ◌+◌, ◌-◌, ◌*◌, ◌↔◌, IfOk, OnOk, Contains, IsPermutation, length, slice_get, Some, true, false};
 ghost use Rattle.std.specs.List.Sorted.{IsNonDecreasingBy};
-ghost use Rattle.check_pkg.specs.Faults.{limit_number, fault_number, Precedes, IsOrdered};
+ghost use Rattle.check_pkg.specs.Faults.{fault_number, Precedes, IsOrdered};
 ghost use Rattle.check_pkg.specs.Order.{fault_numbered, rank_of, AddsLast};
 
-use crate::refusal::{Fault, Refusal};
+use crate::refusal::{Fault, Refusal, limit_number};
 use gv_base::NoMemory;
 use std::alloc::Global;
-use typed_tree::{Limit, Rule};
-
-fn number_of_limit(limit: Limit) -> u32
-    ensures number { result ≡ limit_number limit }
-    ensures small { result < 256 }
-{
-    match limit {
-        Limit::Float => 0,
-        Limit::Complex => 1,
-        Limit::Wide => 2,
-        Limit::LongText => 3,
-        Limit::WideType => 4,
-        Limit::Unsafe => 5,
-        Limit::Cgo => 6,
-        Limit::DotImport => 7,
-        Limit::BuildConstraint => 8,
-    }
-}
+use typed_tree::Rule;
 
 /// Rules by their numbers, and limits after all rules.
 fn number_of(fault: Fault) -> u32
@@ -34,7 +17,7 @@ fn number_of(fault: Fault) -> u32
 {
     match fault {
         Fault::Rule(Rule(number)) => number as u32,
-        Fault::Limit(limit) => 256 + number_of_limit(limit),
+        Fault::Limit(limit) => 256 + limit_number(limit) as u32,
     }
 }
 

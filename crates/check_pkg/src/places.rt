@@ -33,7 +33,7 @@ fn token_start(tree: &FileTree, token: u32) -> u32
 }
 
 /// Where a token of a file begins.
-fn start_of(u: &Subject, file: u32, token: u32) -> u32
+pub fn start_of(u: &Subject, file: u32, token: u32) -> u32
     ensures { result ≡ start_of (unit_of u.now) file token }
 {
     match u.tree_at(file) {

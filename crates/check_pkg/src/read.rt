@@ -4,7 +4,7 @@ ghost use Rattle.go_tree.specs.Bindings.{AreInOrder};
 ghost use Rattle.unit_read.specs.Environments.{IsEnvironment};
 ghost use Rattle.unit_read.specs.Index.{texts_of};
 ghost use Rattle.unit_read.specs.Subjects.{unit_of, IsRead};
-ghost use Rattle.unit_rows.specs.Rows.{AreSmall};
+ghost use Rattle.package_objects.specs.Declares.{AreSmall};
 ghost use Rattle.package_needs.specs.Worlds.{AreNeedsOf};
 ghost use Rattle.check_pkg.specs.Readings.{IsUnitOf};
 

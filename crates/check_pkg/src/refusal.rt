@@ -1,4 +1,7 @@
 //! What refuses a package.
+ghost use Rattle.std.specs.Prelude.{◌≡◌};
+ghost use Rattle.check_pkg.specs.Faults.{limit_number};
+
 use gv_base::Place;
 use typed_tree::{Limit, Rule};
 
@@ -14,4 +17,21 @@ pub enum Fault {
 pub struct Refusal {
     pub place: Place,
     pub fault: Fault,
+}
+
+/// The number of a limit, from 0.
+pub fn limit_number(limit: Limit) -> u8
+    ensures { result ≡ limit_number limit }
+{
+    match limit {
+        Limit::Float => 0,
+        Limit::Complex => 1,
+        Limit::Wide => 2,
+        Limit::LongText => 3,
+        Limit::WideType => 4,
+        Limit::Unsafe => 5,
+        Limit::Cgo => 6,
+        Limit::DotImport => 7,
+        Limit::BuildConstraint => 8,
+    }
 }

@@ -24,18 +24,11 @@ pub fn texts<'a>(alloc: Global, files: &'a [(Text, Bytes)]) -> Result<Vec<&'a [u
     Ok(list)
 }
 
-fn copied(alloc: Global, text: &Text) -> Result<Text, NoMemory>
-    ensures { IfOk result (λ copy. copy ≡ text.now) }
-{
-    let copy = String::from_str(alloc, text.as_str())?;
-    Ok(Text::new(copy))
-}
-
 fn pair_of(alloc: Global, interface: &ConstInterface) -> Result<(Text, Text), NoMemory>
     ensures { IfOk result (λ pair. pair ≡ (interface.now.path, interface.now.name)) }
 {
-    let path = copied(alloc, &interface.path)?;
-    let name = copied(alloc, &interface.name)?;
+    let path = interface.path.copy(alloc)?;
+    let name = interface.name.copy(alloc)?;
     Ok((path, name))
 }
 
