@@ -1,0 +1,6 @@
+pub mod LatestLemmas
+pub mod JumpLemmas
+pub mod BranchLemmas
+pub mod FileLemmas
+pub mod ViewLemmas
+pub mod StrayLemmas

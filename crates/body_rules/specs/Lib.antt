@@ -1,0 +1,10 @@
+pub mod Kinds
+pub mod Endings
+pub mod Latest
+pub mod Jumps
+pub mod Branches
+pub mod Jumping
+pub mod Hands
+pub mod Given
+pub mod Files
+pub mod Views

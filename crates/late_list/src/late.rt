@@ -1,0 +1,86 @@
+//! The late rules, and a view of a file that answers them.
+ghost use Rattle.std.specs.Prelude.{◌≡◌, ◌<◌, ℕ};
+ghost use Rattle.late_list.specs.Late.{rule_number, IsAnswer};
+ghost use Rattle.gv_base.specs.declared.place.Place.{Place};
+ghost use Rattle.late_list.specs.declared.late.LateRule.{LateRule};
+
+use gv_base::Place;
+
+/// A rule of bodies that is asked of each node once all names are bound.
+#[derive(Clone, Copy, Debug, PartialEq, Eq, Drop)]
+pub enum LateRule {
+    /// A label stands before it in its function.
+    RedeclaredLabel,
+    /// No use of a local variable but on the left of an assignment.
+    UnusedVariable,
+    /// The body of a function with results may end.
+    MissingReturn,
+    /// A jump to a label that its function lacks.
+    UndefinedLabel,
+    /// No jump denotes a label.
+    UnusedLabel,
+    /// A `goto` over the declaration of a variable of its label's block.
+    OverVariable,
+    /// A `goto` from outside of its label's block.
+    IntoBlock,
+    /// A `break` or `continue` with nothing to leave or to go on with.
+    MisplacedBranch,
+    /// A `fallthrough` that is no end of a clause, or of the last clause, of an expression switch.
+    MisplacedFallthrough,
+}
+
+/// All late rules.
+pub const RULES: [LateRule; 9] = [
+    LateRule::RedeclaredLabel,
+    LateRule::UnusedVariable,
+    LateRule::MissingReturn,
+    LateRule::UndefinedLabel,
+    LateRule::UnusedLabel,
+    LateRule::OverVariable,
+    LateRule::IntoBlock,
+    LateRule::MisplacedBranch,
+    LateRule::MisplacedFallthrough,
+];
+
+/// The number of the rule of the language.
+pub fn rule_number(rule: LateRule) -> u8
+    ensures { result ≡ rule_number rule }
+{
+    match rule {
+        LateRule::RedeclaredLabel => 1,
+        LateRule::UnusedVariable => 6,
+        LateRule::MissingReturn => 89,
+        LateRule::UndefinedLabel => 90,
+        LateRule::UnusedLabel => 91,
+        LateRule::OverVariable => 93,
+        LateRule::IntoBlock => 94,
+        LateRule::MisplacedBranch => 95,
+        LateRule::MisplacedFallthrough => 96,
+    }
+}
+
+/// A fault that a late rule finds.
+#[derive(Clone, Copy, Debug, PartialEq, Eq, Drop)]
+pub struct LateFault {
+    pub place: Place,
+    pub rule: LateRule,
+}
+
+/// What is known of a file: each late rule is a test of a node.
+pub trait Finds {
+    /// What is known is right.
+    ghost IsState: { Self → Type 0 };
+
+    /// How many nodes there are.
+    ghost count: { Self → ℕ };
+
+    /// The place at which a rule finds a fault of a node.
+    ghost IsFault: { Self → LateRule → ℕ → Place → Type 0 };
+
+    fn count(&self) -> usize
+        ensures { result ≡ count self.now };
+
+    fn find(&self, rule: LateRule, n: usize) -> Option<Place>
+        requires { IsState self.now }
+        ensures { IsAnswer (IsFault self.now rule n) result };
+}

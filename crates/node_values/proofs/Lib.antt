@@ -1,0 +1,10 @@
+pub mod CaseLemmas
+pub mod ParentLemmas
+pub mod HandLemmas
+pub mod InnerLemmas
+pub mod RangeLemmas
+pub mod FillLemmas
+pub mod FlagLemmas
+pub mod StandLemmas
+pub mod TreeLemmas
+pub mod TileLemmas

@@ -1,0 +1,6 @@
+use Rattle.std.proofs.Common.{take}
+use Rattle.node_values.specs.Parents.{AreGiven}
+use Rattle.node_values.proofs.parents.give.Given as goal
+
+abbrev pub invariant-loop-part : goal.invariant-loop-part
+invariant-loop-part l = AreGiven (take l.part-index l.parts) l.number l.fn.numbers.items l.numbers.items
