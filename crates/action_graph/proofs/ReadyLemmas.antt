@@ -10,6 +10,7 @@ use Rattle.action_graph.specs.declared.work.PackageLine.{PackageLine}
 use Rattle.action_graph.specs.Work.{place_of, package_of, IsAnalyzer, IsNumbered}
 use Rattle.action_graph.specs.Flags.{IsSet, IsTable, IsLoadMarked, IsRunMarked, IsMarkedAt}
 use Rattle.action_graph.specs.Ready.{IsLoadReady, IsRunReady, IsReadyAt, IsReady, AreReadyBelow, AreReady}
+use Rattle.gv_base.proofs.Lists.{push_cases}
 
 -- a place has one node
 pub one_node : (n m : ActionNode) → IsNumbered n → IsNumbered m → place_of n ≡ place_of m → n ≡ m
@@ -173,15 +174,6 @@ is_to done flags accepted packages env only n line row is size t r =
     marked_at done flags accepted (length packages) line row only n is size (slice_get_within packages (package_of n) line t.at)
     (subst (λ (l : PackageLine). IsReadyAt done accepted (length packages) l row only n) same
     (subst (λ (l : List ℕ). IsReadyAt done accepted (length packages) r.line l only n) also r.ready))
-
-push_cases : {X : Type 0} (xs : List X) (y z : X) (k : ℕ) → slice_get (xs ++ y ∷ []) k ≡ Some z → (slice_get xs k ≡ Some z) ⊎ ((k ≡ length xs) × (y ≡ z))
-push_cases [] y z zero h = inr (refl, same_Some y z h)
-push_cases [] y z (suc k) h = cc
-push_cases (x ∷ xs) y z zero h = inl h
-push_cases (x ∷ xs) y z (suc k) h = elim (push_cases xs y z k h) [
-  | inl g ↦ inl g
-  | inr e ↦ inr (ap (λ n. suc n) e.0, e.1)
-]
 
 pub below_none : (done : List ActionNode) (accepted : List Bool) (packages : List PackageLine) (env : List (List ℕ)) (only : ℕ) → AreReadyBelow done accepted packages env only 0 []
 below_none done accepted packages env only = record {

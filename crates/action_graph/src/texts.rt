@@ -9,7 +9,8 @@ use std::alloc::Global;
 fn push_text(alloc: Global, texts: &mut Vec<Bytes>, text: &[u8]) -> Result<(), NoMemory>
     ensures { OnOk result (texts.new.items ≡ texts.old.items ++ text.now ∷ []) }
 {
-    texts.push(Bytes::new(text.to_vec(alloc)?))?;
+    let copy = Bytes::of(alloc, text)?;
+    texts.push(copy)?;
     Ok(())
 }
 

@@ -1,16 +1,22 @@
 -- What comes of a load.
 use Rattle.std.proofs.Common.{◌≡◌, ℕ, zero, suc, ◌<◌, ◌≤◌, ◌^◌, true, List, [], ◌∷◌, length, map, Some, slice_get, All, refl, ap, sym, ◌∙◌, subst, arith}
+use Rattle.std.specs.List.{Contains}
 use Rattle.std.proofs.lemmas.List.{length-map}
+use Rattle.std.proofs.lemmas.List.Elements.{All-weaker, All-contains_itself}
 use Rattle.std.proofs.lemmas.Option.{same_Some, slice_get_within}
 use Rattle.go_tree.specs.declared.tree.FileTree.{FileTree}
+use Rattle.export_data.specs.declared.constants.ConstOut.{ConstOut}
 use Rattle.export_data.specs.Order.{names_rise}
+use Rattle.export_data.specs.Spelling.{has_constants}
 use Rattle.bind.specs.Answers.{AreSpelled, AreSmall}
 use Rattle.go_rules.specs.Stages.{rule}
 use Rattle.check_pkg.specs.declared.judging.Checked.{Checked}
 use Rattle.check_pkg.specs.declared.judging.Outcome.TheVariants as outcome
 use Rattle.check_pkg.specs.declared.refusal.Refusal.{Refusal}
 use Rattle.check_pkg.specs.Checks.{IsOutcomeOf as Comes}
+use Rattle.check_pkg.specs.Interfaces.{object_item}
 use Rattle.check_pkg.specs.Packages.{Package, package_of}
+use Rattle.check_pkg.proofs.ExportLemmas.{worth_kept}
 use Rattle.action_graph.specs.declared.kit.LoadInput.{LoadInput}
 use Rattle.action_graph.specs.Nodes.{Named}
 use Rattle.action_graph.specs.Judging.{Env, Judges, AreParsed, IsPackageOf, AreInterfaces, IsReadable, IsOutcome, IsStuckOver, IsStuck, Tells, interface_of, line_of, text_of}
@@ -130,3 +136,11 @@ found-told p env c text comes accepted refused = by c.refused.items refl where
 -- the names that an outcome exports rise
 pub names-rise : (p : Package) (env : Env) (c : Checked) → Comes rule p env (outcome.Checked c) → c.refused.items ≡ [] → names_rise c.exports.items ≡ true
 names-rise p env c comes none = (comes.comes.exports none).rise
+
+-- no constant that an outcome exports is of the type of nil
+pub exports-kinds : (p : Package) (env : Env) (c : Checked) → Comes rule p env (outcome.Checked c) → c.refused.items ≡ [] → All (λ out. has_constants out.kind ≡ true) c.exports.items
+exports-kinds p env c comes none =
+    let marks = comes.comes.marks in
+    All-weaker (Contains c.exports.items) (λ (out : ConstOut). has_constants out.kind ≡ true)
+    (λ out has. let e = (((comes.comes.exports none).each marks.marks marks.annotated out).0 has).1 in worth_kept (marks.marks (object_item e.name)) (out.kind, out.value) e.worth)
+    c.exports.items (All-contains_itself c.exports.items)

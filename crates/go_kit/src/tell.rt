@@ -1,40 +1,23 @@
 //! What a load answers of a package.
-ghost use Rattle.std.specs.Prelude.{◌≡◌, ◌<◌, ◌^◌, true, false, [], map, length, slice_index_or, Err, IfOk, IsTrue};
+ghost use Rattle.std.specs.Prelude.{◌≡◌, ◌<◌, ◌^◌, All, true, false, [], map, length, slice_index_or, Err, IfOk, IsTrue};
 ghost use Rattle.export_data.specs.Order.{names_rise};
+ghost use Rattle.export_data.specs.Spelling.{has_constants};
 ghost use Rattle.bind.specs.Answers.{AreSpelled, AreSmall};
 ghost use Rattle.go_rules.specs.Stages.{rule};
 ghost use Rattle.check_pkg.specs.declared.judging.Outcome.TheVariants as outcome;
 ghost use Rattle.check_pkg.specs.Checks.{IsOutcomeOf as Comes};
-ghost use Rattle.check_pkg.specs.Faults.{limit_number};
 ghost use Rattle.check_pkg.specs.Packages.{package_of, package_name, text_of};
 ghost use Rattle.action_graph.specs.Judging.{Tells, fault_line, interface_of, line_of, load_text};
 ghost use Rattle.action_graph.specs.Judging.Judged.{Accepts, Refuses};
 ghost use Rattle.go_kit.specs.Reading.{TellsOf};
 
 use action_graph::{Load, MarkLine, Unloaded, write_marks};
-use check_pkg::{Checked, Fault, Outcome, Refusal, check};
+use check_pkg::{Checked, Fault, Outcome, Refusal, check, limit_number};
 use export_data::{ConstInterface, ConstOut, export_consts};
 use go_rules::GoRules;
 use go_tree::{FileTree, token_text};
 use gv_base::{Bytes, NoMemory, Place, Text};
 use std::alloc::Global;
-use typed_tree::Limit;
-
-fn limit_number(limit: Limit) -> u8
-    ensures { result ≡ limit_number limit }
-{
-    match limit {
-        Limit::Float => 0,
-        Limit::Complex => 1,
-        Limit::Wide => 2,
-        Limit::LongText => 3,
-        Limit::WideType => 4,
-        Limit::Unsafe => 5,
-        Limit::Cgo => 6,
-        Limit::DotImport => 7,
-        Limit::BuildConstraint => 8,
-    }
-}
 
 /// The line of a fault at a place.
 fn fault_line(at: Place, fault: Fault) -> MarkLine
@@ -105,7 +88,8 @@ fn package_name<'a>(files: &'a [(Text, Bytes)], trees: &[FileTree]) -> &'a [u8]
 /// The answer that accepts a package, with what it exports. A file that parses is UTF-8, and its name is a token
 /// of it, and so a text; a name that is none would be answered as want of memory.
 fn accept(alloc: Global, path: &str, name: &[u8], list: &[ConstOut]) -> Result<Load<()>, NoMemory>
-    requires { IsTrue (names_rise list.now) }
+    requires rise { IsTrue (names_rise list.now) }
+    requires kinds { All (λ out. has_constants out.kind ≡ true) list.now }
     ensures { IfOk result (λ load. Tells (Accepts (record { path = path.now; name = name.now; list = list.now })) (load_text load)) }
 {
     let Ok(name) = std::str::from_utf8(name) else {
@@ -137,6 +121,7 @@ fn told(
     checked: &Checked,
 ) -> Result<Load<()>, NoMemory>
     requires rise { checked.now.refused.items ≡ [] → IsTrue (names_rise checked.now.exports.items) }
+    requires kinds { checked.now.refused.items ≡ [] → All (λ out. has_constants out.kind ≡ true) checked.now.exports.items }
     ensures accepted { IfOk result (λ load. checked.now.refused.items ≡ [] → Tells (Accepts (interface_of (package_of path.now files.now trees.now) checked.now)) (load_text load)) }
     ensures refused { IfOk result (λ load. (checked.now.refused.items ≡ [] → ⊥) → Tells (Refuses (map line_of checked.now.refused.items)) (load_text load)) }
 {

@@ -4,8 +4,8 @@ use Rattle.go_tree.specs.declared.tree.Node.{Node}
 use Rattle.go_tree.specs.declared.tree.NodeKind.{NodeKind}
 use Rattle.go_tree.specs.declared.tree.NodeKind.TheVariants as k
 use Rattle.go_tree.specs.declared.tree.NodeRef.{NodeRef}
-use Rattle.mark_walk.specs.Asks.{done, bind}
-use Rattle.typed_marks.specs.Meanings.{Meaning, Free, Quiet, Wishes}
+use Rattle.mark_walk.specs.Asks.{done}
+use Rattle.typed_marks.specs.Meanings.{Free, Quiet, Wishes}
 use Rattle.typed_tree.specs.declared.place.Want.TheVariants as demand
 use Rattle.unit_read.specs.declared.place.Place.{Place}
 use Rattle.unit_read.specs.Units.{Unit}
@@ -17,6 +17,17 @@ use Rattle.rule_words.specs.Words.{Wanted}
 use Rattle.op_rules.specs.Forms.{op_reads}
 use Rattle.op_rules.specs.Rules.{op_rule}
 use Rattle.op_rules.specs.Wants.{op_wants}
+use Rattle.primary_rules.specs.Forms.{primary_reads}
+use Rattle.primary_rules.specs.Rules.{primary_rule}
+use Rattle.primary_rules.specs.Wants.{primary_wants}
+use Rattle.call_rules.specs.Rules.{call_reads, call_rule}
+use Rattle.call_rules.specs.Wants.{call_wants}
+use Rattle.literal_rules.specs.Forms.{literal_reads}
+use Rattle.literal_rules.specs.Rules.{literal_rule}
+use Rattle.literal_rules.specs.Wants.{literal_wants}
+use Rattle.variable_rules.specs.Forms.{variable_reads}
+use Rattle.variable_rules.specs.Rules.{variable_rule}
+use Rattle.variable_rules.specs.Wants.{variable_wants}
 use Rattle.decl_rules.specs.Rules.{decl_reads, decl_rule}
 use Rattle.decl_rules.specs.Wants.{decl_wants}
 use Rattle.go_rules.specs.Clause.{clause_rule}
@@ -31,11 +42,25 @@ family k.Text = f.Operand
 family k.Float = f.Operand
 family k.Imag = f.Operand
 family k.Name = f.Operand
-family k.Selector = f.Operand
 family k.Paren = f.Operand
-family k.Unary = f.Operand
 family k.Binary = f.Operand
-family k.Star = f.Type
+family k.Selector = f.Primary
+family k.Index = f.Primary
+family k.SliceAll = f.Primary
+family k.SliceLow = f.Primary
+family k.SliceLowHigh = f.Primary
+family k.SliceLowHighMax = f.Primary
+family k.SliceHigh = f.Primary
+family k.SliceHighMax = f.Primary
+family k.Assert = f.Primary
+family k.Star = f.Primary
+family k.Unary = f.Primary
+family k.Call = f.Call
+family k.CallSpread = f.Call
+family k.Composite = f.Literal
+family k.Value = f.Literal
+family k.KeyValue = f.Literal
+family k.DotsType = f.Literal
 family k.SliceType = f.Type
 family k.ArrayType = f.Type
 family k.MapType = f.Type
@@ -45,6 +70,8 @@ family k.RecvChan = f.Type
 family k.FuncType = f.Type
 family k.StructType = f.Type
 family k.InterfaceType = f.Type
+family k.VarValues = f.Variable
+family k.VarTypedValues = f.Variable
 family k.FuncDecl = f.Declaration
 family k.MethodDecl = f.Declaration
 family k.Method = f.Declaration
@@ -58,8 +85,6 @@ family k.EmbeddedPointer = f.Declaration
 family k.ConstNames = f.Declaration
 family k.ConstValues = f.Declaration
 family k.ConstTyped = f.Declaration
-family k.VarValues = f.Declaration
-family k.VarTypedValues = f.Declaration
 family k.VarTyped = f.Declaration
 family k.Defined = f.Declaration
 family k.Alias = f.Declaration
@@ -80,15 +105,35 @@ family _ = f.Other
 -- what is said of the nodes of the family counts for their parts
 abbrev pub is_told : Family → Bool
 is_told f.Operand = true
+is_told f.Primary = true
+is_told f.Call = true
+is_told f.Literal = true
 is_told f.Type = true
+is_told f.Variable = true
 is_told f.Declaration = true
 is_told f.Clause = true
 is_told f.Other = false
 
+-- its nodes are expressions or types: they are judged by themselves, too, before anything is wanted of them
+abbrev pub is_expression : Family → Bool
+is_expression f.Operand = true
+is_expression f.Primary = true
+is_expression f.Call = true
+is_expression f.Literal = true
+is_expression f.Type = true
+is_expression f.Variable = false
+is_expression f.Declaration = false
+is_expression f.Clause = false
+is_expression f.Other = false
+
 -- how the parts in a slot are read
 abbrev pub reads_by : Family → NodeKind → ℕ → Option How
 reads_by f.Operand kind slot = op_reads kind slot
+reads_by f.Primary kind slot = primary_reads kind slot
+reads_by f.Call kind slot = call_reads kind slot
+reads_by f.Literal kind slot = literal_reads kind slot
 reads_by f.Type kind slot = decl_reads kind slot
+reads_by f.Variable kind slot = variable_reads kind slot
 reads_by f.Declaration kind slot = decl_reads kind slot
 reads_by f.Clause _ slot = None
 reads_by f.Other _ slot = None
@@ -100,7 +145,11 @@ node_reads nodes node = reads (reads_by (family node.kind) node.kind) nodes node
 -- the rule of a node, from its parts as they were read and from what its place wants
 abbrev pub rule_by : Family → Unit → ℕ → NodeRef → Node → List Part → Wanted → Rule
 rule_by f.Operand u block at node ps w = op_rule u block at node ps w
+rule_by f.Primary u block at node ps w = primary_rule u block at node ps w
+rule_by f.Call u block at node ps w = call_rule u block at node ps w
+rule_by f.Literal u block at node ps w = literal_rule u block at node ps w
 rule_by f.Type u block at node ps w = decl_rule u block at node ps w
+rule_by f.Variable u block at node ps w = variable_rule u block at node ps w
 rule_by f.Declaration u block at node ps w = decl_rule u block at node ps w
 rule_by f.Clause u block at node ps w = clause_rule u at.file
 rule_by f.Other u block at node ps w = done Quiet
@@ -108,7 +157,11 @@ rule_by f.Other u block at node ps w = done Quiet
 -- what the node around wants of what stands at a place in it
 abbrev pub wants_by : Family → Unit → ℕ → Place → Node → Rule
 wants_by f.Operand u block p around = op_wants u block p around
+wants_by f.Primary u block p around = primary_wants u block p around
+wants_by f.Call u block p around = call_wants u block p around
+wants_by f.Literal u block p around = literal_wants u block p around
 wants_by f.Type u block p around = decl_wants u block p around
+wants_by f.Variable u block p around = variable_wants u block p around
 wants_by f.Declaration u block p around = decl_wants u block p around
 wants_by f.Clause u block p around = done (Wishes demand.Nothing Free)
 wants_by f.Other u block p around = done (Wishes demand.Nothing Free)

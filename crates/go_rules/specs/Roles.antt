@@ -1,6 +1,7 @@
--- What a node is where it stands: a name that is declared is no use, and an interface embeds what stands in it, but for the methods that are
--- written (Go 1.17, "Declarations and scope", "Interface types").
-use Rattle.std.specs.Prelude.{ℕ, Bool, true, false, if◌then◌else◌, Option}
+-- What a node is where it stands, and what its place makes of it: a name that is declared is no use, one before a colon may be that of a field, an
+-- interface embeds what stands in it, but for the methods that are written, and one value may stand for several names (Go 1.17, "Declarations and
+-- scope", "Composite literals", "Interface types", "Calls", "Variable declarations").
+use Rattle.std.specs.Prelude.{ℕ, ◌==◌, Bool, true, false, if◌then◌else◌, Option}
 use Rattle.std.specs.Option.{option_map_or}
 use Rattle.go_tree.specs.declared.tree.Node.{Node}
 use Rattle.go_tree.specs.declared.tree.NodeKind.{NodeKind}
@@ -10,6 +11,8 @@ use Rattle.object_order.specs.Spots.{place}
 use Rattle.unit_read.specs.declared.place.Place.{Place}
 use Rattle.unit_read.specs.Units.{Unit, node_at, place_at}
 use Rattle.decl_rules.specs.Wants.{declares_names}
+use Rattle.go_rules.specs.declared.role.Placing.{Placing}
+use Rattle.go_rules.specs.declared.role.Placing.TheVariants as pl
 use Rattle.go_rules.specs.declared.role.Role.{Role}
 use Rattle.go_rules.specs.declared.role.Role.TheVariants as r
 use Rattle.go_rules.specs.Families.{family, is_told}
@@ -18,32 +21,26 @@ abbrev pub is_name : NodeKind → Bool
 is_name k.Name = true
 is_name _ = false
 
-abbrev pub is_interface_type : NodeKind → Bool
-is_interface_type k.InterfaceType = true
-is_interface_type _ = false
+-- ---- what a name is, by the kind of what is around
 
-abbrev pub is_method : NodeKind → Bool
-is_method k.Method = true
-is_method _ = false
+-- the name stands before a colon
+abbrev pub is_key : NodeKind → ℕ → Bool
+is_key k.KeyValue slot = slot == 0
+is_key _ slot = false
 
--- ---- by the kind of what is around
+-- In a node of which nothing is told a name may also be a label or one that is declared.
+abbrev pub used_role : NodeKind → Role
+used_role around = if is_told (family around) then r.Part else r.Untold
 
-abbrev pub element_role : NodeKind → Role
-element_role kind = if is_method kind then r.Part else r.Embedded
+abbrev pub key_or_use : NodeKind → ℕ → Role
+key_or_use around slot = if is_key around slot then r.Key else used_role around
 
-abbrev pub node_role : NodeKind → NodeKind → Role
-node_role around kind = if is_interface_type around then element_role kind else r.Part
-
--- In a node of which nothing is told a name may also be a label, a key or one that is declared.
-abbrev pub used_role : NodeKind → NodeKind → Role
-used_role around kind = if is_told (family around) then node_role around kind else r.Untold
-
-abbrev pub name_role : NodeKind → ℕ → NodeKind → Role
-name_role around slot kind = if declares_names around slot then r.Declared else used_role around kind
+abbrev pub name_role : NodeKind → ℕ → Role
+name_role around slot = if declares_names around slot then r.Declared else key_or_use around slot
 
 -- what a node of a kind is in a slot of a node
 abbrev pub role_of : NodeKind → ℕ → NodeKind → Role
-role_of around slot kind = if is_name kind then name_role around slot kind else node_role around kind
+role_of around slot kind = if is_name kind then name_role around slot else r.Part
 
 -- ---- in a package
 
@@ -56,3 +53,19 @@ role_beside u at node p = option_map_or (role_in node p) (node_at u (place at.fi
 -- What a node is where it stands.
 abbrev pub role_at : Unit → NodeRef → Node → Role
 role_at u at node = option_map_or (role_beside u at node) (place_at u at) r.Part
+
+-- ---- what a place makes of it
+
+abbrev pub is_method : NodeKind → Bool
+is_method k.Method = true
+is_method _ = false
+
+abbrev pub element_placing : NodeKind → Placing
+element_placing kind = if is_method kind then pl.Plain else pl.Embedded
+
+-- in a node of this kind, of a node of that
+abbrev pub placing_of : NodeKind → NodeKind → Placing
+placing_of k.InterfaceType kind = element_placing kind
+placing_of k.Call _ = pl.Argument
+placing_of k.VarTypedValues _ = pl.Shared
+placing_of _ _ = pl.Plain

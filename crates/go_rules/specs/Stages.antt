@@ -18,19 +18,24 @@ use Rattle.unit_read.specs.declared.place.Place.{Place}
 use Rattle.unit_read.specs.Units.{Unit, nodes_at, node_at, place_at, passage_at}
 use Rattle.rule_words.specs.Asking.{Asks, Rule, mark_ask, parts_ask}
 use Rattle.rule_words.specs.Parts.{Part}
-use Rattle.rule_words.specs.Words.{Wanted, wanted_in}
+use Rattle.rule_words.specs.Words.{Wanted, wanted_in, nothing}
 use Rattle.op_rules.specs.Placed.{placed_rule}
+use Rattle.call_rules.specs.Passing.{is_passed, passed_rule}
+use Rattle.literal_rules.specs.Keys.{key_role}
+use Rattle.literal_rules.specs.declared.keys.KeyRole.{KeyRole}
+use Rattle.literal_rules.specs.declared.keys.KeyRole.TheVariants as key
+use Rattle.variable_rules.specs.Sharing.{is_shared, shared_placed}
 use Rattle.type_rules.specs.Joining.{element_rule}
 use Rattle.decl_rules.specs.Objects.{object_rule}
 use Rattle.decl_rules.specs.Specifications.{declared_name_rule}
 use Rattle.decl_rules.specs.Under.{under_rule}
-use Rattle.go_rules.specs.declared.family.Family.{Family}
-use Rattle.go_rules.specs.declared.family.Family.TheVariants as f
+use Rattle.go_rules.specs.declared.role.Placing.{Placing}
+use Rattle.go_rules.specs.declared.role.Placing.TheVariants as pl
 use Rattle.go_rules.specs.declared.role.Role.{Role}
 use Rattle.go_rules.specs.declared.role.Role.TheVariants as r
-use Rattle.go_rules.specs.Families.{family, node_reads, rule_by, wants_by}
+use Rattle.go_rules.specs.Families.{family, is_expression, node_reads, rule_by, wants_by}
 use Rattle.go_rules.specs.Own.{is_own_type}
-use Rattle.go_rules.specs.Roles.{role_at}
+use Rattle.go_rules.specs.Roles.{role_at, placing_of}
 
 -- ---- a node by its parts, and by what is wanted of it
 
@@ -50,25 +55,18 @@ abbrev pub nothing_wanted : Wanted
 nothing_wanted = record { demand = demand.Nothing; wish = Free }
 
 -- an expression or a type, over its parts by themselves
-abbrev pub before_by : Family → Unit → ℕ → NodeRef → Node → Rule
-before_by f.Operand u block at node = with_parts u s.Before block at node nothing_wanted
-before_by f.Type u block at node = with_parts u s.Before block at node nothing_wanted
-before_by f.Declaration u block at node = done Quiet
-before_by f.Clause u block at node = done Quiet
-before_by f.Other u block at node = done Quiet
-
 abbrev pub before_in : Unit → ℕ → NodeRef → Node → Rule
-before_in u block at node = before_by (family node.kind) u block at node
+before_in u block at node = if is_expression (family node.kind) then with_parts u s.Before block at node nothing_wanted else done Quiet
 
 abbrev pub before_as : Role → Unit → ℕ → NodeRef → Node → Rule
 before_as r.Part u block at node = before_in u block at node
-before_as r.Embedded u block at node = before_in u block at node
+before_as r.Key u block at node = done Quiet
 before_as r.Declared u block at node = done Quiet
 before_as r.Untold u block at node = done Quiet
 
--- ---- with what is wanted of it
+-- ---- with what its place wants
 
--- over its parts in their places
+-- E10 of a name that leads back to itself
 abbrev pub judged_wanting : Unit → ℕ → NodeRef → Node → Wanted → Rule
 judged_wanting u block at node w = if is_own_type u at node w then done (Wrong NOT_A_TYPE) else with_parts u s.Placed block at node w
 
@@ -78,10 +76,19 @@ judged_with u block at node m = judged_wanting u block at node (wanted_in m)
 abbrev pub judged_in : Unit → ℕ → NodeRef → Node → Rule
 judged_in u block at node = bind (mark_ask u s.Wanted block at.node) (judged_with u block at node)
 
--- E14 of a name that is declared
+-- The name of a field is no expression; where the type of the literal isn't known, nothing is said of a name before a colon.
+abbrev pub judged_key : Unit → ℕ → NodeRef → Node → KeyRole → Rule
+judged_key u block at node key.Field = done nothing
+judged_key u block at node key.Use = judged_in u block at node
+judged_key u block at node key.Unknown = done Quiet
+
+abbrev pub key_judged : Unit → ℕ → NodeRef → Node → Rule
+key_judged u block at node = bind (key_role u block at) (judged_key u block at node)
+
+-- E14 of a name that is declared. Nothing reads the mark of such a name, so a rule of it is late.
 abbrev pub judged_as : Role → Unit → ℕ → NodeRef → Node → Rule
 judged_as r.Part u block at node = judged_in u block at node
-judged_as r.Embedded u block at node = judged_in u block at node
+judged_as r.Key u block at node = key_judged u block at node
 judged_as r.Declared u block at node = declared_name_rule u at
 judged_as r.Untold u block at node = done Quiet
 
@@ -90,33 +97,42 @@ judged_as r.Untold u block at node = done Quiet
 abbrev pub placed_with : Unit → Meaning → Meaning → Rule
 placed_with u j m = placed_rule u (wanted_in m) j
 
-abbrev pub placed_after : Unit → ℕ → NodeRef → Meaning → Rule
-placed_after u block at j = bind (mark_ask u s.Wanted block at.node) (placed_with u j)
-
-abbrev pub placed_in : Unit → ℕ → NodeRef → Rule
-placed_in u block at = bind (mark_ask u s.Judged block at.node) (placed_after u block at)
+-- what is wanted there is tested
+abbrev pub placed_plain : Unit → ℕ → NodeRef → Meaning → Rule
+placed_plain u block at j = bind (mark_ask u s.Wanted block at.node) (placed_with u j)
 
 -- An interface embeds types, E10; of these interfaces alone, E15, whose methods agree with those of its other elements, E14.
 abbrev pub type_wanted : Wanted
 type_wanted = record { demand = demand.Type; wish = Free }
 
-abbrev pub embedded_after : Unit → ℕ → NodeRef → Place → Node → Meaning → Rule
-embedded_after u block at p around j = bind (placed_rule u type_wanted j) (element_rule u block at.file around p.slot)
+abbrev pub placed_embedded : Unit → ℕ → NodeRef → Place → Node → Meaning → Rule
+placed_embedded u block at p around j = bind (placed_rule u type_wanted j) (element_rule u block at.file around p.slot)
 
-abbrev pub embedded_in : Unit → ℕ → NodeRef → Place → Node → Rule
-embedded_in u block at p around = bind (mark_ask u s.Judged block at.node) (embedded_after u block at p around)
+-- E24, E25, E32: the results of a call may be the arguments of another
+abbrev pub placed_argument : Unit → ℕ → NodeRef → Place → Node → Meaning → Rule
+placed_argument u block at p around j = if is_passed around p.slot j then passed_rule u block around j else placed_plain u block at j
 
-abbrev pub embedded_by : Unit → ℕ → NodeRef → Place → Rule
-embedded_by u block at p = option_map_or (embedded_in u block at p) (node_at u (place at.file p.around)) (done Quiet)
+-- E32: one value may stand for several variables of a type that is written
+abbrev pub placed_shared : Unit → ℕ → NodeRef → Place → Node → Meaning → Rule
+placed_shared u block at p around j = if is_shared u block p around then shared_placed u block (nodes_at u at.file) around j else placed_plain u block at j
 
-abbrev pub embedded_at : Unit → ℕ → NodeRef → Rule
-embedded_at u block at = option_map_or (embedded_by u block at) (place_at u at) (done Quiet)
+abbrev pub placed_as : Placing → Unit → ℕ → NodeRef → Place → Node → Meaning → Rule
+placed_as pl.Plain u block at p around j = placed_plain u block at j
+placed_as pl.Embedded u block at p around j = placed_embedded u block at p around j
+placed_as pl.Argument u block at p around j = placed_argument u block at p around j
+placed_as pl.Shared u block at p around j = placed_shared u block at p around j
 
-abbrev pub placed_as : Role → Unit → ℕ → NodeRef → Rule
-placed_as r.Part u block at = placed_in u block at
-placed_as r.Embedded u block at = embedded_at u block at
-placed_as r.Declared u block at = placed_in u block at
-placed_as r.Untold u block at = placed_in u block at
+abbrev pub placed_beside : Unit → ℕ → NodeRef → Node → Meaning → Place → Node → Rule
+placed_beside u block at node j p around = placed_as (placing_of around.kind node.kind) u block at p around j
+
+abbrev pub placed_at : Unit → ℕ → NodeRef → Node → Meaning → Place → Rule
+placed_at u block at node j p = option_map_or (placed_beside u block at node j p) (node_at u (place at.file p.around)) (placed_plain u block at j)
+
+abbrev pub placed_after : Unit → ℕ → NodeRef → Node → Meaning → Rule
+placed_after u block at node j = option_map_or (placed_at u block at node j) (place_at u at) (placed_plain u block at j)
+
+abbrev pub placed_in : Unit → ℕ → NodeRef → Node → Rule
+placed_in u block at node = bind (mark_ask u s.Judged block at.node) (placed_after u block at node)
 
 -- ---- what its place wants
 
@@ -158,7 +174,7 @@ object_of_part u at = option_map_or (object_in_place u at) (place_at u at) (done
 -- of a name that is declared the object; of another node what is tested late
 abbrev pub object_as : Role → Unit → NodeRef → Rule
 object_as r.Part u at = object_of_part u at
-object_as r.Embedded u at = done Quiet
+object_as r.Key u at = done Quiet
 object_as r.Declared u at = object_rule u at
 object_as r.Untold u at = done Quiet
 
@@ -172,7 +188,7 @@ abbrev pub stage_rule : Stage → Unit → ℕ → NodeRef → Node → Rule
 stage_rule s.Before u block at node = before_as (role_at u at node) u block at node
 stage_rule s.Wanted u block at node = wanted_rule u block at
 stage_rule s.Judged u block at node = judged_as (role_at u at node) u block at node
-stage_rule s.Placed u block at node = placed_as (role_at u at node) u block at
+stage_rule s.Placed u block at node = placed_in u block at node
 stage_rule s.Object u block at node = in_own block at (object_as (role_at u at node) u at)
 stage_rule s.Under u block at node = in_own block at (under_rule u at)
 

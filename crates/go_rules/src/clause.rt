@@ -69,7 +69,7 @@ fn basic_type(s: &State, kind: Kind) -> TypeId
 }
 
 /// What has no value.
-fn nothing(s: &State) -> Step
+pub fn nothing(s: &State) -> Step
     requires { HasBasics s.now.table }
     ensures is { step_in s.now result ≡ Says nothing }
     ensures over { IsStepOf s.now result }

@@ -1,20 +1,32 @@
 //! Families of rules.
 ghost use Rattle.std.specs.Prelude.{◌≡◌};
-ghost use Rattle.go_rules.specs.Families.{family, is_told, reads_by};
+ghost use Rattle.go_rules.specs.Families.{family, is_told, is_expression, reads_by};
 
+use call_rules::call_reads;
 use decl_rules::decl_reads;
 use go_tree::NodeKind;
+use literal_rules::literal_reads;
 use op_rules::op_reads;
+use primary_rules::primary_reads;
 use rule_words::How;
+use variable_rules::variable_reads;
 
 /// What judges a node.
 #[derive(Clone, Copy, Debug, PartialEq, Eq, Drop)]
 pub enum Family {
-    /// The rules of operands and operators.
+    /// Operands and operators.
     Operand,
-    /// Those of declarations, for what may stand in an expression: a type.
+    /// Selectors, indexes, slices, assertions, `*`, `&` and `<-`.
+    Primary,
+    /// Calls and conversions.
+    Call,
+    /// Composite literals.
+    Literal,
+    /// The rules of declarations, for what may stand in an expression: a type.
     Type,
-    /// Those of declarations.
+    /// Variables with values.
+    Variable,
+    /// The other declarations.
     Declaration,
     /// The package clause.
     Clause,
@@ -33,11 +45,25 @@ pub fn family_of(kind: NodeKind) -> Family
         NodeKind::Float => Family::Operand,
         NodeKind::Imag => Family::Operand,
         NodeKind::Name => Family::Operand,
-        NodeKind::Selector => Family::Operand,
         NodeKind::Paren => Family::Operand,
-        NodeKind::Unary => Family::Operand,
         NodeKind::Binary => Family::Operand,
-        NodeKind::Star => Family::Type,
+        NodeKind::Selector => Family::Primary,
+        NodeKind::Index => Family::Primary,
+        NodeKind::SliceAll => Family::Primary,
+        NodeKind::SliceLow => Family::Primary,
+        NodeKind::SliceLowHigh => Family::Primary,
+        NodeKind::SliceLowHighMax => Family::Primary,
+        NodeKind::SliceHigh => Family::Primary,
+        NodeKind::SliceHighMax => Family::Primary,
+        NodeKind::Assert => Family::Primary,
+        NodeKind::Star => Family::Primary,
+        NodeKind::Unary => Family::Primary,
+        NodeKind::Call => Family::Call,
+        NodeKind::CallSpread => Family::Call,
+        NodeKind::Composite => Family::Literal,
+        NodeKind::Value => Family::Literal,
+        NodeKind::KeyValue => Family::Literal,
+        NodeKind::DotsType => Family::Literal,
         NodeKind::SliceType => Family::Type,
         NodeKind::ArrayType => Family::Type,
         NodeKind::MapType => Family::Type,
@@ -47,6 +73,8 @@ pub fn family_of(kind: NodeKind) -> Family
         NodeKind::FuncType => Family::Type,
         NodeKind::StructType => Family::Type,
         NodeKind::InterfaceType => Family::Type,
+        NodeKind::VarValues => Family::Variable,
+        NodeKind::VarTypedValues => Family::Variable,
         NodeKind::FuncDecl => Family::Declaration,
         NodeKind::MethodDecl => Family::Declaration,
         NodeKind::Method => Family::Declaration,
@@ -60,8 +88,6 @@ pub fn family_of(kind: NodeKind) -> Family
         NodeKind::ConstNames => Family::Declaration,
         NodeKind::ConstValues => Family::Declaration,
         NodeKind::ConstTyped => Family::Declaration,
-        NodeKind::VarValues => Family::Declaration,
-        NodeKind::VarTypedValues => Family::Declaration,
         NodeKind::VarTyped => Family::Declaration,
         NodeKind::Defined => Family::Declaration,
         NodeKind::Alias => Family::Declaration,
@@ -87,9 +113,30 @@ pub fn is_told(family: Family) -> bool
 {
     match family {
         Family::Operand => true,
+        Family::Primary => true,
+        Family::Call => true,
+        Family::Literal => true,
         Family::Type => true,
+        Family::Variable => true,
         Family::Declaration => true,
         Family::Clause => true,
+        Family::Other => false,
+    }
+}
+
+/// Whether the nodes of a family are expressions or types.
+pub fn is_expression(family: Family) -> bool
+    ensures { result ≡ is_expression family }
+{
+    match family {
+        Family::Operand => true,
+        Family::Primary => true,
+        Family::Call => true,
+        Family::Literal => true,
+        Family::Type => true,
+        Family::Variable => false,
+        Family::Declaration => false,
+        Family::Clause => false,
         Family::Other => false,
     }
 }
@@ -100,7 +147,11 @@ pub fn reads_by(family: Family, kind: NodeKind, slot: usize) -> Option<How>
 {
     match family {
         Family::Operand => op_reads(kind, slot),
+        Family::Primary => primary_reads(kind, slot),
+        Family::Call => call_reads(kind, slot),
+        Family::Literal => literal_reads(kind, slot),
         Family::Type => decl_reads(kind, slot),
+        Family::Variable => variable_reads(kind, slot),
         Family::Declaration => decl_reads(kind, slot),
         Family::Clause => None,
         Family::Other => None,

@@ -1,31 +1,27 @@
 //! The rule of each item.
 ghost use Rattle.std.specs.Prelude.{◌≡◌, false, IfOk};
-ghost use Rattle.mark_walk.specs.Telling.{tell};
-ghost use Rattle.typed_marks.specs.States.{so_far};
 ghost use Rattle.unit_read.specs.Subjects.{unit_of};
 ghost use Rattle.rule_words.specs.Scenes.{IsScene};
-ghost use Rattle.rule_words.specs.Steps.{step_in, IsStepOf};
+ghost use Rattle.rule_words.specs.Steps.{IsStepOf};
+ghost use Rattle.type_answers.specs.Coming.{ComesTo};
 ghost use Rattle.elaborate.specs.Walks.{is_declaring};
 ghost use Rattle.go_rules.specs.Stages.{stage_rule, node_rule, at_node, number, nth_rule, in_file, file_rule, rule};
 
+use crate::judged::{before, judged};
 use crate::number::number;
 use crate::objects::object;
 use crate::placed::placed;
 use crate::role::role_at;
-use crate::stages::{before, judged, wanted};
+use crate::wants::wanted;
 use go_tree::{Node, NodeRef};
 use gv_base::NoMemory;
-use rule_words::{Answer, Step};
+use rule_words::Step;
+use rule_words::good::silent;
 use std::alloc::Global;
-use typed_marks::{Item, Mark, Stage, State};
+use typed_marks::{Item, Stage, State};
 use unit_read::Subject;
 
-fn silent() -> Step
-    ensures { result ≡ Step.Says (Answer.Mark Mark.Silent) }
-{
-    Step::Says(Answer::Mark(Mark::Silent))
-}
-
+#[tactic(auto, using(type_answers::proofs::ComingLaws::same_comes))]
 fn judge_stage(
     alloc: Global,
     u: &Subject,
@@ -37,7 +33,7 @@ fn judge_stage(
 ) -> Result<Step, NoMemory>
     requires scene { IsScene u.now s.now }
     requires stage { is_declaring stage ≡ false }
-    ensures is { IfOk result (λ step. step_in s.now step ≡ tell (so_far s.now) (stage_rule stage (unit_of u.now) block at node.now)) }
+    ensures comes { IfOk result (ComesTo u.now s.now (stage_rule stage (unit_of u.now) block at node.now)) }
     ensures over { IfOk result (IsStepOf s.now) }
 {
     let role = role_at(u, at, node);
@@ -52,7 +48,7 @@ fn judge_stage(
             Ok(step)
         }
         Stage::Placed => {
-            let step = placed(alloc, u, s, role, block, at)?;
+            let step = placed(alloc, u, s, block, at, node)?;
             Ok(step)
         }
         Stage::Object => {
@@ -63,6 +59,7 @@ fn judge_stage(
     }
 }
 
+#[tactic(auto, using(type_answers::proofs::ComingLaws::same_comes))]
 fn judge_at(
     alloc: Global,
     u: &Subject,
@@ -72,7 +69,7 @@ fn judge_at(
 ) -> Result<Step, NoMemory>
     requires scene { IsScene u.now s.now }
     requires stage { is_declaring item.stage ≡ false }
-    ensures is { IfOk result (λ step. step_in s.now step ≡ tell (so_far s.now) (at_node (unit_of u.now) item at)) }
+    ensures comes { IfOk result (ComesTo u.now s.now (at_node (unit_of u.now) item at)) }
     ensures over { IfOk result (IsStepOf s.now) }
 {
     match u.node_at(at) {
@@ -94,17 +91,18 @@ fn judge_nth(
 ) -> Result<Step, NoMemory>
     requires scene { IsScene u.now s.now }
     requires stage { is_declaring item.stage ≡ false }
-    ensures is { IfOk result (λ step. step_in s.now step ≡ tell (so_far s.now) (nth_rule (unit_of u.now) item file node)) }
+    ensures comes { IfOk result (ComesTo u.now s.now (nth_rule (unit_of u.now) item file node)) }
     ensures over { IfOk result (IsStepOf s.now) }
 {
     let step = judge_at(alloc, u, s, item, NodeRef { file, node })?;
     Ok(step)
 }
 
+#[tactic(auto, using(type_answers::proofs::ComingLaws::same_comes))]
 fn judge_in(alloc: Global, u: &Subject, s: &State, item: Item, file: u32) -> Result<Step, NoMemory>
     requires scene { IsScene u.now s.now }
     requires stage { is_declaring item.stage ≡ false }
-    ensures is { IfOk result (λ step. step_in s.now step ≡ tell (so_far s.now) (in_file (unit_of u.now) item file)) }
+    ensures comes { IfOk result (ComesTo u.now s.now (in_file (unit_of u.now) item file)) }
     ensures over { IfOk result (IsStepOf s.now) }
 {
     match number(item.node) {
@@ -116,11 +114,12 @@ fn judge_in(alloc: Global, u: &Subject, s: &State, item: Item, file: u32) -> Res
     }
 }
 
-/// How far the rule of an item goes over the marks so far, of one that declares no type.
+/// What the rule of an item comes to, of one that declares no type.
+#[tactic(auto, using(type_answers::proofs::ComingLaws::same_comes))]
 pub fn judge_item(alloc: Global, u: &Subject, s: &State, item: Item) -> Result<Step, NoMemory>
     requires scene { IsScene u.now s.now }
     requires stage { is_declaring item.stage ≡ false }
-    ensures is { IfOk result (λ step. step_in s.now step ≡ tell (so_far s.now) (rule (unit_of u.now) item)) }
+    ensures comes { IfOk result (ComesTo u.now s.now (rule (unit_of u.now) item)) }
     ensures over { IfOk result (IsStepOf s.now) }
 {
     match u.passage_at(item.block) {

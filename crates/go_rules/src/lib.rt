@@ -6,13 +6,14 @@ mod clause;
 mod declare;
 mod family;
 mod judge;
+mod judged;
 mod number;
 mod objects;
 mod own;
 mod placed;
 mod reads;
 mod role;
-mod stages;
+mod wants;
 mod whole;
 
 pub use whole::GoRules;

@@ -105,7 +105,7 @@ fn object_as(
             let step = object_of_part(alloc, u, s, at)?;
             Ok(step)
         }
-        Role::Embedded => Ok(silent()),
+        Role::Key => Ok(silent()),
         Role::Declared => {
             let step = judge_object(alloc, u, s, at)?;
             Ok(step)

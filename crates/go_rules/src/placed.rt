@@ -5,24 +5,29 @@ ghost use Rattle.typed_tree.specs.Places.{is_type};
 ghost use Rattle.typed_marks.specs.Meanings.{Right};
 ghost use Rattle.typed_marks.specs.States.{so_far};
 ghost use Rattle.unit_read.specs.Subjects.{unit_of};
-ghost use Rattle.rule_words.specs.declared.answer.Answer.TheVariants as answer;
-ghost use Rattle.rule_words.specs.declared.step.Step.TheVariants as step;
 ghost use Rattle.rule_words.specs.Scenes.{IsScene, said, IsMarkOf};
 ghost use Rattle.rule_words.specs.Steps.{step_in, IsStepOf};
 ghost use Rattle.rule_words.specs.Good.{known_of, AreFactsOf};
-ghost use Rattle.go_rules.specs.Stages.{placed_with, placed_after, placed_in, type_wanted, embedded_after, embedded_in, embedded_by, embedded_at, placed_as};
+ghost use Rattle.type_answers.specs.Coming.{ComesTo};
+ghost use Rattle.go_rules.specs.Stages.{placed_with, placed_plain, type_wanted, placed_embedded, placed_argument, placed_shared, placed_as, placed_beside, placed_at, placed_after, placed_in};
 
-use crate::role::Role;
+use crate::role::{Placing, placing_of};
+use call_rules::{is_passed, judge_passed};
 use go_tree::{Node, NodeRef};
 use gv_base::NoMemory;
 use op_rules::judge_placed;
-use rule_words::{Answer, Step, look, wanted_by};
+use rule_words::good::{beyond, broken, silent};
+use rule_words::{Step, look, wanted_by};
 use std::alloc::Global;
+use type_answers::ask_mark;
 use type_questions::Found;
 use type_rules::judge_element;
 use typed_marks::{Facts, Mark, Stage, State};
 use typed_tree::{Mode, NOT_A_TYPE};
 use unit_read::{Place, Subject};
+use variable_rules::{is_shared, judge_shared};
+
+// ---- what is wanted there is tested
 
 fn placed_with(u: &Subject, s: &State, j: Mark, m: Mark) -> Step
     requires scene { IsScene u.now s.now }
@@ -35,10 +40,10 @@ fn placed_with(u: &Subject, s: &State, j: Mark, m: Mark) -> Step
     judge_placed(u, s, w, j)
 }
 
-fn placed_after(u: &Subject, s: &State, block: usize, at: NodeRef, j: Mark) -> Step
+fn placed_plain(u: &Subject, s: &State, block: usize, at: NodeRef, j: Mark) -> Step
     requires scene { IsScene u.now s.now }
     requires mark { IsMarkOf s.now j }
-    ensures is { step_in s.now result ≡ tell (so_far s.now) (placed_after (unit_of u.now) block at (said s.now j)) }
+    ensures is { step_in s.now result ≡ tell (so_far s.now) (placed_plain (unit_of u.now) block at (said s.now j)) }
     ensures over { IsStepOf s.now result }
 {
     match look(u, s, Stage::Wanted, block, at.node) {
@@ -47,16 +52,7 @@ fn placed_after(u: &Subject, s: &State, block: usize, at: NodeRef, j: Mark) -> S
     }
 }
 
-fn placed_in(u: &Subject, s: &State, block: usize, at: NodeRef) -> Step
-    requires { IsScene u.now s.now }
-    ensures is { step_in s.now result ≡ tell (so_far s.now) (placed_in (unit_of u.now) block at) }
-    ensures over { IsStepOf s.now result }
-{
-    match look(u, s, Stage::Judged, block, at.node) {
-        Found::Is(m) => placed_after(u, s, block, at, m),
-        Found::Wait(item) => Step::Waits(item),
-    }
-}
+// ---- what an interface embeds
 
 fn is_type(mode: Mode) -> bool
     ensures { result ≡ is_type mode }
@@ -65,12 +61,6 @@ fn is_type(mode: Mode) -> bool
         Mode::TypeName => true,
         _ => false,
     }
-}
-
-fn says(m: Mark) -> Step
-    ensures { result ≡ step.Says (answer.Mark m) }
-{
-    Step::Says(Answer::Mark(m))
 }
 
 /// What an interface embeds is a type, E10, and of these an interface, E15, whose methods agree with the others, E14.
@@ -86,18 +76,18 @@ fn embedded_good(
 ) -> Result<Step, NoMemory>
     requires scene { IsScene u.now s.now }
     requires facts { AreFactsOf s.now x }
-    ensures is { IfOk result (λ step. step_in s.now step ≡ tell (so_far s.now) (embedded_after (unit_of u.now) block at p around.now (Right (known_of s.now x)))) }
+    ensures is { IfOk result (λ step. step_in s.now step ≡ tell (so_far s.now) (placed_embedded (unit_of u.now) block at p around.now (Right (known_of s.now x)))) }
     ensures over { IfOk result (IsStepOf s.now) }
 {
     if is_type(x.mode) {
         let step = judge_element(alloc, u, s, block, at.file, around, p.slot, Mark::Good(x))?;
         Ok(step)
     } else {
-        Ok(says(Mark::Bad(NOT_A_TYPE)))
+        Ok(broken(NOT_A_TYPE))
     }
 }
 
-fn embedded_after(
+fn placed_embedded(
     alloc: Global,
     u: &Subject,
     s: &State,
@@ -109,7 +99,7 @@ fn embedded_after(
 ) -> Result<Step, NoMemory>
     requires scene { IsScene u.now s.now }
     requires mark { IsMarkOf s.now j }
-    ensures is { IfOk result (λ step. step_in s.now step ≡ tell (so_far s.now) (embedded_after (unit_of u.now) block at p around.now (said s.now j))) }
+    ensures is { IfOk result (λ step. step_in s.now step ≡ tell (so_far s.now) (placed_embedded (unit_of u.now) block at p around.now (said s.now j))) }
     ensures over { IfOk result (IsStepOf s.now) }
 {
     match j {
@@ -117,15 +107,19 @@ fn embedded_after(
             let step = embedded_good(alloc, u, s, block, at, p, around, x)?;
             Ok(step)
         }
-        Mark::Bad(rule) => Ok(says(Mark::Bad(rule))),
-        Mark::Outside(limit) => Ok(says(Mark::Outside(limit))),
-        Mark::Silent => Ok(says(Mark::Silent)),
-        Mark::Wants(_, _) => Ok(says(Mark::Silent)),
-        Mark::Declared(_) => Ok(says(Mark::Silent)),
+        Mark::Bad(rule) => Ok(broken(rule)),
+        Mark::Outside(limit) => Ok(beyond(limit)),
+        Mark::Silent => Ok(silent()),
+        Mark::Wants(_, _) => Ok(silent()),
+        Mark::Declared(_) => Ok(silent()),
     }
 }
 
-fn embedded_in(
+// ---- arguments
+
+/// What a call calls, or an argument: a call's results may be the arguments of another.
+#[tactic(auto, using(type_answers::proofs::ComingLaws::same_comes))]
+fn placed_argument(
     alloc: Global,
     u: &Subject,
     s: &State,
@@ -133,30 +127,117 @@ fn embedded_in(
     at: NodeRef,
     p: Place,
     around: &Node,
+    j: Mark,
 ) -> Result<Step, NoMemory>
-    requires { IsScene u.now s.now }
-    ensures is { IfOk result (λ step. step_in s.now step ≡ tell (so_far s.now) (embedded_in (unit_of u.now) block at p around.now)) }
+    requires scene { IsScene u.now s.now }
+    requires mark { IsMarkOf s.now j }
+    ensures comes { IfOk result (ComesTo u.now s.now (placed_argument (unit_of u.now) block at p around.now (said s.now j))) }
     ensures over { IfOk result (IsStepOf s.now) }
 {
-    match look(u, s, Stage::Judged, block, at.node) {
-        Found::Is(m) => {
-            let step = embedded_after(alloc, u, s, block, at, p, around, m)?;
-            Ok(step)
-        }
-        Found::Wait(item) => Ok(Step::Waits(item)),
+    if is_passed(s, around, p.slot, j) {
+        let step = judge_passed(alloc, u, s, block, around, j)?;
+        return Ok(step);
     }
+    Ok(placed_plain(u, s, block, at, j))
 }
 
-fn embedded_by(
+// ---- one value for several variables
+
+/// A part of a specification of variables of a type that is written.
+#[tactic(auto, using(type_answers::proofs::ComingLaws::same_comes))]
+fn placed_shared(
     alloc: Global,
     u: &Subject,
     s: &State,
     block: usize,
     at: NodeRef,
     p: Place,
+    around: &Node,
+    j: Mark,
 ) -> Result<Step, NoMemory>
-    requires { IsScene u.now s.now }
-    ensures is { IfOk result (λ step. step_in s.now step ≡ tell (so_far s.now) (embedded_by (unit_of u.now) block at p)) }
+    requires scene { IsScene u.now s.now }
+    requires mark { IsMarkOf s.now j }
+    ensures comes { IfOk result (ComesTo u.now s.now (placed_shared (unit_of u.now) block at p around.now (said s.now j))) }
+    ensures over { IfOk result (IsStepOf s.now) }
+{
+    if is_shared(u, block, p, around) {
+        let step = judge_shared(alloc, u, s, block, u.nodes_at(at.file), around, j)?;
+        return Ok(step);
+    }
+    Ok(placed_plain(u, s, block, at, j))
+}
+
+// ---- all
+
+#[tactic(auto, using(type_answers::proofs::ComingLaws::same_comes))]
+fn placed_as(
+    alloc: Global,
+    u: &Subject,
+    s: &State,
+    placing: Placing,
+    block: usize,
+    at: NodeRef,
+    p: Place,
+    around: &Node,
+    j: Mark,
+) -> Result<Step, NoMemory>
+    requires scene { IsScene u.now s.now }
+    requires mark { IsMarkOf s.now j }
+    ensures comes { IfOk result (ComesTo u.now s.now (placed_as placing (unit_of u.now) block at p around.now (said s.now j))) }
+    ensures over { IfOk result (IsStepOf s.now) }
+{
+    match placing {
+        Placing::Plain => Ok(placed_plain(u, s, block, at, j)),
+        Placing::Embedded => {
+            let step = placed_embedded(alloc, u, s, block, at, p, around, j)?;
+            Ok(step)
+        }
+        Placing::Argument => {
+            let step = placed_argument(alloc, u, s, block, at, p, around, j)?;
+            Ok(step)
+        }
+        Placing::Shared => {
+            let step = placed_shared(alloc, u, s, block, at, p, around, j)?;
+            Ok(step)
+        }
+    }
+}
+
+fn placed_beside(
+    alloc: Global,
+    u: &Subject,
+    s: &State,
+    block: usize,
+    at: NodeRef,
+    node: &Node,
+    j: Mark,
+    p: Place,
+    around: &Node,
+) -> Result<Step, NoMemory>
+    requires scene { IsScene u.now s.now }
+    requires mark { IsMarkOf s.now j }
+    ensures comes { IfOk result (ComesTo u.now s.now (placed_beside (unit_of u.now) block at node.now (said s.now j) p around.now)) }
+    ensures over { IfOk result (IsStepOf s.now) }
+{
+    let placing = placing_of(around.kind, node.kind);
+    let step = placed_as(alloc, u, s, placing, block, at, p, around, j)?;
+    Ok(step)
+}
+
+#[tactic(auto, using(type_answers::proofs::ComingLaws::same_comes))]
+fn placed_at(
+    alloc: Global,
+    u: &Subject,
+    s: &State,
+    block: usize,
+    at: NodeRef,
+    node: &Node,
+    j: Mark,
+    p: Place,
+) -> Result<Step, NoMemory>
+    requires scene { IsScene u.now s.now }
+    requires mark { IsMarkOf s.now j }
+    ensures comes { IfOk result (ComesTo u.now s.now (placed_at (unit_of u.now) block at node.now (said s.now j) p)) }
     ensures over { IfOk result (IsStepOf s.now) }
 {
     let whole = NodeRef {
@@ -165,54 +246,56 @@ fn embedded_by(
     };
     match u.node_at(whole) {
         Some(around) => {
-            let step = embedded_in(alloc, u, s, block, at, p, around)?;
+            let step = placed_beside(alloc, u, s, block, at, node, j, p, around)?;
             Ok(step)
         }
-        None => Ok(says(Mark::Silent)),
+        None => Ok(placed_plain(u, s, block, at, j)),
     }
 }
 
-/// What an interface embeds, in its place.
-fn embedded_at(
+#[tactic(auto, using(type_answers::proofs::ComingLaws::same_comes))]
+fn placed_after(
     alloc: Global,
     u: &Subject,
     s: &State,
     block: usize,
     at: NodeRef,
+    node: &Node,
+    j: Mark,
 ) -> Result<Step, NoMemory>
-    requires { IsScene u.now s.now }
-    ensures is { IfOk result (λ step. step_in s.now step ≡ tell (so_far s.now) (embedded_at (unit_of u.now) block at)) }
+    requires scene { IsScene u.now s.now }
+    requires mark { IsMarkOf s.now j }
+    ensures comes { IfOk result (ComesTo u.now s.now (placed_after (unit_of u.now) block at node.now (said s.now j))) }
     ensures over { IfOk result (IsStepOf s.now) }
 {
     match u.place_at(at) {
         Some(p) => {
-            let step = embedded_by(alloc, u, s, block, at, p)?;
+            let step = placed_at(alloc, u, s, block, at, node, j, p)?;
             Ok(step)
         }
-        None => Ok(says(Mark::Silent)),
+        None => Ok(placed_plain(u, s, block, at, j)),
     }
 }
 
 /// A node once its place has tested it.
+#[tactic(auto, using(type_answers::proofs::ComingLaws::bind_comes, type_answers::proofs::ComingLaws::bind_waits))]
 pub fn placed(
     alloc: Global,
     u: &Subject,
     s: &State,
-    role: Role,
     block: usize,
     at: NodeRef,
+    node: &Node,
 ) -> Result<Step, NoMemory>
     requires { IsScene u.now s.now }
-    ensures is { IfOk result (λ step. step_in s.now step ≡ tell (so_far s.now) (placed_as role (unit_of u.now) block at)) }
+    ensures comes { IfOk result (ComesTo u.now s.now (placed_in (unit_of u.now) block at node.now)) }
     ensures over { IfOk result (IsStepOf s.now) }
 {
-    match role {
-        Role::Part => Ok(placed_in(u, s, block, at)),
-        Role::Embedded => {
-            let step = embedded_at(alloc, u, s, block, at)?;
+    match ask_mark(u, s, Stage::Judged, block, at.node) {
+        Found::Is(j) => {
+            let step = placed_after(alloc, u, s, block, at, node, j)?;
             Ok(step)
         }
-        Role::Declared => Ok(placed_in(u, s, block, at)),
-        Role::Untold => Ok(placed_in(u, s, block, at)),
+        Found::Wait(item) => Ok(Step::Waits(item)),
     }
 }

@@ -7,16 +7,11 @@ use Rattle.import_graph.specs.declared.pack.Package.{Package}
 use Rattle.import_graph.specs.Packages.{ArePackages}
 use Rattle.import_graph.proofs.OneLemmas.{one-answer}
 use Rattle.tree_report.specs.Form.{AreRead, AreHeads, IsBuilt, all_import_constants}
-use Rattle.tree_report.specs.Mentions.{selects_apart}
 use Rattle.tree_report.proofs.OnceLemmas.{verdicts-once, heads-once}
 
 pub differ : (b : Bool) → b ≡ true → b ≡ false → ⊥
 differ true h k = cc
 differ false h k = cc
-
-pub built-apart : (tree : List Entry) (verdicts : List (Option FileVerdict)) → AreRead tree verdicts → IsBuilt tree → selects_apart tree verdicts ≡ true
-built-apart tree verdicts read built =
-    subst (λ v. selects_apart tree v ≡ true) (verdicts-once tree built.0 verdicts built.1.1.1.read read) built.1.1.1.apart
 
 -- the packages of a tree that is built are those that are read
 pub built-packages : (tree : List Entry) (verdicts : List (Option FileVerdict)) (heads : List (Option Head)) (packages : List Package)

@@ -1,7 +1,7 @@
-pub mod MentionLemmas
 pub mod LimitLemmas
 pub mod ReadLemmas
 pub mod LineLemmas
+pub mod RefusalLemmas
 pub mod OnceLemmas
 pub mod FormLemmas
 pub mod SourceLemmas

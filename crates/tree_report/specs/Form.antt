@@ -1,5 +1,6 @@
 -- The trees that are built: those of whose source files each is refused by the scanner or the parser, or is a file of imports, constants,
--- types, variables without values, and functions and methods without bodies; a package that another imports has imports and constants alone.
+-- types, variables, and functions and methods without bodies, with every expression but function literals; a package that another imports has
+-- imports and constants alone.
 use Rattle.std.specs.Prelude.{◌≡◌, ℕ, ◌≤◌, ◌||◌, Bool, true, false, Option, Some, None, List, length, map, slice_get, get_or, codes, sum_by, bytes_eq, nat_eq}
 use Rattle.std.specs.List.{All, filter, list_all, starts_with}
 use Rattle.gv_base.specs.Files.{Entry}
@@ -12,7 +13,6 @@ use Rattle.import_graph.specs.Sources.{is_source}
 use Rattle.import_graph.specs.Packages.{ArePackages}
 use Rattle.import_graph.specs.declared.pack.Package.{Package}
 use Rattle.tree_report.specs.Declarations.{IsDeclarationFile, has_constants_alone}
-use Rattle.tree_report.specs.Mentions.{selects_apart}
 
 -- the path of a file that a run knows no meaning for yet: `go.mod`, and what stands under `std`
 abbrev pub is_early : List ℕ → Bool
@@ -114,7 +114,6 @@ pub record IsForm (tree : List Entry) (verdicts : List (Option FileVerdict)) (he
   pub within : AreWithinLimits (source_texts tree)
   pub read : AreRead tree verdicts
   pub form : AreOfForm verdicts
-  pub apart : selects_apart tree verdicts ≡ true
   pub headed : AreHeads tree verdicts heads
   pub packed : ArePackages tree heads packages
   pub few : length packages ≤ most_packages

@@ -1,18 +1,19 @@
 -- What the code holds of a tree of the form, and of its reply.
-use Rattle.std.specs.Prelude.{◌≡◌, Option, Some, None, List, length}
+use Rattle.std.specs.Prelude.{◌≡◌, Option, Some, None, List, length, map}
 use Rattle.gv_base.specs.Files.{Entry}
 use Rattle.analysis_core.specs.declared.command.Command.TheVariants.{Check}
 use Rattle.analysis_core.specs.declared.reply.Reply.{Reply}
 use Rattle.analysis_core.specs.Replies.{check_reply, is_found, reply_text}
 use Rattle.gv_driver.specs.declared.reply.Judgement.{Judgement}
-use Rattle.tree_report.specs.Lines.{error_lines}
+use Rattle.parse_file.specs.declared.verdict.FileVerdict.{FileVerdict}
+use Rattle.tree_report.specs.Lines.{refusal_of, error_lines}
 use Rattle.tree_report.specs.declared.formed.Formed.{Formed}
 use Rattle.tree_report.specs.declared.print.TreeReport.{TreeReport}
 use Rattle.tree_report.specs.Form.{IsForm, IsBuilt}
 
--- these are the verdicts and heads of the files, and the packages
+-- these are the refusals and heads of the files, and the packages
 abbrev pub Holds : List Entry → Formed → Type 0
-Holds tree f = IsForm tree f.verdicts.items f.heads.items f.packages.items
+Holds tree f = (verdicts : List (Option FileVerdict)) × (IsForm tree verdicts f.heads.items f.packages.items × (f.refusals.items ≡ map refusal_of verdicts))
 
 abbrev pub IsFormed : List Entry → Option Formed → Type 0
 IsFormed tree None = IsBuilt tree → ⊥
@@ -22,7 +23,7 @@ IsFormed tree (Some f) = Holds tree f
 pub record IsReplyOf (f : Formed) (ran : Judgement) (reply : Reply) : Type 0 where
   pub plain : reply ≡ check_reply reply.packages reply.errors reply.counts
   pub size : reply.packages ≡ length f.packages.items
-  pub errors : reply.errors ≡ error_lines f.heads.items f.verdicts.items f.packages.items ran.verdicts
+  pub errors : reply.errors ≡ error_lines f.heads.items f.refusals.items f.packages.items ran.verdicts
   pub nodes : reply.counts.nodes ≡ ran.counts.nodes
   pub missing : reply.counts.missing ≡ ran.counts.missing
   pub loads : reply.counts.loads ≡ ran.counts.loads

@@ -1,6 +1,5 @@
 pub mod Shown
 pub mod Declarations
-pub mod Mentions
 pub mod Form
 pub mod Lines
 pub mod Reports

@@ -1,5 +1,5 @@
 -- The error lines of a run: why a package isn't accepted.
-use Rattle.std.specs.Prelude.{ℕ, suc, Bool, true, false, cond, Option, Some, None, List, [], ◌∷◌, ◌++◌, map, flat_map, get_or, slice_index_or, codes, nat_eq, if◌then◌else◌}
+use Rattle.std.specs.Prelude.{ℕ, suc, Bool, true, false, cond, Option, Some, None, List, [], ◌∷◌, ◌++◌, map, flat_map, get_or, slice_index_or, codes, nat_eq, option_and_then, if◌then◌else◌}
 use Rattle.std.specs.Option.{option_map_or}
 use Rattle.gv_base.specs.declared.place.Place.{Place}
 use Rattle.go_tree.specs.declared.token.Why.{Why}
@@ -46,6 +46,16 @@ refusal_lines path n (file.TooDeep offset) = line_at path (record { file = n; of
 abbrev pub read_lines : List ℕ → ℕ → Option FileVerdict → List ErrorLine
 read_lines path n None = []
 read_lines path n (Some verdict) = refusal_lines path n verdict
+
+-- what of a verdict is told in lines: why the file is refused
+abbrev pub refusal_in : FileVerdict → Option FileVerdict
+refusal_in (file.Parsed tree) = None
+refusal_in (file.Lexical offset why) = Some (file.Lexical offset why)
+refusal_in (file.Syntax offset) = Some (file.Syntax offset)
+refusal_in (file.TooDeep offset) = Some (file.TooDeep offset)
+
+abbrev pub refusal_of : Option FileVerdict → Option FileVerdict
+refusal_of verdict = option_and_then refusal_in verdict
 
 -- those of a broken package
 abbrev pub broken_lines : List (Option FileVerdict) → List ℕ → List ℕ → List ErrorLine

@@ -1,7 +1,8 @@
-//! Which files have imports, constants and declarations without values and bodies alone.
-ghost use Rattle.std.specs.Prelude.{◌≡◌, ◌↔◌, IsTrue};
+//! Which files have imports, constants and declarations without bodies alone.
+ghost use Rattle.std.specs.Prelude.{◌≡◌, ◌↔◌, ◌||◌, IsTrue};
 ghost use Rattle.std.specs.List.{list_all};
-ghost use Rattle.tree_report.specs.Declarations.{is_constant_kind, is_typed_kind, is_declared_kind, is_unary, has_unary, has_binary, is_name, is_name_at, selects_by_name, fits_kind, is_star, is_star_at, part_is_star, has_no_star, stars_are_types, fits_node, IsDeclarationFile, has_constants_alone};
+ghost use Rattle.go_tree.specs.declared.tree.Node.{Node};
+ghost use Rattle.tree_report.specs.Declarations.{is_constant_kind, is_variable_kind, is_type_kind, is_typed_kind, is_expression_kind, is_declared_kind, is_unary, has_unary, has_binary, is_name, is_name_at, selects_by_name, fits_constant, IsDeclarationFile, has_constants_alone};
 
 use const_eval::Operator;
 use const_tree::{binary_operator, unary_operator};
@@ -42,14 +43,24 @@ fn is_constant_kind(kind: NodeKind) -> bool
     }
 }
 
-fn is_typed_kind(kind: NodeKind) -> bool
-    ensures { result ≡ is_typed_kind kind }
+fn is_variable_kind(kind: NodeKind) -> bool
+    ensures { result ≡ is_variable_kind kind }
 {
     match kind {
         NodeKind::Var
         | NodeKind::VarGroup
         | NodeKind::VarTyped
-        | NodeKind::TypeDecl
+        | NodeKind::VarValues
+        | NodeKind::VarTypedValues => true,
+        _ => false,
+    }
+}
+
+fn is_type_kind(kind: NodeKind) -> bool
+    ensures { result ≡ is_type_kind kind }
+{
+    match kind {
+        NodeKind::TypeDecl
         | NodeKind::TypeGroup
         | NodeKind::Defined
         | NodeKind::Alias
@@ -77,10 +88,44 @@ fn is_typed_kind(kind: NodeKind) -> bool
     }
 }
 
+fn is_typed_kind(kind: NodeKind) -> bool
+    ensures { result ≡ is_typed_kind kind }
+{
+    is_variable_kind(kind) || is_type_kind(kind)
+}
+
+fn is_expression_kind(kind: NodeKind) -> bool
+    ensures { result ≡ is_expression_kind kind }
+{
+    match kind {
+        NodeKind::Index
+        | NodeKind::SliceAll
+        | NodeKind::SliceLow
+        | NodeKind::SliceLowHigh
+        | NodeKind::SliceLowHighMax
+        | NodeKind::SliceHigh
+        | NodeKind::SliceHighMax
+        | NodeKind::Assert
+        | NodeKind::Call
+        | NodeKind::CallSpread
+        | NodeKind::Composite
+        | NodeKind::Value
+        | NodeKind::KeyValue
+        | NodeKind::DotsType => true,
+        _ => false,
+    }
+}
+
+fn is_typed_or_expression(kind: NodeKind) -> bool
+    ensures { result ≡ (is_typed_kind kind || is_expression_kind kind) }
+{
+    is_typed_kind(kind) || is_expression_kind(kind)
+}
+
 fn is_declared_kind(kind: NodeKind) -> bool
     ensures { result ≡ is_declared_kind kind }
 {
-    is_constant_kind(kind) || is_typed_kind(kind)
+    is_constant_kind(kind) || is_typed_or_expression(kind)
 }
 
 fn is_unary(op: Operator) -> bool
@@ -138,81 +183,27 @@ fn selects_by_name(nodes: &[Node], node: &Node) -> bool
     }
 }
 
-fn is_star(kind: NodeKind) -> bool
-    ensures { result ≡ is_star kind }
-{
-    match kind {
-        NodeKind::Star => true,
-        _ => false,
-    }
-}
-
-fn is_star_at(nodes: &[Node], n: u32) -> bool
-    ensures { result ≡ is_star_at nodes.now n }
-{
-    match node_of(nodes, n) {
-        Some(node) => is_star(node.kind),
-        None => false,
-    }
-}
-
-fn part_is_star(nodes: &[Node], node: &Node, i: usize) -> bool
-    ensures { result ≡ part_is_star nodes.now node.now i }
-{
-    match part_of(node, i) {
-        Some(n) => is_star_at(nodes, n),
-        None => false,
-    }
-}
-
-fn has_no_star(nodes: &[Node], node: &Node) -> bool
-    ensures { result ≡ has_no_star nodes.now node.now }
-{
-    node.parts.as_slice().iter().all(|n| !is_star_at(nodes, *n))
-}
-
-/// Whether no `*` stands before a value.
-fn stars_are_types(nodes: &[Node], node: &Node) -> bool
-    ensures { result ≡ stars_are_types node.now.kind nodes.now node.now }
-{
-    match node.kind {
-        NodeKind::Unary | NodeKind::Binary | NodeKind::Exprs | NodeKind::Paren => {
-            has_no_star(nodes, node)
-        }
-        NodeKind::ConstValues => !part_is_star(nodes, node, 1),
-        NodeKind::ConstTyped => !part_is_star(nodes, node, 2),
-        NodeKind::ArrayType => !part_is_star(nodes, node, 0),
-        _ => true,
-    }
-}
-
-fn fits_kind(tree: &FileTree, node: &Node) -> bool
-    ensures { result ≡ fits_kind node.now.kind tree.now node.now }
+fn fits_constant(tree: &FileTree, node: &Node) -> bool
+    ensures { result ≡ fits_constant node.now.kind tree.now node.now }
 {
     match node.kind {
         NodeKind::Unary => has_unary(tree, node),
         NodeKind::Binary => has_binary(tree, node),
         NodeKind::Selector => selects_by_name(tree.nodes.as_slice(), node),
-        kind => is_declared_kind(kind),
+        kind => is_constant_kind(kind),
     }
 }
 
-fn fits_node(tree: &FileTree, node: &Node) -> bool
-    ensures { result ≡ fits_node tree.now node.now }
-{
-    fits_kind(tree, node) && stars_are_types(tree.nodes.as_slice(), node)
-}
-
 fn all_fit(tree: &FileTree) -> bool
-    ensures { result ≡ list_all (fits_node tree.now) tree.now.nodes }
+    ensures { result ≡ list_all (λ (node : Node). is_declared_kind node.kind) tree.now.nodes }
 {
     tree.nodes
         .as_slice()
         .iter()
-        .all(|node| fits_node(tree, node))
+        .all(|node| is_declared_kind(node.kind))
 }
 
-/// Whether a file has imports, constants and declarations without values and bodies alone.
+/// Whether a file has imports, constants and declarations without bodies alone, and no function literal.
 pub fn is_declaration_file(tree: &FileTree) -> bool
     ensures { IsTrue result ↔ IsDeclarationFile tree.now }
 {
@@ -229,5 +220,5 @@ pub fn has_constants_alone(tree: &FileTree) -> bool
     tree.nodes
         .as_slice()
         .iter()
-        .all(|node| is_constant_kind(node.kind))
+        .all(|node| fits_constant(tree, node))
 }

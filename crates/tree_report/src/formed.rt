@@ -1,11 +1,10 @@
 //! The files and the packages of a tree of the form.
-ghost use Rattle.std.specs.Prelude.{◌≡◌, ◌≤◌, IfOk, All, true, false, length};
+ghost use Rattle.std.specs.Prelude.{◌≡◌, ◌≤◌, IfOk, All, true, false, length, map};
 ghost use Rattle.import_graph.specs.Packages.{ArePackages};
 ghost use Rattle.tree_report.specs.Form.{source_texts, AreRead, AreHeads, AreOfForm, is_early, AreWithinLimits};
 ghost use Rattle.tree_report.specs.Formed.{IsFormed};
-ghost use Rattle.tree_report.specs.Mentions.{selects_apart};
+ghost use Rattle.tree_report.specs.Lines.{refusal_in, refusal_of};
 
-use crate::apart::selects_apart;
 use crate::imported::all_import_constants;
 use crate::limits::{are_plain, are_within_limits, source_texts};
 use crate::read::{are_of_form, heads, read_all};
@@ -18,12 +17,46 @@ use std::alloc::Global;
 /// The most packages of a tree.
 const MOST_PACKAGES: usize = 1024;
 
-/// What is known of the files of a tree, and its packages.
+/// What is known of the files of a tree, and its packages: why files are refused, without the trees of the others.
 #[derive(Drop)]
 pub struct Formed {
-    pub verdicts: Vec<Option<FileVerdict>>,
+    pub refusals: Vec<Option<FileVerdict>>,
     pub heads: Vec<Option<Head>>,
     pub packages: Vec<Package>,
+}
+
+fn refusal_in(verdict: FileVerdict) -> Option<FileVerdict>
+    ensures { result ≡ refusal_in verdict }
+{
+    match verdict {
+        FileVerdict::Parsed(_) => None,
+        FileVerdict::Lexical { offset, why } => Some(FileVerdict::Lexical { offset, why }),
+        FileVerdict::Syntax { offset } => Some(FileVerdict::Syntax { offset }),
+        FileVerdict::TooDeep { offset } => Some(FileVerdict::TooDeep { offset }),
+    }
+}
+
+fn refusal_of(verdict: Option<FileVerdict>) -> Option<FileVerdict>
+    ensures { result ≡ refusal_of verdict }
+{
+    match verdict {
+        Some(verdict) => refusal_in(verdict),
+        None => None,
+    }
+}
+
+/// Why files are refused. Their trees are dropped, which take more memory than all else that is known of the tree.
+fn refusals(
+    alloc: Global,
+    verdicts: Vec<Option<FileVerdict>>,
+) -> Result<Vec<Option<FileVerdict>>, NoMemory>
+    ensures { IfOk result (λ list. list.items ≡ map refusal_of verdicts.items) }
+{
+    let mut list = Vec::with_capacity(alloc, verdicts.len())?;
+    for verdict in verdicts {
+        list.push(refusal_of(verdict))?;
+    }
+    Ok(list)
 }
 
 /// The same of files and packages, if each package that another imports has constants alone.
@@ -38,7 +71,6 @@ fn checked(
     requires within { AreWithinLimits (source_texts files.now) }
     requires read { AreRead files.now verdicts.items }
     requires form { AreOfForm verdicts.items }
-    requires apart { selects_apart files.now verdicts.items ≡ true }
     requires headed { AreHeads files.now verdicts.items heads.items }
     requires packed { ArePackages files.now heads.items packages.items }
     requires few { length packages.items ≤ 1024 }
@@ -48,8 +80,9 @@ fn checked(
     if !imported {
         return Ok(None);
     }
+    let refusals = refusals(alloc, verdicts)?;
     Ok(Some(Formed {
-        verdicts,
+        refusals,
         heads,
         packages,
     }))
@@ -65,7 +98,6 @@ fn packed(
     requires within { AreWithinLimits (source_texts files.now) }
     requires read { AreRead files.now verdicts.items }
     requires form { AreOfForm verdicts.items }
-    requires apart { selects_apart files.now verdicts.items ≡ true }
     ensures { IfOk result (λ formed. IsFormed files.now formed) }
 {
     let heads = heads(alloc, files, &verdicts)?;
@@ -74,26 +106,6 @@ fn packed(
         return Ok(None);
     }
     let formed = checked(alloc, files, verdicts, heads, packages)?;
-    Ok(formed)
-}
-
-/// The same of files of the form, if what stands before dots is apart from what they declare.
-fn parted(
-    alloc: Global,
-    files: &Files,
-    verdicts: Vec<Option<FileVerdict>>,
-) -> Result<Option<Formed>, NoMemory>
-    requires plain { All (λ entry. is_early entry.0 ≡ false) files.now }
-    requires within { AreWithinLimits (source_texts files.now) }
-    requires read { AreRead files.now verdicts.items }
-    requires form { AreOfForm verdicts.items }
-    ensures { IfOk result (λ formed. IsFormed files.now formed) }
-{
-    let apart = selects_apart(alloc, files, &verdicts)?;
-    if !apart {
-        return Ok(None);
-    }
-    let formed = packed(alloc, files, verdicts)?;
     Ok(formed)
 }
 
@@ -107,7 +119,7 @@ fn read_form(alloc: Global, files: &Files) -> Result<Option<Formed>, NoMemory>
     if !are_of_form(&verdicts) {
         return Ok(None);
     }
-    let formed = parted(alloc, files, verdicts)?;
+    let formed = packed(alloc, files, verdicts)?;
     Ok(formed)
 }
 

@@ -1,7 +1,6 @@
 //! What a run replies to a tree of files.
 #![tactic(auto)]
 
-mod apart;
 mod declarations;
 mod files;
 mod formed;
@@ -10,7 +9,6 @@ mod laws;
 mod limits;
 mod lines;
 mod marks;
-mod mentions;
 mod outcomes;
 mod print;
 mod read;

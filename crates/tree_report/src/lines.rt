@@ -5,32 +5,25 @@ ghost use Rattle.import_graph.specs.Packages.{head_at, lines_in, counts};
 ghost use Rattle.import_graph.specs.Tables.{AreAscending};
 ghost use Rattle.tree_report.specs.Lines.{line_at, line_without, why_text, refusal_lines, read_lines, broken_lines, clash_line, missing_line, missing_lines_at, missing_lines};
 
-use crate::texts::text_of;
 use analysis_core::ErrorLine;
 use go_tree::{Head, ImportLine, Why};
-use gv_base::{Bytes, NoMemory, Place};
+use gv_base::{Bytes, NoMemory, Place, Text};
 use import_graph::{counts, place_in};
 use parse_file::FileVerdict;
 use std::alloc::Global;
-
-fn copied(alloc: Global, text: &[u8]) -> Result<Bytes, NoMemory>
-    ensures { IfOk result (λ copy. copy ≡ text.now) }
-{
-    Ok(Bytes::new(text.to_vec(alloc)?))
-}
 
 /// Adds a line at a place.
 pub fn push_at(
     alloc: Global,
     lines: &mut Vec<ErrorLine>,
-    path: &[u8],
+    path: &str,
     at: Place,
     text: &[u8],
 ) -> Result<(), NoMemory>
     ensures { OnOk result (lines.new.items ≡ lines.old.items ++ line_at path.now at text.now ∷ []) }
 {
-    let package = text_of(alloc, path)?;
-    let text = copied(alloc, text)?;
+    let package = Text::of(alloc, path)?;
+    let text = Bytes::of(alloc, text)?;
     lines.push(ErrorLine {
         package,
         place: Some(at),
@@ -43,13 +36,13 @@ pub fn push_at(
 pub fn push_whole(
     alloc: Global,
     lines: &mut Vec<ErrorLine>,
-    path: &[u8],
+    path: &str,
     text: &[u8],
 ) -> Result<(), NoMemory>
     ensures { OnOk result (lines.new.items ≡ lines.old.items ++ line_without path.now text.now ∷ []) }
 {
-    let package = text_of(alloc, path)?;
-    let text = copied(alloc, text)?;
+    let package = Text::of(alloc, path)?;
+    let text = Bytes::of(alloc, text)?;
     lines.push(ErrorLine {
         package,
         place: None,
@@ -59,7 +52,7 @@ pub fn push_whole(
 }
 
 /// Adds the line of a package that reaches itself.
-pub fn push_cycle(alloc: Global, lines: &mut Vec<ErrorLine>, path: &[u8]) -> Result<(), NoMemory>
+pub fn push_cycle(alloc: Global, lines: &mut Vec<ErrorLine>, path: &str) -> Result<(), NoMemory>
     ensures { OnOk result (lines.new.items ≡ lines.old.items ++ line_without path.now (codes "import cycle") ∷ []) }
 {
     push_whole(alloc, lines, path, b"import cycle")
@@ -81,7 +74,7 @@ fn why_text(why: Why) -> &'static [u8]
 fn push_refusal(
     alloc: Global,
     lines: &mut Vec<ErrorLine>,
-    path: &[u8],
+    path: &str,
     file: u32,
     verdict: &FileVerdict,
 ) -> Result<(), NoMemory>
@@ -114,7 +107,7 @@ fn push_refusal(
 fn push_read(
     alloc: Global,
     lines: &mut Vec<ErrorLine>,
-    path: &[u8],
+    path: &str,
     verdicts: &[Option<FileVerdict>],
     file: u32,
 ) -> Result<(), NoMemory>
@@ -133,7 +126,7 @@ fn push_read(
 pub fn push_broken(
     alloc: Global,
     lines: &mut Vec<ErrorLine>,
-    path: &[u8],
+    path: &str,
     verdicts: &[Option<FileVerdict>],
     files: &[u32],
 ) -> Result<(), NoMemory>
@@ -149,7 +142,7 @@ pub fn push_broken(
 pub fn push_clashes(
     alloc: Global,
     lines: &mut Vec<ErrorLine>,
-    path: &[u8],
+    path: &str,
     places: &[Place],
 ) -> Result<(), NoMemory>
     ensures { OnOk result (lines.new.items ≡ lines.old.items ++ map (clash_line path.now) places.now) }
@@ -174,8 +167,8 @@ pub fn joined(alloc: Global, before: &[u8], bytes: &[u8], after: &[u8]) -> Resul
 fn push_missing(
     alloc: Global,
     lines: &mut Vec<ErrorLine>,
-    paths: &[Bytes],
-    path: &[u8],
+    paths: &[Text],
+    path: &str,
     file: u32,
     line: &ImportLine,
 ) -> Result<(), NoMemory>
@@ -198,8 +191,8 @@ fn push_missing(
 fn push_imports(
     alloc: Global,
     lines: &mut Vec<ErrorLine>,
-    paths: &[Bytes],
-    path: &[u8],
+    paths: &[Text],
+    path: &str,
     file: u32,
     imports: &[ImportLine],
 ) -> Result<(), NoMemory>
@@ -220,8 +213,8 @@ fn push_file(
     alloc: Global,
     lines: &mut Vec<ErrorLine>,
     heads: &[Option<Head>],
-    paths: &[Bytes],
-    path: &[u8],
+    paths: &[Text],
+    path: &str,
     file: u32,
 ) -> Result<(), NoMemory>
     requires order { AreAscending paths.now }
@@ -242,8 +235,8 @@ pub fn push_all_missing(
     alloc: Global,
     lines: &mut Vec<ErrorLine>,
     heads: &[Option<Head>],
-    paths: &[Bytes],
-    path: &[u8],
+    paths: &[Text],
+    path: &str,
     files: &[u32],
 ) -> Result<(), NoMemory>
     requires order { AreAscending paths.now }

@@ -16,12 +16,7 @@ use std::alloc::Global;
 fn is_accepted(outcome: &Verdict) -> bool
     ensures { result ≡ is_accepted outcome.now }
 {
-    match outcome {
-        Verdict::Faulty => false,
-        Verdict::Blocked => false,
-        Verdict::Refused(_) => false,
-        Verdict::Accepted => true,
-    }
+    matches!(outcome, Verdict::Accepted)
 }
 
 /// Whether the package of this number is accepted.
@@ -41,7 +36,7 @@ fn path_at(packages: &[Package], q: u32) -> &[u8]
     if q as usize >= packages.len() {
         return &[];
     }
-    packages[q as usize].path.as_slice()
+    packages[q as usize].path.as_str().as_bytes()
 }
 
 /// Adds the line of an import that isn't accepted.
@@ -50,7 +45,7 @@ fn push_blocker(
     lines: &mut Vec<ErrorLine>,
     packages: &[Package],
     outcomes: &[Verdict],
-    path: &[u8],
+    path: &str,
     q: u32,
 ) -> Result<(), NoMemory>
     ensures { OnOk result (lines.new.items ≡ lines.old.items ++ blocked_lines_at packages.now outcomes.now path.now q) }
@@ -68,7 +63,7 @@ fn push_blocked(
     lines: &mut Vec<ErrorLine>,
     packages: &[Package],
     outcomes: &[Verdict],
-    path: &[u8],
+    path: &str,
     imports: &[u32],
 ) -> Result<(), NoMemory>
     ensures { OnOk result (lines.new.items ≡ lines.old.items ++ blocked_lines packages.now outcomes.now path.now imports.now) }
@@ -93,7 +88,7 @@ fn file_at(files: &[u32], n: u32) -> u32
 fn push_marks(
     alloc: Global,
     lines: &mut Vec<ErrorLine>,
-    path: &[u8],
+    path: &str,
     files: &[u32],
     marks: &[MarkLine],
 ) -> Result<(), NoMemory>
@@ -120,7 +115,7 @@ pub fn push_outcome(
 ) -> Result<(), NoMemory>
     ensures { OnOk result (lines.new.items ≡ lines.old.items ++ outcome_lines packages.now outcomes.now pack.now outcome.now) }
 {
-    let path = pack.path.as_slice();
+    let path = pack.path.as_str();
     match outcome {
         Verdict::Faulty => Ok(()),
         Verdict::Blocked => {

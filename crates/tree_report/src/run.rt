@@ -13,7 +13,7 @@ use crate::texts::all_texts;
 use action_graph::{Kit, Unloaded};
 use analysis_core::Reply;
 use fact_cache::Cache;
-use gv_base::{Bytes, Files, NoMemory, Row, files_are_in_order};
+use gv_base::{Files, NoMemory, Row, Text, files_are_in_order};
 use gv_driver::Judgement;
 use import_graph::Package;
 use std::alloc::Global;
@@ -27,19 +27,13 @@ pub enum Answer {
     Told(TreeReport),
 }
 
-fn copied(alloc: Global, text: &[u8]) -> Result<Bytes, NoMemory>
-    ensures { IfOk result (λ copy. copy ≡ text.now) }
-{
-    Ok(Bytes::new(text.to_vec(alloc)?))
-}
-
 /// The paths of the packages.
-fn paths_of(alloc: Global, packages: &[Package]) -> Result<Vec<Bytes>, NoMemory>
+fn paths_of(alloc: Global, packages: &[Package]) -> Result<Vec<Text>, NoMemory>
     ensures { IfOk result (λ paths. paths.items ≡ paths_of packages.now) }
 {
     let mut paths = Vec::new(alloc);
     for pack in packages {
-        let path = copied(alloc, pack.path.as_slice())?;
+        let path = pack.path.copy(alloc)?;
         paths.push(path)?;
     }
     Ok(paths)
@@ -58,7 +52,7 @@ fn reply_of(alloc: Global, formed: &Formed, ran: &Judgement) -> Result<Reply, No
         alloc,
         &Found {
             heads: &formed.heads,
-            verdicts: &formed.verdicts,
+            verdicts: &formed.refusals,
             packages: &formed.packages,
             outcomes,
             paths: &paths,

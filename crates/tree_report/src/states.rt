@@ -8,7 +8,7 @@ use crate::lines::{push_all_missing, push_broken, push_clashes, push_cycle};
 use crate::outcomes::push_outcome;
 use analysis_core::ErrorLine;
 use go_tree::Head;
-use gv_base::{Bytes, NoMemory};
+use gv_base::{NoMemory, Text};
 use gv_driver::Verdict;
 use import_graph::{PackState, Package};
 use parse_file::FileVerdict;
@@ -22,7 +22,7 @@ pub struct Found<'a> {
     pub packages: &'a [Package],
     pub outcomes: &'a [Verdict],
     /// The paths of the packages.
-    pub paths: &'a [Bytes],
+    pub paths: &'a [Text],
 }
 
 /// Adds the lines of a package, by its state.
@@ -38,7 +38,7 @@ fn push_state(
     requires few { length found.now.paths.now < 2 ^ 32 }
     ensures { OnOk result (lines.new.items ≡ lines.old.items ++ state_lines found.now.heads.now found.now.verdicts.now found.now.packages.now found.now.outcomes.now pack.now outcome.now pack.now.state) }
 {
-    let path = pack.path.as_slice();
+    let path = pack.path.as_str();
     let files = pack.files.as_slice();
     match &pack.state {
         PackState::Broken => push_broken(alloc, lines, path, found.verdicts, files),

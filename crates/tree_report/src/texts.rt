@@ -13,31 +13,15 @@ use std::alloc::Global;
 fn is_sound(state: &PackState) -> bool
     ensures { result ≡ is_sound state.now }
 {
-    match state {
-        PackState::Broken => false,
-        PackState::NameClash(_) => false,
-        PackState::MissingImport(_) => false,
-        PackState::ImportCycle => false,
-        PackState::Sound => true,
-    }
-}
-
-/// A text of these bytes. Paths of packages are ASCII; bytes that aren't UTF-8 are answered as want of memory.
-pub fn text_of(alloc: Global, bytes: &[u8]) -> Result<Text, NoMemory>
-    ensures { IfOk result (λ text. text ≡ bytes.now) }
-{
-    let Ok(text) = std::str::from_utf8(bytes) else {
-        return Err(NoMemory);
-    };
-    Ok(Text::new(String::from_str(alloc, text)?))
+    matches!(state, PackState::Sound)
 }
 
 fn copied(alloc: Global, files: &Files, file: u32) -> Result<(Text, Bytes), NoMemory>
     ensures { IfOk result (λ copy. copy ≡ file_numbered files.now file) }
 {
     let (path, bytes) = file_numbered(files, file);
-    let path = Text::new(String::from_str(alloc, path)?);
-    let bytes = Bytes::new(bytes.to_vec(alloc)?);
+    let path = Text::of(alloc, path)?;
+    let bytes = Bytes::of(alloc, bytes)?;
     Ok((path, bytes))
 }
 
@@ -55,7 +39,7 @@ fn files_of(alloc: Global, files: &Files, numbers: &[u32]) -> Result<Vec<(Text, 
 fn texts_of(alloc: Global, files: &Files, pack: &Package) -> Result<PackageTexts, NoMemory>
     ensures { IfOk result (λ texts. texts ≡ texts_of files.now pack.now) }
 {
-    let path = text_of(alloc, pack.path.as_slice())?;
+    let path = pack.path.copy(alloc)?;
     let imports = pack.imports.as_slice().to_vec(alloc)?;
     let list = files_of(alloc, files, pack.files.as_slice())?;
     Ok(PackageTexts {

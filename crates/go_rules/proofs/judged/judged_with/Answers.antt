@@ -1,0 +1,12 @@
+use Rattle.std.proofs.Common.{subst}
+use Rattle.type_answers.specs.Coming.{ComesTo}
+use Rattle.unit_read.specs.Subjects.{unit_of}
+use Rattle.rule_words.specs.Words.{Wanted}
+use Rattle.go_rules.specs.Stages.{judged_wanting}
+use Rattle.go_rules.proofs.judged.judged_with.Goals as goal
+
+pub returns-clause-comes : goal.returns-clause-comes
+returns-clause-comes c =
+    let u = unit_of c.args.u.now in
+    subst (λ (w : Wanted). ComesTo c.args.u.now c.args.s.now (judged_wanting u c.args.block c.args.at c.args.node.now w) c.in_ok-step.step)
+    c.wanted_by-w.ensures.is c.in_ok-step.ensures.comes

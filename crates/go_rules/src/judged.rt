@@ -1,0 +1,352 @@
+//! The rule of a node by its parts: before anything is wanted of it, and with what its place wants.
+ghost use Rattle.std.specs.Prelude.{◌≡◌, IfOk};
+ghost use Rattle.std.specs.Global.{Vec};
+ghost use Rattle.unit_read.specs.Subjects.{unit_of};
+ghost use Rattle.rule_words.specs.Scenes.{IsScene, IfFound, said, IsMarkOf, parts_in, AreSeenOf};
+ghost use Rattle.rule_words.specs.Steps.{IsStepOf};
+ghost use Rattle.rule_words.specs.Wanting.{wanted_of, IsWantedOf};
+ghost use Rattle.type_answers.specs.Coming.{FoundBy, ComesTo};
+ghost use Rattle.literal_rules.specs.Keys.{key_role};
+ghost use Rattle.go_rules.specs.Families.{family, is_expression, node_reads, rule_by};
+ghost use Rattle.go_rules.specs.Stages.{from_parts, parts_read, with_parts, nothing_wanted, before_in, before_as, judged_wanting, judged_with, judged_in, judged_key, key_judged, judged_as};
+
+use crate::clause::{judge_clause, nothing};
+use crate::family::{Family, family_of, is_expression};
+use crate::own::is_own_type;
+use crate::reads::node_reads;
+use crate::role::Role;
+use call_rules::judge_call;
+use decl_rules::{declared_name, judge_decl};
+use go_tree::{Node, NodeRef};
+use gv_base::NoMemory;
+use literal_rules::{KeyRole, judge_literal, key_role};
+use op_rules::judge_op;
+use primary_rules::judge_primary;
+use rule_words::good::{broken, silent};
+use rule_words::{Seen, Step, Wanted, wanted_by};
+use std::alloc::Global;
+use type_answers::{ask_mark, ask_parts};
+use type_questions::Found;
+use typed_marks::{Item, Mark, Stage, State, Want};
+use typed_tree::{NOT_A_TYPE, Want as Demand};
+use unit_read::Subject;
+use variable_rules::judge_variables;
+
+#[tactic(auto, using(type_answers::proofs::ComingLaws::same_comes))]
+fn judge_by(
+    alloc: Global,
+    u: &Subject,
+    s: &State,
+    by: Family,
+    block: usize,
+    at: NodeRef,
+    node: &Node,
+    list: &[Seen],
+    w: Wanted,
+) -> Result<Step, NoMemory>
+    requires scene { IsScene u.now s.now }
+    requires parts { AreSeenOf s.now list.now }
+    requires wanted { IsWantedOf s.now w }
+    ensures comes { IfOk result (ComesTo u.now s.now (rule_by by (unit_of u.now) block at node.now (parts_in s.now list.now) (wanted_of s.now w))) }
+    ensures over { IfOk result (IsStepOf s.now) }
+{
+    match by {
+        Family::Operand => {
+            let step = judge_op(alloc, u, s, block, at, node, list, w)?;
+            Ok(step)
+        }
+        Family::Primary => {
+            let step = judge_primary(alloc, u, s, block, at, node, list, w)?;
+            Ok(step)
+        }
+        Family::Call => {
+            let step = judge_call(alloc, u, s, block, at, node, list, w)?;
+            Ok(step)
+        }
+        Family::Literal => {
+            let step = judge_literal(alloc, u, s, block, at, node, list, w)?;
+            Ok(step)
+        }
+        Family::Type => {
+            let step = judge_decl(alloc, u, s, block, at, node, list, w)?;
+            Ok(step)
+        }
+        Family::Variable => Ok(judge_variables(u, s, block, at, node, list, w)),
+        Family::Declaration => {
+            let step = judge_decl(alloc, u, s, block, at, node, list, w)?;
+            Ok(step)
+        }
+        Family::Clause => {
+            let step = judge_clause(alloc, u, s, at.file)?;
+            Ok(step)
+        }
+        Family::Other => Ok(silent()),
+    }
+}
+
+fn from_parts(
+    alloc: Global,
+    u: &Subject,
+    s: &State,
+    block: usize,
+    at: NodeRef,
+    node: &Node,
+    w: Wanted,
+    list: &[Seen],
+) -> Result<Step, NoMemory>
+    requires scene { IsScene u.now s.now }
+    requires wanted { IsWantedOf s.now w }
+    requires parts { AreSeenOf s.now list.now }
+    ensures comes { IfOk result (ComesTo u.now s.now (from_parts (unit_of u.now) block at node.now (wanted_of s.now w) (parts_in s.now list.now))) }
+    ensures over { IfOk result (IsStepOf s.now) }
+{
+    let by = family_of(node.kind);
+    let step = judge_by(alloc, u, s, by, block, at, node, list, w)?;
+    Ok(step)
+}
+
+/// The parts of a node, as they are read at a stage.
+fn read_parts(
+    alloc: Global,
+    u: &Subject,
+    s: &State,
+    stage: Stage,
+    block: usize,
+    at: NodeRef,
+    node: &Node,
+) -> Result<Found<Vec<Seen>, Item>, NoMemory>
+    requires { IsScene u.now s.now }
+    ensures is { IfOk result (FoundBy u.now s.now (λ (v : Vec Seen). parts_in s.now v.items) (parts_read (unit_of u.now) stage block at node.now)) }
+    ensures over { IfOk result (λ found. IfFound found (λ v. AreSeenOf s.now v.items)) }
+{
+    let reads = node_reads(alloc, u.nodes_at(at.file), node)?;
+    let found = ask_parts(alloc, u, s, stage, block, &reads)?;
+    Ok(found)
+}
+
+/// Reads the parts of a node at a stage, and judges it with what its place wants.
+#[tactic(auto, using(type_answers::proofs::ComingLaws::bind_waits))]
+fn with_parts(
+    alloc: Global,
+    u: &Subject,
+    s: &State,
+    stage: Stage,
+    block: usize,
+    at: NodeRef,
+    node: &Node,
+    w: Wanted,
+) -> Result<Step, NoMemory>
+    requires scene { IsScene u.now s.now }
+    requires wanted { IsWantedOf s.now w }
+    ensures comes { IfOk result (ComesTo u.now s.now (with_parts (unit_of u.now) stage block at node.now (wanted_of s.now w))) }
+    ensures over { IfOk result (IsStepOf s.now) }
+{
+    let found = read_parts(alloc, u, s, stage, block, at, node)?;
+    match found {
+        Found::Is(list) => {
+            let step = from_parts(alloc, u, s, block, at, node, w, &list)?;
+            Ok(step)
+        }
+        Found::Wait(item) => Ok(Step::Waits(item)),
+    }
+}
+
+/// An expression or a type before anything is wanted of it.
+#[tactic(auto, using(type_answers::proofs::ComingLaws::same_comes))]
+fn before_in(
+    alloc: Global,
+    u: &Subject,
+    s: &State,
+    block: usize,
+    at: NodeRef,
+    node: &Node,
+) -> Result<Step, NoMemory>
+    requires { IsScene u.now s.now }
+    ensures comes { IfOk result (ComesTo u.now s.now (before_in (unit_of u.now) block at node.now)) }
+    ensures over { IfOk result (IsStepOf s.now) }
+{
+    if !is_expression(family_of(node.kind)) {
+        return Ok(silent());
+    }
+    let nothing = Wanted {
+        demand: Demand::Nothing,
+        want: Want::Free,
+    };
+    let step = with_parts(alloc, u, s, Stage::Before, block, at, node, nothing)?;
+    Ok(step)
+}
+
+/// A node before a type is wanted of it.
+#[tactic(auto, using(type_answers::proofs::ComingLaws::same_comes))]
+pub fn before(
+    alloc: Global,
+    u: &Subject,
+    s: &State,
+    role: Role,
+    block: usize,
+    at: NodeRef,
+    node: &Node,
+) -> Result<Step, NoMemory>
+    requires { IsScene u.now s.now }
+    ensures comes { IfOk result (ComesTo u.now s.now (before_as role (unit_of u.now) block at node.now)) }
+    ensures over { IfOk result (IsStepOf s.now) }
+{
+    match role {
+        Role::Part => {
+            let step = before_in(alloc, u, s, block, at, node)?;
+            Ok(step)
+        }
+        Role::Key => Ok(silent()),
+        Role::Declared => Ok(silent()),
+        Role::Untold => Ok(silent()),
+    }
+}
+
+/// A node with what is wanted of it, over its parts in their places.
+#[tactic(auto, using(type_answers::proofs::ComingLaws::same_comes))]
+fn judged_wanting(
+    alloc: Global,
+    u: &Subject,
+    s: &State,
+    block: usize,
+    at: NodeRef,
+    node: &Node,
+    w: Wanted,
+) -> Result<Step, NoMemory>
+    requires scene { IsScene u.now s.now }
+    requires wanted { IsWantedOf s.now w }
+    ensures comes { IfOk result (ComesTo u.now s.now (judged_wanting (unit_of u.now) block at node.now (wanted_of s.now w))) }
+    ensures over { IfOk result (IsStepOf s.now) }
+{
+    if is_own_type(u, s, at, node, w) {
+        return Ok(broken(NOT_A_TYPE));
+    }
+    let step = with_parts(alloc, u, s, Stage::Placed, block, at, node, w)?;
+    Ok(step)
+}
+
+fn judged_with(
+    alloc: Global,
+    u: &Subject,
+    s: &State,
+    block: usize,
+    at: NodeRef,
+    node: &Node,
+    m: Mark,
+) -> Result<Step, NoMemory>
+    requires scene { IsScene u.now s.now }
+    requires mark { IsMarkOf s.now m }
+    ensures comes { IfOk result (ComesTo u.now s.now (judged_with (unit_of u.now) block at node.now (said s.now m))) }
+    ensures over { IfOk result (IsStepOf s.now) }
+{
+    let w = wanted_by(s, m);
+    let step = judged_wanting(alloc, u, s, block, at, node, w)?;
+    Ok(step)
+}
+
+#[tactic(auto, using(type_answers::proofs::ComingLaws::bind_comes, type_answers::proofs::ComingLaws::bind_waits))]
+fn judged_in(
+    alloc: Global,
+    u: &Subject,
+    s: &State,
+    block: usize,
+    at: NodeRef,
+    node: &Node,
+) -> Result<Step, NoMemory>
+    requires { IsScene u.now s.now }
+    ensures comes { IfOk result (ComesTo u.now s.now (judged_in (unit_of u.now) block at node.now)) }
+    ensures over { IfOk result (IsStepOf s.now) }
+{
+    match ask_mark(u, s, Stage::Wanted, block, at.node) {
+        Found::Is(m) => {
+            let step = judged_with(alloc, u, s, block, at, node, m)?;
+            Ok(step)
+        }
+        Found::Wait(item) => Ok(Step::Waits(item)),
+    }
+}
+
+#[tactic(auto, using(type_answers::proofs::ComingLaws::same_comes))]
+fn judged_key(
+    alloc: Global,
+    u: &Subject,
+    s: &State,
+    block: usize,
+    at: NodeRef,
+    node: &Node,
+    key: KeyRole,
+) -> Result<Step, NoMemory>
+    requires { IsScene u.now s.now }
+    ensures comes { IfOk result (ComesTo u.now s.now (judged_key (unit_of u.now) block at node.now key)) }
+    ensures over { IfOk result (IsStepOf s.now) }
+{
+    match key {
+        KeyRole::Field => Ok(nothing(s)),
+        KeyRole::Use => {
+            let step = judged_in(alloc, u, s, block, at, node)?;
+            Ok(step)
+        }
+        KeyRole::Unknown => Ok(silent()),
+    }
+}
+
+/// What a name before a colon is, or the item for which that waits.
+#[tactic(auto, using(type_answers::proofs::ComingLaws::same_found))]
+fn key_of(u: &Subject, s: &State, block: usize, at: NodeRef) -> Found<KeyRole, Item>
+    requires { IsScene u.now s.now }
+    ensures { FoundBy u.now s.now (λ role. role) (key_role (unit_of u.now) block at) result }
+{
+    key_role(u, s, block, at)
+}
+
+/// A name before a colon.
+#[tactic(auto, using(type_answers::proofs::ComingLaws::bind_comes, type_answers::proofs::ComingLaws::bind_waits))]
+fn key_judged(
+    alloc: Global,
+    u: &Subject,
+    s: &State,
+    block: usize,
+    at: NodeRef,
+    node: &Node,
+) -> Result<Step, NoMemory>
+    requires { IsScene u.now s.now }
+    ensures comes { IfOk result (ComesTo u.now s.now (key_judged (unit_of u.now) block at node.now)) }
+    ensures over { IfOk result (IsStepOf s.now) }
+{
+    match key_of(u, s, block, at) {
+        Found::Is(key) => {
+            let step = judged_key(alloc, u, s, block, at, node, key)?;
+            Ok(step)
+        }
+        Found::Wait(item) => Ok(Step::Waits(item)),
+    }
+}
+
+/// A node of which that is wanted what its place wants.
+#[tactic(auto, using(type_answers::proofs::ComingLaws::same_comes))]
+pub fn judged(
+    alloc: Global,
+    u: &Subject,
+    s: &State,
+    role: Role,
+    block: usize,
+    at: NodeRef,
+    node: &Node,
+) -> Result<Step, NoMemory>
+    requires { IsScene u.now s.now }
+    ensures comes { IfOk result (ComesTo u.now s.now (judged_as role (unit_of u.now) block at node.now)) }
+    ensures over { IfOk result (IsStepOf s.now) }
+{
+    match role {
+        Role::Part => {
+            let step = judged_in(alloc, u, s, block, at, node)?;
+            Ok(step)
+        }
+        Role::Key => {
+            let step = key_judged(alloc, u, s, block, at, node)?;
+            Ok(step)
+        }
+        Role::Declared => Ok(declared_name(u, s, at)),
+        Role::Untold => Ok(silent()),
+    }
+}

@@ -1,5 +1,0 @@
-use Rattle.type_model.specs.Tables.{IsTable}
-use Rattle.method_tests.proofs.method_sets_tests.selects_by_the_shortest_path.Given as goal
-
-abbrev pub invariant-loop-of : goal.invariant-loop-of
-invariant-loop-of g l = IsTable l.table

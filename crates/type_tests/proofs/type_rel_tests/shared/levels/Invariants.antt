@@ -1,5 +1,0 @@
-use Rattle.type_model.specs.Tables.{IsTable}
-use Rattle.type_tests.proofs.type_rel_tests.shared.levels.Given as goal
-
-abbrev pub invariant-loop-level : goal.invariant-loop-level
-invariant-loop-level l = IsTable l.table
