@@ -91,25 +91,25 @@ fn number(spot: Spot, numbers: &mut SpotRows, found: &mut Vec<Spot>) -> Result<u
     }
 }
 
-/// The numbers of these spots.
+/// The numbers of these spots, in place of what the row had.
 fn row_of(
-    alloc: Global,
     these: &Vec<Spot>,
     numbers: &mut SpotRows,
     found: &mut Vec<Spot>,
-) -> Result<Vec<u32>, NoMemory>
+    row: &mut Vec<u32>,
+) -> Result<(), NoMemory>
     requires { AreNumbered numbers.old found.old.items }
     ensures finds { OnOk result (Finds numbers.new found.old.items found.new.items these.now.items) }
-    ensures row { IfOk result (λ row. IsRowOf found.new.items row.items these.now.items) }
+    ensures row { OnOk result (IsRowOf found.new.items row.new.items these.now.items) }
 {
-    let mut row = Vec::new(alloc);
+    row.clear();
     let end = height(these);
     for k in 0..end {
         let spot = spot_in(these, k);
         let number = number(spot, numbers, found)?;
         row.push(number)?;
     }
-    Ok(row)
+    Ok(())
 }
 
 /// A spot by its number.
@@ -120,11 +120,12 @@ fn spot_in(found: &Vec<Spot>, at: usize) -> Spot
     found[at]
 }
 
-/// Adds the row of a spot to the graph.
+/// Adds the row of a spot to the graph. What is lent for where the search goes on, and for its numbers, serves one spot after another.
 fn add_row(
-    alloc: Global,
     view: &View,
     spot: Spot,
+    next: &mut Vec<Spot>,
+    row: &mut Vec<u32>,
     numbers: &mut SpotRows,
     found: &mut Vec<Spot>,
     graph: Graph,
@@ -133,9 +134,9 @@ fn add_row(
     ensures finds { OnOk result (Finds numbers.new found.old.items found.new.items (moves_of (world_of view.now) spot)) }
     ensures row { IfOk result (λ longer. AddsRow found.new.items (moves_of (world_of view.now) spot) graph longer) }
 {
-    let next = moves(alloc, view, spot)?;
-    let row = row_of(alloc, &next, numbers, found)?;
-    let longer = graph.with(&row)?;
+    moves(view, spot, next)?;
+    row_of(next, numbers, found, row)?;
+    let longer = graph.with(row)?;
     Ok(longer)
 }
 
@@ -145,12 +146,22 @@ pub fn explore(alloc: Global, view: &View, seeds: &Vec<Spot>) -> Result<Explored
 {
     let mut numbers = SpotRows::new(alloc, view.trees)?;
     let mut found = Vec::new(alloc);
-    let first = row_of(alloc, seeds, &mut numbers, &mut found)?;
+    let mut next = Vec::new(alloc);
+    let mut row = Vec::new(alloc);
+    row_of(seeds, &mut numbers, &mut found, &mut row)?;
     let mut graph = Graph::new(alloc)?;
     let mut done = 0usize;
     while done < height(&found) {
         let spot = spot_in(&found, done);
-        graph = add_row(alloc, view, spot, &mut numbers, &mut found, graph)?;
+        graph = add_row(
+            view,
+            spot,
+            &mut next,
+            &mut row,
+            &mut numbers,
+            &mut found,
+            graph,
+        )?;
         done += 1;
     }
     Ok(Explored {

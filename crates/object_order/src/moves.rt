@@ -1,5 +1,5 @@
 //! Where the search goes on from a spot.
-ghost use Rattle.std.specs.Prelude.{◌≡◌, ◌==◌, ◌++◌, IfOk, OnOk};
+ghost use Rattle.std.specs.Prelude.{◌≡◌, ◌==◌, ◌++◌, OnOk};
 ghost use Rattle.std.specs.List.{flat_map};
 ghost use Rattle.object_order.specs.Spots.{down, into, across, under, from_root, first_part, to_kin, beside, moves as moves_of};
 ghost use Rattle.object_order.specs.Views.{world_of};
@@ -9,7 +9,6 @@ use crate::tables::{lay_crossing, lay_descent, lay_entry, lay_kin};
 use crate::view::{View, entry_at, kin_at, meant_at};
 use go_tree::{Node, NodeRef, node_in};
 use gv_base::NoMemory;
-use std::alloc::Global;
 
 fn first_of(node: &Node) -> u32
     ensures { result ≡ first_part node.now }
@@ -119,14 +118,14 @@ fn go_beside(view: &View, spot: Spot, row: &mut Vec<Spot>) -> Result<(), NoMemor
     go_to_all(view, spot.mode, kin, row)
 }
 
-/// Where the search goes on from a spot.
-pub fn moves(alloc: Global, view: &View, spot: Spot) -> Result<Vec<Spot>, NoMemory>
-    ensures { IfOk result (λ moves. moves.items ≡ moves_of (world_of view.now) spot) }
+/// Where the search goes on from a spot, in place of what the row had.
+pub fn moves(view: &View, spot: Spot, row: &mut Vec<Spot>) -> Result<(), NoMemory>
+    ensures { OnOk result (row.new.items ≡ moves_of (world_of view.now) spot) }
 {
-    let mut row = Vec::new(alloc);
-    go_into(view, spot, &mut row)?;
-    go_across(view, spot, &mut row)?;
-    go_under(view, spot, &mut row)?;
-    go_beside(view, spot, &mut row)?;
-    Ok(row)
+    row.clear();
+    go_into(view, spot, row)?;
+    go_across(view, spot, row)?;
+    go_under(view, spot, row)?;
+    go_beside(view, spot, row)?;
+    Ok(())
 }

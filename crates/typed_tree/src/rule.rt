@@ -18,8 +18,17 @@ pub const UNDEFINED: Rule = Rule(3);
 /// E4 declaration cycle
 pub const DECLARATION_CYCLE: Rule = Rule(4);
 
+/// E5 initialisation cycle
+pub const INITIALISATION_CYCLE: Rule = Rule(5);
+
+/// E6 unused variable
+pub const UNUSED_VARIABLE: Rule = Rule(6);
+
 /// E7 unused import
 pub const UNUSED_IMPORT: Rule = Rule(7);
+
+/// E8 no new variable
+pub const NO_NEW_VARIABLE: Rule = Rule(8);
 
 /// E9 not exported by package
 pub const NOT_EXPORTED_BY_PACKAGE: Rule = Rule(9);
@@ -135,6 +144,9 @@ pub const CONVERSION_TAKES_ONE_ARGUMENT: Rule = Rule(54);
 /// E55 bad built-in argument
 pub const BAD_BUILTIN_ARGUMENT: Rule = Rule(55);
 
+/// E56 built-in must be called
+pub const BUILTIN_MUST_BE_CALLED: Rule = Rule(56);
+
 /// E60 bad literal type
 pub const BAD_LITERAL_TYPE: Rule = Rule(60);
 
@@ -159,8 +171,68 @@ pub const BAD_INDEX_KEY: Rule = Rule(66);
 /// E67 implicit field not exported
 pub const IMPLICIT_FIELD_NOT_EXPORTED: Rule = Rule(67);
 
+/// E70 not a statement
+pub const NOT_A_STATEMENT: Rule = Rule(70);
+
+/// E71 not a call
+pub const NOT_A_CALL: Rule = Rule(71);
+
+/// E72 cannot assign
+pub const CANNOT_ASSIGN: Rule = Rule(72);
+
+/// E73 wrong number of operands
+pub const WRONG_NUMBER_OF_OPERANDS: Rule = Rule(73);
+
+/// E76 condition is not boolean
+pub const CONDITION_IS_NOT_BOOLEAN: Rule = Rule(76);
+
+/// E77 cannot send
+pub const CANNOT_SEND: Rule = Rule(77);
+
 /// E78 cannot receive
 pub const CANNOT_RECEIVE: Rule = Rule(78);
+
+/// E79 cannot range
+pub const CANNOT_RANGE: Rule = Rule(79);
+
+/// E80 too many range variables
+pub const TOO_MANY_RANGE_VARIABLES: Rule = Rule(80);
+
+/// E81 duplicate case
+pub const DUPLICATE_CASE: Rule = Rule(81);
+
+/// E85 second default
+pub const SECOND_DEFAULT: Rule = Rule(85);
+
+/// E86 bad select case
+pub const BAD_SELECT_CASE: Rule = Rule(86);
+
+/// E87 wrong number of results
+pub const WRONG_NUMBER_OF_RESULTS: Rule = Rule(87);
+
+/// E88 result is shadowed
+pub const RESULT_IS_SHADOWED: Rule = Rule(88);
+
+/// E89 missing return
+pub const MISSING_RETURN: Rule = Rule(89);
+
+/// E90 label undefined
+pub const LABEL_UNDEFINED: Rule = Rule(90);
+
+/// E91 label unused
+pub const LABEL_UNUSED: Rule = Rule(91);
+
+/// E93 jump over variable
+pub const JUMP_OVER_VARIABLE: Rule = Rule(93);
+
+/// E94 jump into block
+pub const JUMP_INTO_BLOCK: Rule = Rule(94);
+
+/// E95 misplaced break or continue
+pub const MISPLACED_BREAK_OR_CONTINUE: Rule = Rule(95);
+
+/// E96 misplaced fallthrough
+pub const MISPLACED_FALLTHROUGH: Rule = Rule(96);
 
 /// E97 not constant
 pub const NOT_CONSTANT: Rule = Rule(97);

@@ -61,7 +61,7 @@ fn is_one_for_many(nodes: &[Node], slot: usize, node: &Node) -> bool
 
 // ---- what may give several values
 
-fn is_paren(kind: NodeKind) -> bool
+pub fn is_paren(kind: NodeKind) -> bool
     ensures { result ≡ is_paren kind }
 {
     match kind {
@@ -106,7 +106,7 @@ fn deepest() -> usize
 }
 
 /// What stands in parentheses.
-fn bare(nodes: &[Node], n: u32) -> u32
+pub fn bare(nodes: &[Node], n: u32) -> u32
     ensures { result ≡ bare nodes.now n }
 {
     let mut at = n;
@@ -131,7 +131,7 @@ fn may_give_several(receives: bool, kind: NodeKind) -> bool
     }
 }
 
-fn is_receive(u: &Subject, file: u32, node: &Node) -> bool
+pub fn is_receive(u: &Subject, file: u32, node: &Node) -> bool
     ensures { result ≡ is_receive (unit_of u.now) file node.now }
 {
     u.spelled(file, node.first) == b"<-".as_slice()

@@ -10,9 +10,11 @@ mod several;
 mod sharing;
 mod wants;
 
-pub use forms::variable_reads;
-pub use objects::judge_variable_object;
+pub use forms::{
+    bare, is_paren, is_receive, name_count, shared_value, value_count, variable_reads,
+};
+pub use objects::{by_value as object_by_value, judge_variable_object, valued as valued_object};
 pub use rules::judge_variables;
-pub use several::given_to;
+pub use several::{given_to, results_of};
 pub use sharing::{is_shared, judge_shared};
 pub use wants::want_variable;

@@ -73,7 +73,7 @@ fn valued_told(s: &State, m: Mark) -> Step
     }
 }
 
-fn valued(u: &Subject, s: &State, file: u32, n: u32) -> Step
+pub fn valued(u: &Subject, s: &State, file: u32, n: u32) -> Step
     requires { IsScene u.now s.now }
     ensures is { step_in s.now result ≡ tell (so_far s.now) (valued_object (unit_of u.now) file n) }
     ensures over { IsStepOf s.now result }
@@ -152,7 +152,7 @@ fn by_own(
     }
 }
 
-fn by_value(
+pub fn by_value(
     u: &Subject,
     s: &State,
     file: u32,

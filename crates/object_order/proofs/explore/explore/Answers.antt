@@ -10,7 +10,7 @@ row_of-requires c = numbered_none c.in_ok-numbers.numbers c.new-found.result.ite
 pub loop-done-init : goal.loop-done-init
 loop-done-init c =
     goes_first (moves (world_of c.args.view.now)) c.args.seeds.now.items c.row_of.new.found.items c.new-found.result.items c.row_of.new.numbers _ c.in_ok-graph.graph
-    c.new-found.ensures.items c.in_ok-first.ensures.finds c.in_ok-first.ensures.row c.in_ok-graph.ensures
+    c.new-found.ensures.items c.in_ok-row_of.ensures.finds c.in_ok-row_of.ensures.row c.in_ok-graph.ensures
 
 pub loop-done-preserved : goal.loop-done-preserved
 loop-done-preserved c =

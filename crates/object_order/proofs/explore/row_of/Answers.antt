@@ -10,7 +10,7 @@ loop-k-preserved c = record {
 }
 
 pub loop-k-init : goal.loop-k-init
-loop-k-init c = record { finds = finds_itself c.args.numbers.now c.args.found.now.items _ c.requires; row = row_none c.args.found.now.items _ c.new-row.ensures.items }
+loop-k-init c = record { finds = finds_itself c.args.numbers.now c.args.found.now.items _ c.requires; row = row_none c.args.found.now.items _ c.clear.ensures.items }
 
 pub returns : goal.returns
 returns c = record {
