@@ -1,0 +1,11 @@
+pub mod Around
+pub mod Assigning
+pub mod InCode
+pub mod Kinds
+pub mod Objects
+pub mod Ranging
+pub mod Selecting
+pub mod Sending
+pub mod Sharing
+pub mod Single
+pub mod Words

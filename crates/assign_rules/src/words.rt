@@ -1,0 +1,283 @@
+//! Words of the rules of statements.
+ghost use Rattle.std.specs.Prelude.{◌≡◌, true, option_map};
+ghost use Rattle.mark_walk.specs.Telling.{tell, Says};
+ghost use Rattle.type_model.specs.GoTypes.{type_of};
+ghost use Rattle.type_model.specs.Tables.{types_in};
+ghost use Rattle.type_rel.specs.Kinds.{is_integer, is_untyped};
+ghost use Rattle.type_rel.specs.Terms.{kind_of};
+ghost use Rattle.typed_tree.specs.Basics.{HasBasics};
+ghost use Rattle.typed_tree.specs.Operands.{is_boolean};
+ghost use Rattle.typed_marks.specs.States.{so_far};
+ghost use Rattle.unit_read.specs.Subjects.{unit_of};
+ghost use Rattle.typed_marks.specs.Meanings.{Right};
+ghost use Rattle.rule_words.specs.Answers.{is_plain};
+ghost use Rattle.rule_words.specs.Good.{known_of, AreFactsOf};
+ghost use Rattle.rule_words.specs.Words.{nothing};
+ghost use Rattle.rule_words.specs.Scenes.{IsScene, told_by, IfFound, said, IsMarkOf, type_in, IsTypeOf, MayBeTypeOf};
+ghost use Rattle.rule_words.specs.Steps.{step_in, IsStepOf};
+ghost use Rattle.assign_rules.specs.InCode.{wish_of, IsWishOf};
+ghost use Rattle.assign_rules.specs.Words.{holds, held_if, settled, settled_if, variable, is_nil_mode, is_type_mode, is_builtin_mode, is_of, is_interface, takes_default, default_of, own_default, loose_operand};
+
+use gv_base::Kind;
+use rule_words::good::{basic_type, broken, good, known};
+use rule_words::{Step, default_kind, look};
+use type_model::{Term, TypeId};
+use type_questions::Found;
+use type_rel::{has_integers, is_free};
+use typed_marks::{Facts, Item, Mark, Stage, State, Want};
+use typed_tree::{BAD_SELECT_CASE, Mode, Rule, Want as Demand};
+use unit_read::Subject;
+
+fn nothing_facts(s: &State) -> Facts
+    requires { HasBasics s.now.table }
+    ensures is { Right (known_of s.now result) ≡ nothing }
+    ensures over { AreFactsOf s.now result }
+{
+    let of = basic_type(s, Kind::UntypedNil);
+    Facts {
+        mode: Mode::NoValue,
+        of,
+        value: None,
+        last: of,
+    }
+}
+
+/// The mark of what has no value.
+pub fn nothing_mark(s: &State) -> Mark
+    requires { HasBasics s.now.table }
+    ensures is { said s.now result ≡ nothing }
+    ensures over { IsMarkOf s.now result }
+    ensures plain { is_plain result ≡ true }
+{
+    Mark::Good(nothing_facts(s))
+}
+
+/// A statement that holds has no value.
+pub fn holds(s: &State) -> Step
+    requires { HasBasics s.now.table }
+    ensures is { step_in s.now result ≡ tell (so_far s.now) holds }
+    ensures over { IsStepOf s.now result }
+{
+    good(nothing_facts(s))
+}
+
+/// The statement holds, or breaks this rule.
+pub fn held_if(s: &State, b: bool, rule: Rule) -> Step
+    requires { HasBasics s.now.table }
+    ensures is { step_in s.now result ≡ tell (so_far s.now) (held_if b rule) }
+    ensures over { IsStepOf s.now result }
+{
+    if b { holds(s) } else { broken(rule) }
+}
+
+fn settled(s: &State, bad: bool) -> Step
+    requires { HasBasics s.now.table }
+    ensures is { step_in s.now result ≡ tell (so_far s.now) (settled bad) }
+    ensures over { IsStepOf s.now result }
+{
+    held_if(s, !bad, BAD_SELECT_CASE)
+}
+
+/// A test before that of where the statement stands: E86.
+pub fn settled_if(s: &State, b: bool, rule: Rule, bad: bool) -> Step
+    requires { HasBasics s.now.table }
+    ensures is { step_in s.now result ≡ tell (so_far s.now) (settled_if b rule bad) }
+    ensures over { IsStepOf s.now result }
+{
+    if b { settled(s, bad) } else { broken(rule) }
+}
+
+/// A variable of a type.
+pub fn variable(s: &State, of: TypeId) -> Step
+    requires { IsTypeOf s.now of }
+    ensures is { step_in s.now result ≡ Says (variable (type_in s.now of)) }
+    ensures over { IsStepOf s.now result }
+{
+    let _ = s;
+    good(Facts {
+        mode: Mode::Variable,
+        of,
+        value: None,
+        last: of,
+    })
+}
+
+// ---- modes
+
+pub fn is_nil_mode(mode: Mode) -> bool
+    ensures { result ≡ is_nil_mode mode }
+{
+    matches!(mode, Mode::Nil)
+}
+
+pub fn is_type_mode(mode: Mode) -> bool
+    ensures { result ≡ is_type_mode mode }
+{
+    matches!(mode, Mode::TypeName)
+}
+
+pub fn is_builtin_mode(mode: Mode) -> bool
+    ensures { result ≡ is_builtin_mode mode }
+{
+    matches!(mode, Mode::Builtin)
+}
+
+// ---- types
+
+fn kind_in(s: &State, term: &Term) -> Option<Kind>
+    ensures { result ≡ kind_of (type_of (types_in s.now.table) term.now) }
+{
+    let _ = s;
+    match term {
+        Term::Basic(kind) => Some(*kind),
+        Term::Defined(_) => None,
+        Term::Pointer(_) => None,
+        Term::Slice(_) => None,
+        Term::Array(_, _) => None,
+        Term::Map(_, _) => None,
+        Term::Chan(_, _) => None,
+        Term::Func(_) => None,
+        Term::Struct(_) => None,
+        Term::Interface(_) => None,
+    }
+}
+
+/// The kind of a basic type.
+pub fn kind_of(s: &State, t: TypeId) -> Option<Kind>
+    requires basics { HasBasics s.now.table }
+    requires within { IsTypeOf s.now t }
+    ensures { result ≡ kind_of (type_in s.now t) }
+{
+    kind_in(s, s.table.term(t))
+}
+
+/// An integer type.
+#[tactic(auto, unfolding(crate::specs::Words::is_of))]
+pub fn is_integer(s: &State, t: TypeId) -> bool
+    requires basics { HasBasics s.now.table }
+    requires within { IsTypeOf s.now t }
+    ensures { result ≡ is_of is_integer (type_in s.now t) }
+{
+    match kind_of(s, t) {
+        Some(kind) => has_integers(kind),
+        None => false,
+    }
+}
+
+/// An untyped type.
+#[tactic(auto, unfolding(crate::specs::Words::is_of))]
+pub fn is_untyped(s: &State, t: TypeId) -> bool
+    requires basics { HasBasics s.now.table }
+    requires within { IsTypeOf s.now t }
+    ensures { result ≡ is_of is_untyped (type_in s.now t) }
+{
+    match kind_of(s, t) {
+        Some(kind) => is_free(kind),
+        None => false,
+    }
+}
+
+fn has_truths(kind: Kind) -> bool
+    ensures { result ≡ is_boolean kind }
+{
+    matches!(kind, Kind::Bool | Kind::UntypedBool)
+}
+
+/// A boolean type.
+#[tactic(auto, unfolding(crate::specs::Words::is_of))]
+pub fn is_boolean(s: &State, t: TypeId) -> bool
+    requires basics { HasBasics s.now.table }
+    requires within { IsTypeOf s.now t }
+    ensures { result ≡ is_of is_boolean (type_in s.now t) }
+{
+    match kind_of(s, t) {
+        Some(kind) => has_truths(kind),
+        None => false,
+    }
+}
+
+/// An interface type.
+#[tactic(auto, unfolding(crate::specs::Words::is_interface))]
+pub fn is_interface(s: &State, t: TypeId) -> bool
+    requires basics { HasBasics s.now.table }
+    requires within { IsTypeOf s.now t }
+    ensures { result ≡ is_interface (type_in s.now t) }
+{
+    match s.table.term(t) {
+        Term::Basic(_) => false,
+        Term::Defined(_) => false,
+        Term::Pointer(_) => false,
+        Term::Slice(_) => false,
+        Term::Array(_, _) => false,
+        Term::Map(_, _) => false,
+        Term::Chan(_, _) => false,
+        Term::Func(_) => false,
+        Term::Struct(_) => false,
+        Term::Interface(_) => true,
+    }
+}
+
+/// An untyped operand takes its default type where this underlying type is wanted.
+#[tactic(auto, unfolding(crate::specs::Words::takes_default))]
+pub fn takes_default(s: &State, under: Option<TypeId>) -> bool
+    requires basics { HasBasics s.now.table }
+    requires under { MayBeTypeOf s.now under }
+    ensures { result ≡ takes_default (option_map (type_in s.now) under) }
+{
+    match under {
+        Some(under) => is_interface(s, under),
+        None => false,
+    }
+}
+
+// ---- wishes
+
+pub fn nothing_wanted() -> Mark
+    ensures { result ≡ Mark.Wants Demand.Nothing Want.Free }
+{
+    Mark::Wants(Demand::Nothing, Want::Free)
+}
+
+/// A single value.
+pub fn operand(want: Want) -> Mark
+    ensures { result ≡ Mark.Wants Demand.Operand want }
+{
+    Mark::Wants(Demand::Operand, want)
+}
+
+fn default_of(s: &State, of: TypeId) -> Want
+    requires basics { HasBasics s.now.table }
+    requires of { IsTypeOf s.now of }
+    ensures is { wish_of s.now result ≡ default_of (type_in s.now of) }
+    ensures within { IsWishOf s.now result }
+{
+    match kind_of(s, of) {
+        Some(kind) => Want::Takes(basic_type(s, default_kind(kind))),
+        None => Want::Free,
+    }
+}
+
+fn own_default(s: &State, own: Mark) -> Want
+    requires basics { HasBasics s.now.table }
+    requires own { IsMarkOf s.now own }
+    ensures is { wish_of s.now result ≡ own_default (said s.now own) }
+    ensures within { IsWishOf s.now result }
+{
+    match known(s, own) {
+        Some(x) => default_of(s, x.of),
+        None => Want::Free,
+    }
+}
+
+/// A single value whose type isn't known to be needed.
+#[tactic(auto, unfolding(crate::specs::Words::loose_operand))]
+pub fn loose_operand(u: &Subject, s: &State, block: usize, n: u32) -> Found<Mark, Item>
+    requires { IsScene u.now s.now }
+    ensures is { told_by (said s.now) result ≡ tell (so_far s.now) (loose_operand (unit_of u.now) block n) }
+    ensures over { IfFound result (IsMarkOf s.now) }
+{
+    match look(u, s, Stage::Before, block, n) {
+        Found::Is(own) => Found::Is(operand(own_default(s, own))),
+        Found::Wait(item) => Found::Wait(item),
+    }
+}

@@ -1,0 +1,2 @@
+mod DefaultLemmas
+mod SpecificationFacts
