@@ -153,6 +153,7 @@ pub record IsUnused (f : Given) (d : ℕ) : Type 0 where
 abbrev pub IsFaultIn : Given → LateRule → ℕ → Place → Type 0
 IsFaultIn f r.RedeclaredLabel n p = (flag_of f.repeated n ≡ true) × (p ≡ place_of f n)
 IsFaultIn f r.UnusedVariable n p = IsUnused f n × (p ≡ place_of f n)
+IsFaultIn f r.ShadowedResult n p = (flag_of f.shadowed n ≡ true) × (p ≡ place_of f n)
 IsFaultIn f r.MissingReturn n p = IsUnfinished f n × (p ≡ brace_of f n)
 IsFaultIn f r.UndefinedLabel n p = (is_undefined f n ≡ true) × (p ≡ name_of f n)
 IsFaultIn f r.UnusedLabel n p = (flag_of f.unused n ≡ true) × (p ≡ place_of f n)

@@ -11,6 +11,7 @@ pub record Given : Type 0 where
   pub labels : List (Option ℕ)
   pub repeated : List Bool
   pub unused : List Bool
+  pub shadowed : List Bool
   pub panics : List Bool
   pub variables : List Bool
   pub meant : List (Option ℕ)
@@ -23,6 +24,7 @@ given f = record {
   labels = f.labels.now;
   repeated = f.repeated.now;
   unused = f.unused.now;
+  shadowed = f.shadowed.now;
   panics = f.panics.now;
   variables = f.variables.now;
   meant = f.meant.now;

@@ -9,8 +9,8 @@ use go_tree::{Node, Token};
 use gv_base::Place;
 
 /// What is given of a file: its nodes and tokens, the label of each name behind a jump, which nodes are labels that
-/// stand second or that no jump denotes, which are calls of `panic` and which declare variables, and the declaration
-/// that each use denotes.
+/// stand second or that no jump denotes, which are `return`s where a result is shadowed, which are calls of `panic`
+/// and which declare variables, and the declaration that each use denotes.
 #[derive(Clone, Copy, Drop)]
 pub struct File<'a> {
     pub number: u32,
@@ -19,6 +19,7 @@ pub struct File<'a> {
     pub labels: &'a [Option<usize>],
     pub repeated: &'a [bool],
     pub unused: &'a [bool],
+    pub shadowed: &'a [bool],
     pub panics: &'a [bool],
     pub variables: &'a [bool],
     pub meant: &'a [Option<usize>],

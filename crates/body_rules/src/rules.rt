@@ -147,6 +147,12 @@ fn unused_variable(v: &View, n: usize) -> Option<Place>
     place_if(is_unused(v, n), place_of(v.file, n))
 }
 
+fn shadowed_result(v: &View, n: usize) -> Option<Place>
+    ensures { IsAnswer (IsFaultIn (given v.now.file.now) r.ShadowedResult n) result }
+{
+    place_if(flag_at(v.file.shadowed, n), place_of(v.file, n))
+}
+
 fn missing_return(v: &View, n: usize) -> Option<Place>
     requires { IsRead v.now }
     ensures { IsAnswer (IsFaultIn (given v.now.file.now) r.MissingReturn n) result }
@@ -201,6 +207,7 @@ fn find(v: &View, rule: LateRule, n: usize) -> Option<Place>
     match rule {
         LateRule::RedeclaredLabel => redeclared_label(v, n),
         LateRule::UnusedVariable => unused_variable(v, n),
+        LateRule::ShadowedResult => shadowed_result(v, n),
         LateRule::MissingReturn => missing_return(v, n),
         LateRule::UndefinedLabel => undefined_label(v, n),
         LateRule::UnusedLabel => unused_label(v, n),

@@ -10,6 +10,7 @@ use Rattle.late_list.specs.declared.late.LateRule.TheVariants as r
 abbrev pub rule_number : LateRule → ℕ
 rule_number r.RedeclaredLabel = 1
 rule_number r.UnusedVariable = 6
+rule_number r.ShadowedResult = 88
 rule_number r.MissingReturn = 89
 rule_number r.UndefinedLabel = 90
 rule_number r.UnusedLabel = 91

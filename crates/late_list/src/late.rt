@@ -9,30 +9,33 @@ use gv_base::Place;
 /// A rule of bodies that is asked of each node once all names are bound.
 #[derive(Clone, Copy, Debug, PartialEq, Eq, Drop)]
 pub enum LateRule {
-    /// A label stands before it in its function.
+    /// E1: A label stands before it in its function.
     RedeclaredLabel,
-    /// No use of a local variable but on the left of an assignment.
+    /// E6: No use of a local variable but on the left of an assignment.
     UnusedVariable,
-    /// The body of a function with results may end.
+    /// E88: A `return` without values where a name of a result denotes something else.
+    ShadowedResult,
+    /// E89: The body of a function with results may end.
     MissingReturn,
-    /// A jump to a label that its function lacks.
+    /// E90: A jump to a label that its function lacks.
     UndefinedLabel,
-    /// No jump denotes a label.
+    /// E91: No jump denotes a label.
     UnusedLabel,
-    /// A `goto` over the declaration of a variable of its label's block.
+    /// E93: A `goto` over the declaration of a variable of its label's block.
     OverVariable,
-    /// A `goto` from outside of its label's block.
+    /// E94: A `goto` from outside of its label's block.
     IntoBlock,
-    /// A `break` or `continue` with nothing to leave or to go on with.
+    /// E95: A `break` or `continue` with nothing to leave or to go on with.
     MisplacedBranch,
-    /// A `fallthrough` that is no end of a clause, or of the last clause, of an expression switch.
+    /// E96: A `fallthrough` that is no end of a clause, or of the last clause, of an expression switch.
     MisplacedFallthrough,
 }
 
 /// All late rules.
-pub const RULES: [LateRule; 9] = [
+pub const RULES: [LateRule; 10] = [
     LateRule::RedeclaredLabel,
     LateRule::UnusedVariable,
+    LateRule::ShadowedResult,
     LateRule::MissingReturn,
     LateRule::UndefinedLabel,
     LateRule::UnusedLabel,
@@ -49,6 +52,7 @@ pub fn rule_number(rule: LateRule) -> u8
     match rule {
         LateRule::RedeclaredLabel => 1,
         LateRule::UnusedVariable => 6,
+        LateRule::ShadowedResult => 88,
         LateRule::MissingReturn => 89,
         LateRule::UndefinedLabel => 90,
         LateRule::UnusedLabel => 91,

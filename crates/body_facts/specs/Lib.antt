@@ -1,0 +1,4 @@
+pub mod LabelTables
+pub mod NameTables
+pub mod Facts
+pub mod Bodies

@@ -1,0 +1,4 @@
+pub mod AgainLemmas
+pub mod SeenLemmas
+pub mod KeyLemmas
+pub mod NodeLemmas

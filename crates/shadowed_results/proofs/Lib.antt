@@ -1,0 +1,5 @@
+pub mod TableLemmas
+pub mod ValueLemmas
+pub mod SweepLemmas
+pub mod ShadowLemmas
+pub mod ReturnLemmas

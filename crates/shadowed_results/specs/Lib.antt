@@ -1,0 +1,5 @@
+pub mod Kinds
+pub mod Stages
+pub mod Shadows
+pub mod Tables
+pub mod InCode
