@@ -1,2 +1,3 @@
 mod DeclareLemmas
+mod FunctionLemmas
 mod ReadLemmas

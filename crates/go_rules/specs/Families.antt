@@ -28,9 +28,14 @@ use Rattle.literal_rules.specs.Wants.{literal_wants}
 use Rattle.variable_rules.specs.Forms.{variable_reads}
 use Rattle.variable_rules.specs.Rules.{variable_rule}
 use Rattle.variable_rules.specs.Wants.{variable_wants}
+use Rattle.statement_rules.specs.Rules.{statement_reads, statement_rule}
+use Rattle.statement_rules.specs.Wants.{statement_wants}
+use Rattle.operator_statements.specs.Rules.{operation_reads, operation_rule, operation_wants}
 use Rattle.decl_rules.specs.Rules.{decl_reads, decl_rule}
 use Rattle.decl_rules.specs.Wants.{decl_wants}
 use Rattle.go_rules.specs.Clause.{clause_rule}
+use Rattle.go_rules.specs.Functions.{function_rule}
+use Rattle.go_rules.specs.Types.{type_rule}
 use Rattle.go_rules.specs.declared.family.Family.{Family}
 use Rattle.go_rules.specs.declared.family.Family.TheVariants as f
 
@@ -42,7 +47,6 @@ family k.Text = f.Operand
 family k.Float = f.Operand
 family k.Imag = f.Operand
 family k.Name = f.Operand
-family k.Paren = f.Operand
 family k.Binary = f.Operand
 family k.Selector = f.Primary
 family k.Index = f.Primary
@@ -55,12 +59,14 @@ family k.SliceHighMax = f.Primary
 family k.Assert = f.Primary
 family k.Star = f.Primary
 family k.Unary = f.Primary
+family k.Paren = f.Primary
 family k.Call = f.Call
 family k.CallSpread = f.Call
 family k.Composite = f.Literal
 family k.Value = f.Literal
 family k.KeyValue = f.Literal
 family k.DotsType = f.Literal
+family k.FuncLit = f.Function
 family k.SliceType = f.Type
 family k.ArrayType = f.Type
 family k.MapType = f.Type
@@ -99,6 +105,40 @@ family k.ImportGroup = f.Declaration
 family k.ImportPath = f.Declaration
 family k.ImportDot = f.Declaration
 family k.ImportNamed = f.Declaration
+family k.Block = f.Statement
+family k.List = f.Statement
+family k.Go = f.Statement
+family k.Defer = f.Statement
+family k.Return = f.Statement
+family k.Break = f.Statement
+family k.Continue = f.Statement
+family k.Goto = f.Statement
+family k.Fallthrough = f.Statement
+family k.Assign = f.Statement
+family k.Send = f.Statement
+family k.Increment = f.Statement
+family k.Decrement = f.Statement
+family k.Define = f.Statement
+family k.Label = f.Statement
+family k.If = f.Statement
+family k.Switch = f.Statement
+family k.TypeSwitch = f.Statement
+family k.Select = f.Statement
+family k.For = f.Statement
+family k.ForClause = f.Statement
+family k.ForRange = f.Statement
+family k.ForRangeAssign = f.Statement
+family k.ForRangeDefine = f.Statement
+family k.Case = f.Statement
+family k.Default = f.Statement
+family k.TypeCase = f.Statement
+family k.TypeList = f.Statement
+family k.Comm = f.Statement
+family k.Condition = f.Statement
+family k.Post = f.Statement
+family k.TypeGuard = f.Statement
+family k.Bind = f.Statement
+family k.OpAssign = f.Operation
 family k.Package = f.Clause
 family _ = f.Other
 
@@ -108,9 +148,12 @@ is_told f.Operand = true
 is_told f.Primary = true
 is_told f.Call = true
 is_told f.Literal = true
+is_told f.Function = true
 is_told f.Type = true
 is_told f.Variable = true
 is_told f.Declaration = true
+is_told f.Statement = true
+is_told f.Operation = true
 is_told f.Clause = true
 is_told f.Other = false
 
@@ -120,9 +163,12 @@ is_expression f.Operand = true
 is_expression f.Primary = true
 is_expression f.Call = true
 is_expression f.Literal = true
+is_expression f.Function = true
 is_expression f.Type = true
 is_expression f.Variable = false
 is_expression f.Declaration = false
+is_expression f.Statement = false
+is_expression f.Operation = false
 is_expression f.Clause = false
 is_expression f.Other = false
 
@@ -132,9 +178,12 @@ reads_by f.Operand kind slot = op_reads kind slot
 reads_by f.Primary kind slot = primary_reads kind slot
 reads_by f.Call kind slot = call_reads kind slot
 reads_by f.Literal kind slot = literal_reads kind slot
+reads_by f.Function _ slot = None
 reads_by f.Type kind slot = decl_reads kind slot
 reads_by f.Variable kind slot = variable_reads kind slot
 reads_by f.Declaration kind slot = decl_reads kind slot
+reads_by f.Statement kind slot = statement_reads kind slot
+reads_by f.Operation kind slot = operation_reads kind slot
 reads_by f.Clause _ slot = None
 reads_by f.Other _ slot = None
 
@@ -148,9 +197,12 @@ rule_by f.Operand u block at node ps w = op_rule u block at node ps w
 rule_by f.Primary u block at node ps w = primary_rule u block at node ps w
 rule_by f.Call u block at node ps w = call_rule u block at node ps w
 rule_by f.Literal u block at node ps w = literal_rule u block at node ps w
-rule_by f.Type u block at node ps w = decl_rule u block at node ps w
+rule_by f.Function u block at node ps w = function_rule u block at node
+rule_by f.Type u block at node ps w = type_rule u block at node ps w
 rule_by f.Variable u block at node ps w = variable_rule u block at node ps w
 rule_by f.Declaration u block at node ps w = decl_rule u block at node ps w
+rule_by f.Statement u block at node ps w = statement_rule u block at node ps w
+rule_by f.Operation u block at node ps w = operation_rule u block at node ps w
 rule_by f.Clause u block at node ps w = clause_rule u at.file
 rule_by f.Other u block at node ps w = done Quiet
 
@@ -160,8 +212,11 @@ wants_by f.Operand u block p around = op_wants u block p around
 wants_by f.Primary u block p around = primary_wants u block p around
 wants_by f.Call u block p around = call_wants u block p around
 wants_by f.Literal u block p around = literal_wants u block p around
+wants_by f.Function u block p around = done (Wishes demand.Type Free)
 wants_by f.Type u block p around = decl_wants u block p around
 wants_by f.Variable u block p around = variable_wants u block p around
 wants_by f.Declaration u block p around = decl_wants u block p around
+wants_by f.Statement u block p around = statement_wants u block p around
+wants_by f.Operation u block p around = operation_wants u block p around
 wants_by f.Clause u block p around = done (Wishes demand.Nothing Free)
 wants_by f.Other u block p around = done (Wishes demand.Nothing Free)

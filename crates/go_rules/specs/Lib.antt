@@ -1,6 +1,9 @@
 pub mod Clause
 pub mod Families
+pub mod Functions
 pub mod Own
 pub mod Roles
 pub mod Slots
 pub mod Stages
+pub mod Statements
+pub mod Types

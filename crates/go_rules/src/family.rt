@@ -7,8 +7,10 @@ use decl_rules::decl_reads;
 use go_tree::NodeKind;
 use literal_rules::literal_reads;
 use op_rules::op_reads;
+use operator_statements::operation_reads;
 use primary_rules::primary_reads;
 use rule_words::How;
+use statement_rules::statement_reads;
 use variable_rules::variable_reads;
 
 /// What judges a node.
@@ -16,18 +18,24 @@ use variable_rules::variable_reads;
 pub enum Family {
     /// Operands and operators.
     Operand,
-    /// Selectors, indexes, slices, assertions, `*`, `&` and `<-`.
+    /// Selectors, indexes, slices, assertions, parentheses, `*`, `&` and `<-`.
     Primary,
     /// Calls and conversions.
     Call,
     /// Composite literals.
     Literal,
+    /// Function literals.
+    Function,
     /// The rules of declarations, for what may stand in an expression: a type.
     Type,
     /// Variables with values.
     Variable,
     /// The other declarations.
     Declaration,
+    /// Statements, and what stands for them in others.
+    Statement,
+    /// Assignment operations.
+    Operation,
     /// The package clause.
     Clause,
     /// Nothing is said of the node yet.
@@ -45,7 +53,6 @@ pub fn family_of(kind: NodeKind) -> Family
         NodeKind::Float => Family::Operand,
         NodeKind::Imag => Family::Operand,
         NodeKind::Name => Family::Operand,
-        NodeKind::Paren => Family::Operand,
         NodeKind::Binary => Family::Operand,
         NodeKind::Selector => Family::Primary,
         NodeKind::Index => Family::Primary,
@@ -58,12 +65,14 @@ pub fn family_of(kind: NodeKind) -> Family
         NodeKind::Assert => Family::Primary,
         NodeKind::Star => Family::Primary,
         NodeKind::Unary => Family::Primary,
+        NodeKind::Paren => Family::Primary,
         NodeKind::Call => Family::Call,
         NodeKind::CallSpread => Family::Call,
         NodeKind::Composite => Family::Literal,
         NodeKind::Value => Family::Literal,
         NodeKind::KeyValue => Family::Literal,
         NodeKind::DotsType => Family::Literal,
+        NodeKind::FuncLit => Family::Function,
         NodeKind::SliceType => Family::Type,
         NodeKind::ArrayType => Family::Type,
         NodeKind::MapType => Family::Type,
@@ -102,6 +111,40 @@ pub fn family_of(kind: NodeKind) -> Family
         NodeKind::ImportPath => Family::Declaration,
         NodeKind::ImportDot => Family::Declaration,
         NodeKind::ImportNamed => Family::Declaration,
+        NodeKind::Block => Family::Statement,
+        NodeKind::List => Family::Statement,
+        NodeKind::Go => Family::Statement,
+        NodeKind::Defer => Family::Statement,
+        NodeKind::Return => Family::Statement,
+        NodeKind::Break => Family::Statement,
+        NodeKind::Continue => Family::Statement,
+        NodeKind::Goto => Family::Statement,
+        NodeKind::Fallthrough => Family::Statement,
+        NodeKind::Assign => Family::Statement,
+        NodeKind::Send => Family::Statement,
+        NodeKind::Increment => Family::Statement,
+        NodeKind::Decrement => Family::Statement,
+        NodeKind::Define => Family::Statement,
+        NodeKind::Label => Family::Statement,
+        NodeKind::If => Family::Statement,
+        NodeKind::Switch => Family::Statement,
+        NodeKind::TypeSwitch => Family::Statement,
+        NodeKind::Select => Family::Statement,
+        NodeKind::For => Family::Statement,
+        NodeKind::ForClause => Family::Statement,
+        NodeKind::ForRange => Family::Statement,
+        NodeKind::ForRangeAssign => Family::Statement,
+        NodeKind::ForRangeDefine => Family::Statement,
+        NodeKind::Case => Family::Statement,
+        NodeKind::Default => Family::Statement,
+        NodeKind::TypeCase => Family::Statement,
+        NodeKind::TypeList => Family::Statement,
+        NodeKind::Comm => Family::Statement,
+        NodeKind::Condition => Family::Statement,
+        NodeKind::Post => Family::Statement,
+        NodeKind::TypeGuard => Family::Statement,
+        NodeKind::Bind => Family::Statement,
+        NodeKind::OpAssign => Family::Operation,
         NodeKind::Package => Family::Clause,
         _ => Family::Other,
     }
@@ -116,9 +159,12 @@ pub fn is_told(family: Family) -> bool
         Family::Primary => true,
         Family::Call => true,
         Family::Literal => true,
+        Family::Function => true,
         Family::Type => true,
         Family::Variable => true,
         Family::Declaration => true,
+        Family::Statement => true,
+        Family::Operation => true,
         Family::Clause => true,
         Family::Other => false,
     }
@@ -133,9 +179,12 @@ pub fn is_expression(family: Family) -> bool
         Family::Primary => true,
         Family::Call => true,
         Family::Literal => true,
+        Family::Function => true,
         Family::Type => true,
         Family::Variable => false,
         Family::Declaration => false,
+        Family::Statement => false,
+        Family::Operation => false,
         Family::Clause => false,
         Family::Other => false,
     }
@@ -150,9 +199,12 @@ pub fn reads_by(family: Family, kind: NodeKind, slot: usize) -> Option<How>
         Family::Primary => primary_reads(kind, slot),
         Family::Call => call_reads(kind, slot),
         Family::Literal => literal_reads(kind, slot),
+        Family::Function => None,
         Family::Type => decl_reads(kind, slot),
         Family::Variable => variable_reads(kind, slot),
         Family::Declaration => decl_reads(kind, slot),
+        Family::Statement => statement_reads(kind, slot),
+        Family::Operation => operation_reads(kind, slot),
         Family::Clause => None,
         Family::Other => None,
     }

@@ -52,7 +52,7 @@ fn judge_stage(
             Ok(step)
         }
         Stage::Object => {
-            let step = object(alloc, u, s, role, block, at)?;
+            let step = object(alloc, u, s, role, block, at, node)?;
             Ok(step)
         }
         Stage::Under => unreachable!(),

@@ -7,21 +7,20 @@ ghost use Rattle.rule_words.specs.Steps.{IsStepOf};
 ghost use Rattle.rule_words.specs.Wanting.{wanted_of, IsWantedOf};
 ghost use Rattle.type_answers.specs.Coming.{FoundBy, ComesTo};
 ghost use Rattle.literal_rules.specs.Keys.{key_role};
-ghost use Rattle.go_rules.specs.Families.{family, is_expression, node_reads, rule_by};
-ghost use Rattle.go_rules.specs.Stages.{from_parts, parts_read, with_parts, nothing_wanted, before_in, before_as, judged_wanting, judged_with, judged_in, judged_key, key_judged, judged_as};
+ghost use Rattle.go_rules.specs.Families.{family, is_expression, node_reads};
+ghost use Rattle.go_rules.specs.Stages.{from_parts, parts_read, with_parts, nothing_wanted, before_plain, before_in, before_as, judged_wanting, judged_with, judged_plain, judged_in, judged_key, key_judged, judged_as};
 
-use crate::clause::{judge_clause, nothing};
-use crate::family::{Family, family_of, is_expression};
+use crate::by_family::judge_by;
+use crate::clause::nothing;
+use crate::family::{family_of, is_expression};
 use crate::own::is_own_type;
 use crate::reads::node_reads;
-use crate::role::Role;
-use call_rules::judge_call;
-use decl_rules::{declared_name, judge_decl};
+use crate::role::{Role, clause_for};
+use crate::statements::judge_switched;
+use decl_rules::declared_name;
 use go_tree::{Node, NodeRef};
 use gv_base::NoMemory;
-use literal_rules::{KeyRole, judge_literal, key_role};
-use op_rules::judge_op;
-use primary_rules::judge_primary;
+use literal_rules::{KeyRole, key_role};
 use rule_words::good::{broken, silent};
 use rule_words::{Seen, Step, Wanted, wanted_by};
 use std::alloc::Global;
@@ -30,59 +29,6 @@ use type_questions::Found;
 use typed_marks::{Item, Mark, Stage, State, Want};
 use typed_tree::{NOT_A_TYPE, Want as Demand};
 use unit_read::Subject;
-use variable_rules::judge_variables;
-
-#[tactic(auto, using(type_answers::proofs::ComingLaws::same_comes))]
-fn judge_by(
-    alloc: Global,
-    u: &Subject,
-    s: &State,
-    by: Family,
-    block: usize,
-    at: NodeRef,
-    node: &Node,
-    list: &[Seen],
-    w: Wanted,
-) -> Result<Step, NoMemory>
-    requires scene { IsScene u.now s.now }
-    requires parts { AreSeenOf s.now list.now }
-    requires wanted { IsWantedOf s.now w }
-    ensures comes { IfOk result (ComesTo u.now s.now (rule_by by (unit_of u.now) block at node.now (parts_in s.now list.now) (wanted_of s.now w))) }
-    ensures over { IfOk result (IsStepOf s.now) }
-{
-    match by {
-        Family::Operand => {
-            let step = judge_op(alloc, u, s, block, at, node, list, w)?;
-            Ok(step)
-        }
-        Family::Primary => {
-            let step = judge_primary(alloc, u, s, block, at, node, list, w)?;
-            Ok(step)
-        }
-        Family::Call => {
-            let step = judge_call(alloc, u, s, block, at, node, list, w)?;
-            Ok(step)
-        }
-        Family::Literal => {
-            let step = judge_literal(alloc, u, s, block, at, node, list, w)?;
-            Ok(step)
-        }
-        Family::Type => {
-            let step = judge_decl(alloc, u, s, block, at, node, list, w)?;
-            Ok(step)
-        }
-        Family::Variable => Ok(judge_variables(u, s, block, at, node, list, w)),
-        Family::Declaration => {
-            let step = judge_decl(alloc, u, s, block, at, node, list, w)?;
-            Ok(step)
-        }
-        Family::Clause => {
-            let step = judge_clause(alloc, u, s, at.file)?;
-            Ok(step)
-        }
-        Family::Other => Ok(silent()),
-    }
-}
 
 fn from_parts(
     alloc: Global,
@@ -153,6 +99,30 @@ fn with_parts(
 
 /// An expression or a type before anything is wanted of it.
 #[tactic(auto, using(type_answers::proofs::ComingLaws::same_comes))]
+fn before_plain(
+    alloc: Global,
+    u: &Subject,
+    s: &State,
+    block: usize,
+    at: NodeRef,
+    node: &Node,
+) -> Result<Step, NoMemory>
+    requires { IsScene u.now s.now }
+    ensures comes { IfOk result (ComesTo u.now s.now (before_plain (unit_of u.now) block at node.now)) }
+    ensures over { IfOk result (IsStepOf s.now) }
+{
+    if !is_expression(family_of(node.kind)) {
+        return Ok(silent());
+    }
+    let nothing = Wanted {
+        demand: Demand::Nothing,
+        want: Want::Free,
+    };
+    let step = with_parts(alloc, u, s, Stage::Before, block, at, node, nothing)?;
+    Ok(step)
+}
+
+#[tactic(auto, using(type_answers::proofs::ComingLaws::same_comes))]
 fn before_in(
     alloc: Global,
     u: &Subject,
@@ -165,15 +135,13 @@ fn before_in(
     ensures comes { IfOk result (ComesTo u.now s.now (before_in (unit_of u.now) block at node.now)) }
     ensures over { IfOk result (IsStepOf s.now) }
 {
-    if !is_expression(family_of(node.kind)) {
-        return Ok(silent());
+    match clause_for(u, at, node) {
+        Some(clause) => Ok(judge_switched(u, s, at.file, clause)),
+        None => {
+            let step = before_plain(alloc, u, s, block, at, node)?;
+            Ok(step)
+        }
     }
-    let nothing = Wanted {
-        demand: Demand::Nothing,
-        want: Want::Free,
-    };
-    let step = with_parts(alloc, u, s, Stage::Before, block, at, node, nothing)?;
-    Ok(step)
 }
 
 /// A node before a type is wanted of it.
@@ -198,6 +166,7 @@ pub fn before(
         }
         Role::Key => Ok(silent()),
         Role::Declared => Ok(silent()),
+        Role::Blank => Ok(silent()),
         Role::Untold => Ok(silent()),
     }
 }
@@ -245,6 +214,29 @@ fn judged_with(
 }
 
 #[tactic(auto, using(type_answers::proofs::ComingLaws::bind_comes, type_answers::proofs::ComingLaws::bind_waits))]
+fn judged_plain(
+    alloc: Global,
+    u: &Subject,
+    s: &State,
+    block: usize,
+    at: NodeRef,
+    node: &Node,
+) -> Result<Step, NoMemory>
+    requires { IsScene u.now s.now }
+    ensures comes { IfOk result (ComesTo u.now s.now (judged_plain (unit_of u.now) block at node.now)) }
+    ensures over { IfOk result (IsStepOf s.now) }
+{
+    match ask_mark(u, s, Stage::Wanted, block, at.node) {
+        Found::Is(m) => {
+            let step = judged_with(alloc, u, s, block, at, node, m)?;
+            Ok(step)
+        }
+        Found::Wait(item) => Ok(Step::Waits(item)),
+    }
+}
+
+/// The name of a type switch's variable denotes that of the clause around it.
+#[tactic(auto, using(type_answers::proofs::ComingLaws::same_comes))]
 fn judged_in(
     alloc: Global,
     u: &Subject,
@@ -257,12 +249,12 @@ fn judged_in(
     ensures comes { IfOk result (ComesTo u.now s.now (judged_in (unit_of u.now) block at node.now)) }
     ensures over { IfOk result (IsStepOf s.now) }
 {
-    match ask_mark(u, s, Stage::Wanted, block, at.node) {
-        Found::Is(m) => {
-            let step = judged_with(alloc, u, s, block, at, node, m)?;
+    match clause_for(u, at, node) {
+        Some(clause) => Ok(judge_switched(u, s, at.file, clause)),
+        None => {
+            let step = judged_plain(alloc, u, s, block, at, node)?;
             Ok(step)
         }
-        Found::Wait(item) => Ok(Step::Waits(item)),
     }
 }
 
@@ -347,6 +339,7 @@ pub fn judged(
             Ok(step)
         }
         Role::Declared => Ok(declared_name(u, s, at)),
+        Role::Blank => Ok(nothing(s)),
         Role::Untold => Ok(silent()),
     }
 }

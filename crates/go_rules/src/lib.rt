@@ -2,9 +2,11 @@
 //! makes of it.
 #![tactic(auto)]
 
+mod by_family;
 mod clause;
 mod declare;
 mod family;
+mod functions;
 mod judge;
 mod judged;
 mod number;
@@ -13,6 +15,8 @@ mod own;
 mod placed;
 mod reads;
 mod role;
+mod statements;
+mod types;
 mod wants;
 mod whole;
 

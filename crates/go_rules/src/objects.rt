@@ -5,13 +5,15 @@ ghost use Rattle.typed_marks.specs.States.{so_far};
 ghost use Rattle.unit_read.specs.Subjects.{unit_of};
 ghost use Rattle.rule_words.specs.Scenes.{IsScene};
 ghost use Rattle.rule_words.specs.Steps.{step_in, IsStepOf};
-ghost use Rattle.go_rules.specs.Stages.{in_own, is_late, object_beside, object_in_place, object_of_part, object_as};
+ghost use Rattle.go_rules.specs.Stages.{in_own, is_late, object_beside, object_in_place, object_of_part, object_of, object_as};
 
 use crate::role::Role;
+use crate::statements::{is_type_clause, judge_declared};
 use decl_rules::judge_object;
 use go_tree::{Node, NodeKind, NodeRef};
 use gv_base::NoMemory;
 use rule_words::{Answer, Step};
+use statement_rules::judge_clause_object;
 use std::alloc::Global;
 use typed_marks::{Mark, State};
 use unit_read::{Place, Subject};
@@ -89,27 +91,48 @@ fn object_of_part(alloc: Global, u: &Subject, s: &State, at: NodeRef) -> Result<
     }
 }
 
+/// Of a clause its variable.
+fn object_of(
+    alloc: Global,
+    u: &Subject,
+    s: &State,
+    at: NodeRef,
+    node: &Node,
+) -> Result<Step, NoMemory>
+    requires { IsScene u.now s.now }
+    ensures is { IfOk result (λ step. step_in s.now step ≡ tell (so_far s.now) (object_of (unit_of u.now) at node.now)) }
+    ensures over { IfOk result (IsStepOf s.now) }
+{
+    if is_type_clause(node.kind) {
+        return Ok(judge_clause_object(u, s, at, node));
+    }
+    let step = object_of_part(alloc, u, s, at)?;
+    Ok(step)
+}
+
 fn object_as(
     alloc: Global,
     u: &Subject,
     s: &State,
     role: Role,
     at: NodeRef,
+    node: &Node,
 ) -> Result<Step, NoMemory>
     requires { IsScene u.now s.now }
-    ensures is { IfOk result (λ step. step_in s.now step ≡ tell (so_far s.now) (object_as role (unit_of u.now) at)) }
+    ensures is { IfOk result (λ step. step_in s.now step ≡ tell (so_far s.now) (object_as role (unit_of u.now) at node.now)) }
     ensures over { IfOk result (IsStepOf s.now) }
 {
     match role {
         Role::Part => {
-            let step = object_of_part(alloc, u, s, at)?;
+            let step = object_of(alloc, u, s, at, node)?;
             Ok(step)
         }
         Role::Key => Ok(silent()),
         Role::Declared => {
-            let step = judge_object(alloc, u, s, at)?;
+            let step = judge_declared(alloc, u, s, at)?;
             Ok(step)
         }
+        Role::Blank => Ok(silent()),
         Role::Untold => Ok(silent()),
     }
 }
@@ -122,13 +145,14 @@ pub fn object(
     role: Role,
     block: usize,
     at: NodeRef,
+    node: &Node,
 ) -> Result<Step, NoMemory>
     requires { IsScene u.now s.now }
-    ensures is { IfOk result (λ step. step_in s.now step ≡ tell (so_far s.now) (in_own block at (object_as role (unit_of u.now) at))) }
+    ensures is { IfOk result (λ step. step_in s.now step ≡ tell (so_far s.now) (in_own block at (object_as role (unit_of u.now) at node.now))) }
     ensures over { IfOk result (IsStepOf s.now) }
 {
     if block == at.file as usize {
-        let step = object_as(alloc, u, s, role, at)?;
+        let step = object_as(alloc, u, s, role, at, node)?;
         Ok(step)
     } else {
         Ok(silent())

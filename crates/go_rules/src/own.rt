@@ -2,10 +2,11 @@
 ghost use Rattle.std.specs.Prelude.{◌≡◌};
 ghost use Rattle.unit_read.specs.Subjects.{unit_of, IsRead};
 ghost use Rattle.rule_words.specs.Wanting.{wanted_of};
-ghost use Rattle.go_rules.specs.Own.{turns_back, is_circular, names_circular, is_type_wanted, is_own_type};
+ghost use Rattle.go_rules.specs.Own.{turns_back, is_circular, names_circular, is_type_wanted, is_selector, part_circular, owner_circular, name_circular, begins_circular, is_own_type};
 
 use crate::role::is_name;
-use go_tree::{Node, NodeRef, Object};
+use go_tree::{Node, NodeKind, NodeRef, Object};
+use package_objects::part_of;
 use rule_words::Wanted;
 use typed_marks::State;
 use typed_tree::Want as Demand;
@@ -47,11 +48,58 @@ fn is_type_wanted(demand: Demand) -> bool
     }
 }
 
-/// E10: whether a type is wanted of a name that denotes a constant, a variable or a function whose declaration leads back to it.
+fn is_selector(kind: NodeKind) -> bool
+    ensures { result ≡ is_selector kind }
+{
+    match kind {
+        NodeKind::Selector => true,
+        _ => false,
+    }
+}
+
+fn part_circular(u: &Subject, at: NodeRef, part: Option<u32>) -> bool
+    requires { IsRead u.now }
+    ensures { result ≡ part_circular (unit_of u.now) at part }
+{
+    match part {
+        Some(node) => names_circular(
+            u,
+            NodeRef {
+                file: at.file,
+                node,
+            },
+        ),
+        None => false,
+    }
+}
+
+fn owner_circular(u: &Subject, at: NodeRef, node: &Node) -> bool
+    requires { IsRead u.now }
+    ensures { result ≡ owner_circular (unit_of u.now) at node.now }
+{
+    is_selector(node.kind) && part_circular(u, at, part_of(node, 0))
+}
+
+fn name_circular(u: &Subject, at: NodeRef, node: &Node) -> bool
+    requires { IsRead u.now }
+    ensures { result ≡ name_circular (unit_of u.now) at node.now }
+{
+    is_name(node.kind) && names_circular(u, at)
+}
+
+fn begins_circular(u: &Subject, at: NodeRef, node: &Node) -> bool
+    requires { IsRead u.now }
+    ensures { result ≡ begins_circular (unit_of u.now) at node.now }
+{
+    name_circular(u, at, node) || owner_circular(u, at, node)
+}
+
+/// E10: whether a type is wanted of a name that denotes a constant, a variable or a function whose declaration leads back to it, or of
+/// what is selected of it.
 pub fn is_own_type(u: &Subject, s: &State, at: NodeRef, node: &Node, w: Wanted) -> bool
     requires { IsRead u.now }
     ensures { result ≡ is_own_type (unit_of u.now) at node.now (wanted_of s.now w) }
 {
     let _ = s;
-    is_name(node.kind) && (is_type_wanted(w.demand) && names_circular(u, at))
+    is_type_wanted(w.demand) && begins_circular(u, at, node)
 }

@@ -9,21 +9,22 @@ ghost use Rattle.rule_words.specs.Scenes.{IsScene, said, IsMarkOf};
 ghost use Rattle.rule_words.specs.Steps.{step_in, IsStepOf};
 ghost use Rattle.rule_words.specs.Good.{known_of, AreFactsOf};
 ghost use Rattle.type_answers.specs.Coming.{ComesTo};
-ghost use Rattle.go_rules.specs.Stages.{placed_with, placed_plain, type_wanted, placed_embedded, placed_argument, placed_shared, placed_as, placed_beside, placed_at, placed_after, placed_in};
+ghost use Rattle.go_rules.specs.Stages.{placed_with, placed_plain, type_wanted, placed_embedded, placed_argument, placed_shared, stated_good, placed_stated, placed_body, placed_as, placed_beside, placed_at, placed_after, placed_in};
 
-use crate::role::{Placing, placing_of};
+use crate::role::{Placing, placing_at};
 use call_rules::{is_passed, judge_passed};
 use go_tree::{Node, NodeRef};
 use gv_base::NoMemory;
 use op_rules::judge_placed;
 use rule_words::good::{beyond, broken, silent};
-use rule_words::{Step, look, wanted_by};
+use rule_words::{Step, Wanted, look, wanted_by};
+use statement_rules::{Placing as StatementPlacing, judge_statement_placed};
 use std::alloc::Global;
 use type_answers::ask_mark;
 use type_questions::Found;
 use type_rules::judge_element;
-use typed_marks::{Facts, Mark, Stage, State};
-use typed_tree::{Mode, NOT_A_TYPE};
+use typed_marks::{Facts, Mark, Stage, State, Want};
+use typed_tree::{Mode, NOT_A_TYPE, Want as Demand};
 use unit_read::{Place, Subject};
 use variable_rules::{is_shared, judge_shared};
 
@@ -167,6 +168,76 @@ fn placed_shared(
     Ok(placed_plain(u, s, block, at, j))
 }
 
+// ---- statements
+
+fn stated_good(
+    alloc: Global,
+    u: &Subject,
+    s: &State,
+    block: usize,
+    at: NodeRef,
+    p: Place,
+    around: &Node,
+    placing: StatementPlacing,
+    x: Facts,
+) -> Result<Step, NoMemory>
+    requires scene { IsScene u.now s.now }
+    requires facts { AreFactsOf s.now x }
+    ensures comes { IfOk result (ComesTo u.now s.now (stated_good (unit_of u.now) block at p around.now placing (known_of s.now x))) }
+    ensures over { IfOk result (IsStepOf s.now) }
+{
+    let j = Mark::Good(x);
+    let step = judge_statement_placed(alloc, u, s, block, at.file, p, around, at.node, j, placing)?;
+    Ok(step)
+}
+
+/// A part of a statement that makes more of it than what it wants.
+#[tactic(auto, using(type_answers::proofs::ComingLaws::same_comes))]
+fn placed_stated(
+    alloc: Global,
+    u: &Subject,
+    s: &State,
+    block: usize,
+    at: NodeRef,
+    p: Place,
+    around: &Node,
+    j: Mark,
+    placing: StatementPlacing,
+) -> Result<Step, NoMemory>
+    requires scene { IsScene u.now s.now }
+    requires mark { IsMarkOf s.now j }
+    ensures comes { IfOk result (ComesTo u.now s.now (placed_stated (unit_of u.now) block at p around.now (said s.now j) placing)) }
+    ensures over { IfOk result (IsStepOf s.now) }
+{
+    match j {
+        Mark::Good(x) => {
+            let step = stated_good(alloc, u, s, block, at, p, around, placing, x)?;
+            Ok(step)
+        }
+        Mark::Bad(rule) => Ok(broken(rule)),
+        Mark::Outside(limit) => Ok(beyond(limit)),
+        Mark::Silent => Ok(silent()),
+        Mark::Wants(_, _) => Ok(silent()),
+        Mark::Declared(_) => Ok(silent()),
+    }
+}
+
+// ---- bodies
+
+/// The body of a function: what is around it wants nothing of it.
+fn placed_body(u: &Subject, s: &State, j: Mark) -> Step
+    requires scene { IsScene u.now s.now }
+    requires mark { IsMarkOf s.now j }
+    ensures is { step_in s.now result ≡ tell (so_far s.now) (placed_body (unit_of u.now) (said s.now j)) }
+    ensures over { IsStepOf s.now result }
+{
+    let nothing = Wanted {
+        demand: Demand::Nothing,
+        want: Want::Free,
+    };
+    judge_placed(u, s, nothing, j)
+}
+
 // ---- all
 
 #[tactic(auto, using(type_answers::proofs::ComingLaws::same_comes))]
@@ -200,6 +271,11 @@ fn placed_as(
             let step = placed_shared(alloc, u, s, block, at, p, around, j)?;
             Ok(step)
         }
+        Placing::Body => Ok(placed_body(u, s, j)),
+        Placing::Stated(placing) => {
+            let step = placed_stated(alloc, u, s, block, at, p, around, j, placing)?;
+            Ok(step)
+        }
     }
 }
 
@@ -219,7 +295,7 @@ fn placed_beside(
     ensures comes { IfOk result (ComesTo u.now s.now (placed_beside (unit_of u.now) block at node.now (said s.now j) p around.now)) }
     ensures over { IfOk result (IsStepOf s.now) }
 {
-    let placing = placing_of(around.kind, node.kind);
+    let placing = placing_at(u, at, node, p, around);
     let step = placed_as(alloc, u, s, placing, block, at, p, around, j)?;
     Ok(step)
 }

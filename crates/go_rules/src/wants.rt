@@ -14,9 +14,11 @@ use decl_rules::want_decl;
 use go_tree::{Node, NodeRef};
 use literal_rules::want_literal;
 use op_rules::want_op;
+use operator_statements::want_operation;
 use primary_rules::want_primary;
 use rule_words::good::silent;
 use rule_words::{Answer, Step, wanted_by};
+use statement_rules::want_statement;
 use type_questions::Found;
 use typed_marks::{Item, Mark, State, Want};
 use typed_tree::Want as Demand;
@@ -40,9 +42,12 @@ fn want_by(
         Family::Primary => want_primary(u, s, block, p, around),
         Family::Call => want_call(u, s, block, p, around),
         Family::Literal => want_literal(u, s, block, p, around),
+        Family::Function => Found::Is(Mark::Wants(Demand::Type, Want::Free)),
         Family::Type => want_decl(u, s, block, p, around),
         Family::Variable => want_variable(u, s, block, p, around),
         Family::Declaration => want_decl(u, s, block, p, around),
+        Family::Statement => want_statement(u, s, block, p, around),
+        Family::Operation => want_operation(u, s, block, p, around),
         Family::Clause => Found::Is(Mark::Wants(Demand::Nothing, Want::Free)),
         Family::Other => Found::Is(Mark::Wants(Demand::Nothing, Want::Free)),
     }

@@ -1,3 +1,4 @@
+mod ArrowLemmas
 mod ListLemmas
 mod PassLemmas
 mod TypeLemmas

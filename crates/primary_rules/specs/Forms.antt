@@ -25,12 +25,13 @@ form_of k.SliceHighMax = f.Slice (slots None (Some 1) (Some 2))
 form_of k.Assert = f.Assert
 form_of k.Star = f.Star
 form_of k.Unary = f.Unary
+form_of k.Paren = f.Paren
 form_of _ = f.Other
 
 abbrev pub assert_reads : ℕ → How
 assert_reads slot = if slot == 0 then h.Value else h.TypeAndUnder
 
--- How the parts are read. What stands before a dot or behind `*` may be a type.
+-- How the parts are read. What stands before a dot, behind `*` or between parentheses may be a type.
 abbrev pub form_reads : Form → ℕ → Option How
 form_reads f.Selector slot = Some h.Mark
 form_reads f.Index slot = Some h.Value
@@ -38,6 +39,7 @@ form_reads (f.Slice bounds) slot = Some h.Value
 form_reads f.Assert slot = Some (assert_reads slot)
 form_reads f.Star slot = Some h.Mark
 form_reads f.Unary slot = Some h.Value
+form_reads f.Paren slot = Some h.Mark
 form_reads f.Other slot = None
 
 abbrev pub primary_reads : NodeKind → ℕ → Option How

@@ -1,4 +1,5 @@
 pub mod Addresses
+pub mod Arrows
 pub mod Asserting
 pub mod Forms
 pub mod InCode

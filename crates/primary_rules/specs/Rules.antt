@@ -18,6 +18,7 @@ use Rattle.op_rules.specs.Unary.{takes_address}
 use Rattle.primary_rules.specs.declared.forms.Form.{Form}
 use Rattle.primary_rules.specs.declared.forms.Form.TheVariants as f
 use Rattle.primary_rules.specs.Addresses.{star_rule, address_rule}
+use Rattle.primary_rules.specs.Arrows.{part_takes_arrow}
 use Rattle.primary_rules.specs.Asserting.{assert_rule}
 use Rattle.primary_rules.specs.Forms.{form_of}
 use Rattle.primary_rules.specs.Indexing.{index_rule}
@@ -57,7 +58,7 @@ operated_rule u block at node ps w op =
 
 -- `<-` is no operator of constants
 abbrev pub unary_by : Unit → ℕ → NodeRef → Node → List Part → Wanted → Option Operator → Rule
-unary_by u block at node ps w None = receive_rule u (part_at ps 0)
+unary_by u block at node ps w None = receive_rule u (part_takes_arrow (nodes_at u at.file) node) (part_at ps 0)
 unary_by u block at node ps w (Some op) = operated_rule u block at node ps w op
 
 unfoldable pub unary_rule : Unit → ℕ → NodeRef → Node → List Part → Wanted → Rule
@@ -72,6 +73,7 @@ form_rule u block at node ps w (f.Slice bounds) = slice_rule u (part_at ps 0) (b
 form_rule u block at node ps w f.Assert = assert_rule (part_at ps 0) (part_at ps 1)
 form_rule u block at node ps w f.Star = star_rule u (part_at ps 0)
 form_rule u block at node ps w f.Unary = unary_rule u block at node ps w
+form_rule u block at node ps w f.Paren = op_rule u block at node ps w
 form_rule u block at node ps w f.Other = done Quiet
 
 -- The rule of a primary expression or a unary one, from its parts and from what its place wants.

@@ -136,6 +136,18 @@ unary_asked u block p around (Some op) = operator_wants u block p around op
 unfoldable pub unary_wants : Unit → ℕ → Place → Node → Rule
 unary_wants u block p around = unary_asked u block p around (operator_in unary_operator u (file_of u block) around)
 
+-- ---- parentheses
+
+-- where a type is wanted of the whole it is wanted of what stands between them, before that is looked at
+abbrev pub paren_asked : Unit → ℕ → Place → Node → Demand → Rule
+paren_asked u block p around whole = if wants_type whole then wants demand.Type Free else op_wants u block p around
+
+abbrev pub paren_wanted : Unit → ℕ → Place → Node → Meaning → Rule
+paren_wanted u block p around m = paren_asked u block p around (wanted_in m).demand
+
+unfoldable pub paren_wants : Unit → ℕ → Place → Node → Rule
+paren_wants u block p around = bind (mark_ask u s.Wanted block p.around) (paren_wanted u block p around)
+
 -- ---- forms
 
 unfoldable pub form_wants : Unit → ℕ → Place → Node → Form → Rule
@@ -145,6 +157,7 @@ form_wants u block p around (f.Slice bounds) = slice_wants p.slot
 form_wants u block p around f.Assert = assert_wants p.slot
 form_wants u block p around f.Star = star_wants u block p.around around
 form_wants u block p around f.Unary = unary_wants u block p around
+form_wants u block p around f.Paren = paren_wants u block p around
 form_wants u block p around f.Other = wants demand.Nothing Free
 
 -- What the place of a part wants, by the form of the node around it.

@@ -22,6 +22,7 @@ pub enum Form {
     Assert,
     Star,
     Unary,
+    Paren,
     Other,
 }
 
@@ -48,6 +49,7 @@ pub fn form_of(kind: NodeKind) -> Form
         NodeKind::Assert => Form::Assert,
         NodeKind::Star => Form::Star,
         NodeKind::Unary => Form::Unary,
+        NodeKind::Paren => Form::Paren,
         _ => Form::Other,
     }
 }
@@ -72,6 +74,7 @@ fn form_reads(form: Form, slot: usize) -> Option<How>
         Form::Assert => Some(assert_reads(slot)),
         Form::Star => Some(How::Mark),
         Form::Unary => Some(How::Value),
+        Form::Paren => Some(How::Mark),
         Form::Other => None,
     }
 }

@@ -3,6 +3,7 @@
 #![tactic(auto)]
 
 mod addresses;
+mod arrows;
 mod asserting;
 mod bounds;
 mod forms;
@@ -14,8 +15,10 @@ mod rules;
 mod selecting;
 mod shape;
 mod slicing;
+mod unary_wants;
 mod wants;
 
+pub use arrows::is_receiving;
 pub use forms::primary_reads;
 pub use rules::judge_primary;
 pub use wants::want_primary;

@@ -2,19 +2,18 @@
 ghost use Rattle.std.specs.Prelude.{◌≡◌, option_map};
 ghost use Rattle.mark_walk.specs.Telling.{tell};
 ghost use Rattle.typed_marks.specs.States.{so_far};
-ghost use Rattle.typed_tree.specs.Basics.{HasBasics};
 ghost use Rattle.unit_read.specs.Subjects.{unit_of};
 ghost use Rattle.rule_words.specs.Scenes.{IsScene, type_in, IsTypeOf, MayBeTypeOf, part_in, IsSeenOf};
 ghost use Rattle.rule_words.specs.Steps.{step_in, IsStepOf};
 ghost use Rattle.type_answers.specs.Coming.{ComesTo};
 ghost use Rattle.primary_rules.specs.InCode.{facts_in, AreFactsOf, shape_in, IsShapeOf};
-ghost use Rattle.primary_rules.specs.Receiving.{received, receive_shape, receive_under, receive, arrow_inward, arrow_sent, arrow_direction, arrow_shape, receive_of, receive_rule};
+ghost use Rattle.primary_rules.specs.Receiving.{received, receive_shape, receive_under, receive, arrow_of, receive_of, receive_rule};
 
 use crate::operand::{bad, is_type, silent, standing};
 use crate::shape::{Shape, shape_of};
-use rule_words::{Answer, Seen, Step};
+use rule_words::{Seen, Step};
 use type_answers::ask_under;
-use type_model::{Dir, Term, TypeId};
+use type_model::{Dir, TypeId};
 use type_questions::Found;
 use typed_marks::{Facts, Mark, State};
 use typed_tree::{CANNOT_RECEIVE, Mode, NOT_A_TYPE};
@@ -76,91 +75,42 @@ fn receive(u: &Subject, s: &State, x: Facts) -> Step
     }
 }
 
-fn arrow_inward(s: &State, direction: Dir) -> Step
-    ensures is { step_in s.now result ≡ tell (so_far s.now) (arrow_inward direction) }
+/// The type to which an arrow goes: E10 where it has none to go to.
+fn arrow_of(s: &State, takes: bool, x: Facts) -> Step
+    requires { AreFactsOf s.now x }
+    ensures is { step_in s.now result ≡ tell (so_far s.now) (arrow_of takes (facts_in s.now x)) }
     ensures over { IsStepOf s.now result }
 {
-    let _ = s;
-    match direction {
-        Dir::Both => Step::Says(silent()),
-        Dir::Send => Step::Says(silent()),
-        Dir::Receive => Step::Says(bad(NOT_A_TYPE)),
-    }
-}
-
-/// E10.
-fn arrow_sent(s: &State, shape: Shape) -> Step
-    requires { IsShapeOf s.now shape }
-    ensures is { step_in s.now result ≡ tell (so_far s.now) (arrow_sent (shape_in s.now shape)) }
-    ensures over { IsStepOf s.now result }
-{
-    match shape {
-        Shape::Channels(direction, _) => arrow_inward(s, direction),
-        Shape::Texts => Step::Says(bad(NOT_A_TYPE)),
-        Shape::Slices(_) => Step::Says(bad(NOT_A_TYPE)),
-        Shape::Arrays(_, _) => Step::Says(bad(NOT_A_TYPE)),
-        Shape::Maps(_, _) => Step::Says(bad(NOT_A_TYPE)),
-        Shape::Pointers(_) => Step::Says(bad(NOT_A_TYPE)),
-        Shape::Interfaces => Step::Says(bad(NOT_A_TYPE)),
-        Shape::Others => Step::Says(bad(NOT_A_TYPE)),
-    }
-}
-
-fn arrow_direction(s: &State, direction: Dir, of: TypeId) -> Step
-    requires basics { HasBasics s.now.table }
-    requires of { IsTypeOf s.now of }
-    ensures is { step_in s.now result ≡ tell (so_far s.now) (arrow_direction direction (type_in s.now of)) }
-    ensures over { IsStepOf s.now result }
-{
-    match direction {
-        Dir::Both => Step::Says(Answer::Type(Mode::TypeName, Term::Chan(Dir::Receive, of))),
-        Dir::Send => arrow_sent(s, shape_of(s, of)),
-        Dir::Receive => Step::Says(bad(NOT_A_TYPE)),
-    }
-}
-
-/// Before a channel type `<-` makes it receive-only.
-fn arrow_shape(s: &State, shape: Shape) -> Step
-    requires basics { HasBasics s.now.table }
-    requires shape { IsShapeOf s.now shape }
-    ensures is { step_in s.now result ≡ tell (so_far s.now) (arrow_shape (shape_in s.now shape)) }
-    ensures over { IsStepOf s.now result }
-{
-    match shape {
-        Shape::Channels(direction, of) => arrow_direction(s, direction, of),
-        Shape::Texts => Step::Says(silent()),
-        Shape::Slices(_) => Step::Says(silent()),
-        Shape::Arrays(_, _) => Step::Says(silent()),
-        Shape::Maps(_, _) => Step::Says(silent()),
-        Shape::Pointers(_) => Step::Says(silent()),
-        Shape::Interfaces => Step::Says(silent()),
-        Shape::Others => Step::Says(silent()),
+    if takes {
+        Step::Says(standing(s, Mode::TypeName, x.of))
+    } else {
+        Step::Says(bad(NOT_A_TYPE))
     }
 }
 
 #[tactic(auto, using(type_answers::proofs::ComingLaws::same_comes))]
-fn receive_of(u: &Subject, s: &State, x: Facts) -> Step
+fn receive_of(u: &Subject, s: &State, takes: bool, x: Facts) -> Step
     requires scene { IsScene u.now s.now }
     requires facts { AreFactsOf s.now x }
-    ensures comes { ComesTo u.now s.now (receive_of (unit_of u.now) (facts_in s.now x)) result }
+    ensures comes { ComesTo u.now s.now (receive_of (unit_of u.now) takes (facts_in s.now x)) result }
     ensures over { IsStepOf s.now result }
 {
     if is_type(x.mode) {
-        return arrow_shape(s, shape_of(s, x.of));
+        return arrow_of(s, takes, x);
     }
     receive(u, s, x)
 }
 
-/// What the rule of `<-x` comes to: E78.
+/// What the rule of `<-x` comes to: E78. Before a type the arrow may have a `chan` to go to.
 #[tactic(auto, unfolding(crate::specs::Receiving::receive_rule))]
-pub fn judge_receive(u: &Subject, s: &State, p: Seen) -> Step
+pub fn judge_receive(u: &Subject, s: &State, takes: bool, p: Seen) -> Step
     requires scene { IsScene u.now s.now }
     requires part { IsSeenOf s.now p }
-    ensures comes { ComesTo u.now s.now (receive_rule (unit_of u.now) (part_in s.now p)) result }
+    ensures comes { ComesTo u.now s.now (receive_rule (unit_of u.now) takes (part_in s.now p)) result }
     ensures over { IsStepOf s.now result }
 {
     match p.mark {
-        Mark::Good(x) => receive_of(u, s, x),
+        Mark::Good(x) => receive_of(u, s, takes, x),
         Mark::Bad(_) => Step::Says(silent()),
         Mark::Outside(_) => Step::Says(silent()),
         Mark::Silent => Step::Says(silent()),

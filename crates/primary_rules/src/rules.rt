@@ -17,6 +17,7 @@ ghost use Rattle.primary_rules.specs.Rules.{name_in, is_apart, owner_rule, owned
 ghost use Rattle.primary_rules.specs.Selecting.{select_rule};
 
 use crate::addresses::{judge_address, judge_star};
+use crate::arrows::part_takes_arrow;
 use crate::asserting::judge_assert;
 use crate::bounds::bound_parts;
 use crate::forms::{Form, form_of};
@@ -244,8 +245,34 @@ fn judge_unary(
             let step = judge_operated(alloc, u, s, block, at, node, parts, w, op)?;
             Ok(step)
         }
-        None => Ok(judge_receive(u, s, part_at(s, parts, 0))),
+        None => {
+            let takes = part_takes_arrow(u.nodes_at(at.file), node);
+            Ok(judge_receive(u, s, takes, part_at(s, parts, 0)))
+        }
     }
+}
+
+// ---- parentheses
+
+#[tactic(auto, using(type_answers::proofs::ComingLaws::same_comes))]
+fn judge_inside(
+    alloc: Global,
+    u: &Subject,
+    s: &State,
+    block: usize,
+    at: NodeRef,
+    node: &Node,
+    parts: &[Seen],
+    w: Wanted,
+) -> Result<Step, NoMemory>
+    requires scene { IsScene u.now s.now }
+    requires parts { AreSeenOf s.now parts.now }
+    requires wanted { IsWantedOf s.now w }
+    ensures comes { IfOk result (ComesTo u.now s.now (op_rule (unit_of u.now) block at node.now (parts_in s.now parts.now) (wanted_of s.now w))) }
+    ensures over { IfOk result (IsStepOf s.now) }
+{
+    let step = judge_op(alloc, u, s, block, at, node, parts, w)?;
+    Ok(step)
 }
 
 // ---- forms
@@ -287,6 +314,10 @@ fn judge_form(
         Form::Star => Ok(judge_star(u, s, part_at(s, parts, 0))),
         Form::Unary => {
             let step = judge_unary(alloc, u, s, block, at, node, parts, w)?;
+            Ok(step)
+        }
+        Form::Paren => {
+            let step = judge_inside(alloc, u, s, block, at, node, parts, w)?;
             Ok(step)
         }
         Form::Other => Ok(Step::Says(silent())),

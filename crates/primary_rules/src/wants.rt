@@ -2,23 +2,19 @@
 ghost use Rattle.std.specs.Prelude.{◌≡◌, option_map};
 ghost use Rattle.mark_walk.specs.Telling.{tell, Says};
 ghost use Rattle.typed_marks.specs.Meanings.{Wishes};
-ghost use Rattle.const_tree.specs.Operators.{unary_operator};
 ghost use Rattle.typed_tree.specs.Basics.{HasBasics};
 ghost use Rattle.typed_marks.specs.States.{so_far};
-ghost use Rattle.unit_read.specs.Subjects.{unit_of, IsRead};
+ghost use Rattle.unit_read.specs.Subjects.{unit_of};
 ghost use Rattle.rule_words.specs.Scenes.{IsScene, told_by, IfFound, said, IsMarkOf, type_in, MayBeTypeOf};
 ghost use Rattle.rule_words.specs.Words.{wanted_in};
-ghost use Rattle.op_rules.specs.Wants.{file_of};
-ghost use Rattle.primary_rules.specs.Addresses.{passes};
 ghost use Rattle.primary_rules.specs.InCode.{shape_in, IsShapeOf};
-ghost use Rattle.primary_rules.specs.Wants.{int_wish, shape_wants, index_wanted, index_beside, before_part, key_wants, index_wants, slice_wants, assert_wants, wants_type, stands_for_type, star_demand, star_beside, star_own, star_asked, star_wanted, star_wants, is_channel_type, arrow_demand, operator_wants, unary_asked, unary_wants, form_wants, primary_wants};
+ghost use Rattle.primary_rules.specs.Wants.{int_wish, shape_wants, index_wanted, index_beside, before_part, key_wants, index_wants, slice_wants, assert_wants, wants_type, stands_for_type, star_demand, star_beside, star_own, star_asked, star_wanted, star_wants, paren_asked, paren_wanted, paren_wants, form_wants, primary_wants};
 
 use crate::forms::{Form, form_of};
 use crate::operand::is_type;
-use crate::rules::{takes_address, unary_in};
 use crate::shape::{Shape, shape_of};
-use const_eval::Operator;
-use go_tree::{Node, NodeKind};
+use crate::unary_wants::unary_wants;
+use go_tree::Node;
 use gv_base::Kind;
 use op_rules::want_op;
 use package_objects::part_of;
@@ -105,7 +101,8 @@ fn key_wants(u: &Subject, s: &State, block: usize, around: &Node) -> Found<Mark,
     }
 }
 
-fn wants(demand: Demand) -> Found<Mark, Item>
+/// Nothing but this is wanted.
+pub fn wants(demand: Demand) -> Found<Mark, Item>
     ensures { result ≡ Found.Is (Mark.Wants demand Want.Free) }
 {
     Found::Is(Mark::Wants(demand, Want::Free))
@@ -251,101 +248,53 @@ fn star_wants(u: &Subject, s: &State, block: usize, whole: u32, around: &Node) -
     }
 }
 
-// ---- `&` and `<-`
+// ---- parentheses
 
-fn is_channel_type(kind: NodeKind) -> bool
-    ensures { result ≡ is_channel_type kind }
-{
-    match kind {
-        NodeKind::ChanType => true,
-        NodeKind::SendChan => true,
-        NodeKind::RecvChan => true,
-        _ => false,
-    }
-}
-
-fn is_channel_at(nodes: &[Node], n: u32) -> bool
-    ensures { result ≡ passes is_channel_type nodes.now n }
-{
-    match nodes.get(n as usize) {
-        Some(node) => is_channel_type(node.kind),
-        None => false,
-    }
-}
-
-fn arrow_demand(nodes: &[Node], part: Option<u32>) -> Demand
-    ensures { result ≡ arrow_demand nodes.now part }
-{
-    let Some(n) = part else {
-        return Demand::Operand;
-    };
-    if is_channel_at(nodes, n) {
-        Demand::Type
-    } else {
-        Demand::Operand
-    }
-}
-
-/// The file of a block.
-#[tactic(auto, unfolding(op_rules::specs::Wants::file_of))]
-fn file_of(u: &Subject, block: usize) -> u32
-    requires { IsRead u.now }
-    ensures { result ≡ file_of (unit_of u.now) block }
-{
-    match u.passage_at(block) {
-        Some(passage) => passage.file,
-        None => 0,
-    }
-}
-
-fn operator_wants(
+fn paren_asked(
     u: &Subject,
     s: &State,
     block: usize,
     p: Place,
     around: &Node,
-    op: Operator,
+    whole: Demand,
 ) -> Found<Mark, Item>
     requires scene { IsScene u.now s.now }
-    ensures is { told_by (said s.now) result ≡ tell (so_far s.now) (operator_wants (unit_of u.now) block p around.now op) }
+    ensures is { told_by (said s.now) result ≡ tell (so_far s.now) (paren_asked (unit_of u.now) block p around.now whole) }
     ensures over { IfFound result (IsMarkOf s.now) }
 {
-    if takes_address(op) {
-        wants(Demand::Operand)
+    if wants_type(whole) {
+        wants(Demand::Type)
     } else {
         want_op(u, s, block, p, around)
     }
 }
 
-fn unary_asked(
+fn paren_wanted(
     u: &Subject,
     s: &State,
     block: usize,
     p: Place,
     around: &Node,
-    op: Option<Operator>,
+    m: Mark,
 ) -> Found<Mark, Item>
     requires scene { IsScene u.now s.now }
-    ensures is { told_by (said s.now) result ≡ tell (so_far s.now) (unary_asked (unit_of u.now) block p around.now op) }
+    requires mark { IsMarkOf s.now m }
+    ensures is { told_by (said s.now) result ≡ tell (so_far s.now) (paren_wanted (unit_of u.now) block p around.now (said s.now m)) }
     ensures over { IfFound result (IsMarkOf s.now) }
 {
-    match op {
-        Some(op) => operator_wants(u, s, block, p, around, op),
-        None => {
-            let nodes = u.nodes_at(file_of(u, block));
-            wants(arrow_demand(nodes, part_of(around, 0)))
-        }
-    }
+    let w = wanted_by(s, m);
+    paren_asked(u, s, block, p, around, w.demand)
 }
 
-#[tactic(auto, unfolding(crate::specs::Wants::unary_wants))]
-fn unary_wants(u: &Subject, s: &State, block: usize, p: Place, around: &Node) -> Found<Mark, Item>
+fn paren_wants(u: &Subject, s: &State, block: usize, p: Place, around: &Node) -> Found<Mark, Item>
     requires scene { IsScene u.now s.now }
-    ensures is { told_by (said s.now) result ≡ tell (so_far s.now) (unary_wants (unit_of u.now) block p around.now) }
+    ensures is { told_by (said s.now) result ≡ tell (so_far s.now) (paren_wants (unit_of u.now) block p around.now) }
     ensures over { IfFound result (IsMarkOf s.now) }
 {
-    let op = unary_in(u, file_of(u, block), around);
-    unary_asked(u, s, block, p, around, op)
+    match look(u, s, Stage::Wanted, block, p.around) {
+        Found::Is(m) => paren_wanted(u, s, block, p, around, m),
+        Found::Wait(item) => Found::Wait(item),
+    }
 }
 
 // ---- forms
@@ -370,6 +319,7 @@ fn form_wants(
         Form::Assert => assert_wants(s, p.slot),
         Form::Star => star_wants(u, s, block, p.around, around),
         Form::Unary => unary_wants(u, s, block, p, around),
+        Form::Paren => paren_wants(u, s, block, p, around),
         Form::Other => wants(Demand::Nothing),
     }
 }
