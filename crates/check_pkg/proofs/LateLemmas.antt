@@ -15,7 +15,7 @@ use Rattle.check_pkg.specs.declared.refusal.Fault.TheVariants.{Rule as RuleFault
 use Rattle.check_pkg.specs.declared.refusal.Refusal.{Refusal}
 use Rattle.check_pkg.specs.Faults.{start_of, spot}
 use Rattle.check_pkg.specs.Gains.{Gains, SomeBelow}
-use Rattle.check_pkg.specs.Late.{lates, late_rule, late_token, RefusesLate, IsLateIn, RefusedBy, IsRefusedLate, NthLateAt, NthRefusedBy}
+use Rattle.check_pkg.specs.Late.{lates, late_rule, late_token, RefusesLate, IsLateIn, RefusedBy, IsRefusedByRow, NthLateAt, NthRefusedBy}
 use Rattle.check_pkg.proofs.Lists.{stands_in, contains_at}
 use Rattle.check_pkg.proofs.FaultLemmas.{same_refusal}
 use Rattle.check_pkg.proofs.GainLemmas.{gains_push, gains_as}
@@ -23,6 +23,7 @@ use Rattle.check_pkg.proofs.GainLemmas.{gains_push, gains_as}
 -- each rule is among them: a row
 late_there : (late : Late) → (k : ℕ) × (slice_get lates k ≡ Some late)
 late_there l.InitialCycle = (0, refl)
+late_there l.DuplicateCase = (1, refl)
 
 -- the fault of a node
 pub late_node : (u : Unit) (late : Late) (at : NodeRef) (node : Node) (lies : Place) (fault : Fault) (old new : List Refusal) → lies ≡ spot at.file (start_of u at.file (late_token late node))
@@ -40,11 +41,11 @@ nodes_gain u marks late nodes given old new same are gains =
       λ (at, refuses, lies). let s = stands_in nodes at ((are at).1 refuses) in (s.0, slice_get_within nodes s.0 at s.1, (at, s.1, lies)),
     ))
 
--- what all late rules refuse
+-- what all rows refuse
 pub lates_gain : (u : Unit) (marks : Item → Meaning) (rules given : List Late) (old new : List Refusal) → given ≡ rules → rules ≡ lates
-    → Gains (SomeBelow (length given) (NthRefusedBy u marks given)) old new → Gains (IsRefusedLate u marks) old new
+    → Gains (SomeBelow (length given) (NthRefusedBy u marks given)) old new → Gains (IsRefusedByRow u marks) old new
 lates_gain u marks rules given old new same all gains =
-    gains_as (SomeBelow (length lates) (NthRefusedBy u marks lates)) (IsRefusedLate u marks) old new
+    gains_as (SomeBelow (length lates) (NthRefusedBy u marks lates)) (IsRefusedByRow u marks) old new
     (subst (λ (rs : List Late). Gains (SomeBelow (length rs) (NthRefusedBy u marks rs)) old new) (same ∙ all) gains) (λ x. (
       λ (k, low, (late, read, refused)). (late, refused),
       λ (late, refused). let t = late_there late in (t.0, slice_get_within lates t.0 late t.1, (late, t.1, refused)),

@@ -10,8 +10,10 @@ pub mod NameLemmas
 pub mod UsedLemmas
 pub mod ImportLemmas
 pub mod UniverseLemmas
+pub mod ReferenceLemmas
 pub mod InitialLemmas
 pub mod LateLemmas
+pub mod BodyLemmas
 pub mod PackageLemmas
 pub mod ReadLemmas
 pub mod StandLemmas

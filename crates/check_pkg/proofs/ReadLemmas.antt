@@ -21,7 +21,7 @@ use Rattle.unit_read.specs.Units.{Unit, nodes_of, is_among}
 use Rattle.unit_rows.specs.Circular.{AreCircular}
 use Rattle.unit_rows.specs.Cyclic.{is_cyclic, all_cyclic}
 use Rattle.unit_rows.specs.Drafts.{package_unit, with_flags}
-use Rattle.unit_rows.specs.Redeclared.{is_redeclared}
+use Rattle.unit_blocks.specs.Blocks.{AreAgain}
 use Rattle.unit_rows.proofs.CyclicLemmas.{marks_cyclic}
 use Rattle.unit_rows.proofs.ListLemmas.{got}
 use Rattle.unit_rows.proofs.ReadLemmas.{none_past}
@@ -88,7 +88,7 @@ are_needs u order owners of flags own = record {
   marks_of at node there = marks_cyclic u.uses u.trees order (order_of u.uses u.trees order owners of) at node there
 
 pub is_unit_of : (path : List ℕ) (texts : List (List ℕ)) (trees : List FileTree) (uses : List (NodeRef × Object)) (env : List ConstInterface) (bare u : Unit) (before after later redeclared cyclic circular : List (Vec Bool)) (order : List Needed)
-    (owners : List (Vec (Option NodeRef))) → bare ≡ package_unit path texts trees uses env before after later owners → u ≡ with_flags bare redeclared cyclic circular → ((at : NodeRef) → flag redeclared at ≡ is_redeclared bare at)
+    (owners : List (Vec (Option NodeRef))) → bare ≡ package_unit path texts trees uses env before after later owners → u ≡ with_flags bare redeclared cyclic circular → AreAgain bare (flag redeclared)
     → AreNeedsOf uses trees order owners → ((at : NodeRef) → flag cyclic at ≡ is_cyclic trees order at) → AreCircular bare (flag circular) → IsUnitOf path texts trees uses env u
 is_unit_of path texts trees uses env bare u before after later redeclared cyclic circular order owners bare_is u_is again of needs turn =
     subst (λ (x : Unit). IsUnitOf path texts trees uses env x) (sym (u_is ∙ ap (λ (x : Unit). with_flags x redeclared cyclic circular) bare_is)) record {
@@ -97,7 +97,7 @@ is_unit_of path texts trees uses env bare u before after later redeclared cyclic
       trees = refl;
       uses = refl;
       env = refl;
-      redeclared = λ at. again at ∙ ap (λ (x : Unit). is_redeclared x at) bare_is;
+      redeclared = (let here = subst (λ (x : Unit). AreAgain x (flag redeclared)) bare_is again in record { rows = here.rows; names = here.names; each = here.each });
       needs = are_needs (package_unit path texts trees uses env redeclared cyclic circular owners) order owners of needs (λ at. refl);
       circular = (let turned = subst (λ (x : Unit). AreCircular x (flag circular)) bare_is turn in record { each = turned.each; others = turned.others });
     }

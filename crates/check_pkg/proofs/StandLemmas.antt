@@ -26,12 +26,16 @@ use Rattle.unit_read.specs.Passages.{passages, file_passage, nth_file, copied, c
 use Rattle.unit_read.specs.Units.{Unit, text_in, tree_at, nodes_of, node_at}
 use Rattle.rule_words.specs.Asking.{Rule}
 use Rattle.bind.specs.Answers.{AreSpelled}
+use Rattle.late_list.specs.declared.late.LateFault.{LateFault}
+use Rattle.body_facts.specs.Facts.{IsBodyFault}
+use Rattle.body_facts.proofs.PlaceLemmas.{fault_stands}
 use Rattle.check_pkg.specs.declared.refusal.Fault.{Fault}
 use Rattle.check_pkg.specs.declared.refusal.Refusal.{Refusal}
 use Rattle.check_pkg.specs.declared.late_rules.Late.{Late}
 use Rattle.check_pkg.specs.Faults.{start_of, spot, offset_of, constraint_in, constraint_offset, is_constraint, bearer, written_offset, value_in, copied_offset}
 use Rattle.check_pkg.specs.Items.{IsRefusedItem}
 use Rattle.check_pkg.specs.Late.{late_token}
+use Rattle.check_pkg.specs.References.{reads_at}
 use Rattle.check_pkg.specs.Packages.{Package, Env, text_of, IsUnit}
 use Rattle.check_pkg.specs.Refusals.{IsRefused, HasMarks}
 
@@ -84,14 +88,18 @@ text_is p env u f file is read =
     ap (λ (texts : List (List ℕ)). slice_index_or texts f []) is.texts
     ∙ get_or_from_slice_get (map text_of p.files) f file.1 [] (slice_get-map text_of p.files f ∙ ap (option_map text_of) read)
 
+token_low : (p : Package) (f i : ℕ) (tree : FileTree) (file : List ℕ × List ℕ) → AreInText p → slice_get p.trees f ≡ Some tree → slice_get p.files f ≡ Some file
+    → option_map_or (λ (token : Token). token.start) (slice_get tree.tokens i) 0 ≤ length file.1
+token_low p f i tree file within read there = by (slice_get tree.tokens i) refl where
+  by : (o : Option Token) → slice_get tree.tokens i ≡ o → option_map_or (λ (token : Token). token.start) o 0 ≤ length file.1
+  by None e = omega arith
+  by (Some token) e = within.each f i tree token file read there e
+
 start_low : (p : Package) (env : Env) (u : Unit) (f i : ℕ) (tree : FileTree) (file : List ℕ × List ℕ) → IsUnit p env u → AreInText p → slice_get p.trees f ≡ Some tree → slice_get p.files f ≡ Some file
     → start_of u f i ≤ length file.1
 start_low p env u f i tree file is within read there =
     subst (λ (o : Option FileTree). option_map_or (λ (token : Token). token.start) (option_and_then (λ (t : FileTree). slice_get t.tokens i) o) 0 ≤ length file.1)
-    (sym (ap (λ (ts : List FileTree). slice_get ts f) is.trees ∙ read)) (by (slice_get tree.tokens i) refl) where
-      by : (o : Option Token) → slice_get tree.tokens i ≡ o → option_map_or (λ (token : Token). token.start) o 0 ≤ length file.1
-      by None e = omega arith
-      by (Some token) e = within.each f i tree token file read there e
+    (sym (ap (λ (ts : List FileTree). slice_get ts f) is.trees ∙ read)) (token_low p f i tree file within read there)
 
 offset_low : (p : Package) (env : Env) (u : Unit) (at : NodeRef) (tree : FileTree) (file : List ℕ × List ℕ) → IsUnit p env u → AreInText p → slice_get p.trees at.file ≡ Some tree
     → slice_get p.files at.file ≡ Some file → offset_of u at ≤ length file.1
@@ -206,13 +214,26 @@ late_lies p env u late at node x is spelled within there lies =
     let found = file_of p at.file t.0 spelled read in
     subst (Lies p) (sym lies) record { file = found.0; there = found.1; within = start_low p env u at.file (late_token late node) t.0 found.0 is within read found.1 }
 
+body_lies : (p : Package) (env : Env) (u : Unit) (meant : NodeRef → Option NodeRef) (y : LateFault) (x : Refusal) → IsUnit p env u → AreSpelled p.trees p.files → AreInText p → IsBodyFault u meant y
+    → x.place ≡ y.place → Lies p x.place
+body_lies p env u meant y x is spelled within fault lies =
+    let s = fault_stands u meant y fault in
+    let read : slice_get p.trees y.place.file ≡ Some s.tree = ap (λ (ts : List FileTree). slice_get ts y.place.file) (sym is.trees) ∙ s.there in
+    let found = file_of p y.place.file s.tree spelled read in
+    subst (Lies p) (sym lies) record {
+      file = found.0;
+      there = found.1;
+      within = subst (λ (n : ℕ). n ≤ length found.0.1) (sym s.offset) (token_low p y.place.file s.token s.tree found.0 within read found.1);
+    }
+
 -- each refusal stands in a file of the package
 pub refusal_stands : (rule : Unit → Item → Rule) (p : Package) (env : Env) (u : Unit) (list : List Refusal) → IsUnit p env u → AreSpelled p.trees p.files → AreInText p → HasMarks rule u list
     → (x : Refusal) → Contains list x → Lies p x.place
 refusal_stands rule p env u list is spelled within has x there = by ((has.each has.marks has.annotated x).0 there) where
   by : IsRefused u has.marks x → Lies p x.place
   by (inl item) = item_lies p env u has.marks x is spelled within item
-  by (inr (inr (late, (at, refuses, (node, here, (lies, fault)))))) = late_lies p env u late at node x is spelled within here lies
+  by (inr (inr (inl (late, (at, refuses, (node, here, (lies, fault))))))) = late_lies p env u late at node x is spelled within here lies
+  by (inr (inr (inr (y, found, (lies, fault))))) = body_lies p env u (reads_at u has.marks) y x is spelled within found lies
   by (inr (inl (at, name, (tree, here, among), named, lies, fault))) =
       let read : slice_get p.trees at.file ≡ Some tree = ap (λ (ts : List FileTree). slice_get ts at.file) (sym is.trees) ∙ here in
       let found = file_of p at.file tree spelled read in

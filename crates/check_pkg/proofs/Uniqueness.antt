@@ -6,11 +6,14 @@ use Rattle.go_tree.specs.declared.bindings.Object.{Object}
 use Rattle.go_tree.specs.declared.tree.FileTree.{FileTree}
 use Rattle.go_tree.specs.declared.tree.NodeRef.{NodeRef}
 use Rattle.export_data.specs.declared.constants.ConstInterface.{ConstInterface}
+use Rattle.std.proofs.lemmas.Option.{slice_get_within}
 use Rattle.bind.specs.Answers.{AreSpelled}
 use Rattle.bind.specs.Denoting.{AreBindings}
 use Rattle.bind.specs.Sources.{Source, Sources, AreFiles}
 use Rattle.unit_read.specs.Units.{Unit}
-use Rattle.unit_rows.specs.Redeclared.{is_redeclared}
+use Rattle.unit_rows.proofs.ListLemmas.{got}
+use Rattle.unit_blocks.specs.Blocks.{HaveForests, AreAgain}
+use Rattle.unit_blocks.proofs.OneLemmas.{one_again}
 use Rattle.check_pkg.specs.Packages.{Package, Env, known_of, IsUnit}
 use Rattle.check_pkg.proofs.Lists.{stands_in, contains_at}
 
@@ -85,6 +88,12 @@ sources (t ∷ ts) (e ∷ es) spelled =
     let rest = sources ts es (record { size = omega arith; spelled = λ i u f tree file. spelled.spelled (suc i) u f tree file }) in
     (record { path = e.0; bytes = e.1; tree = t; forest = here.forest } ∷ rest.0, (refl, refl, refl, here.arena, rest.1))
 
+pub spelled_forests : (trees : List FileTree) (files : List (List ℕ × List ℕ)) → AreSpelled trees files → HaveForests trees
+spelled_forests trees files spelled f tree there =
+    let (file, at) = got files f (let low = slice_get_within trees f tree there in let size = spelled.size in omega (arith, low, size)) in
+    let here = spelled.spelled f tree file there at in
+    (here.forest, here.arena)
+
 -- both have the uses of the package, and no others
 same_uses : (s : Sources) (one other : List Use) → AreBindings s one → AreBindings s other → (z : Use) → Has one z → Has other z
 same_uses s one other a b z (k, at) = stands_in other z ((b z.0 z.1).1 ((a z.0 z.1).0 (contains_at one k z at)))
@@ -134,8 +143,17 @@ one_unit p env a b one other spelled same turned owned = whole where
   plain : unit_with a.path a.texts a.trees a.uses a.env (λ at. false) (λ at. false) (λ at. false) (λ at. None) ≡ unit_with b.path b.texts b.trees b.uses b.env (λ at. false) (λ at. false) (λ at. false) (λ at. None)
   plain = with_flags a b (λ at. false) (λ at. false) (λ at. false) (λ at. None) shares
 
+  bare : Unit → Unit
+  bare u = unit_with u.path u.texts u.trees u.uses u.env (λ at. false) (λ at. false) (λ at. false) (λ at. None)
+
+  turned_over : AreAgain (bare a) b.redeclared
+  turned_over = subst (λ (u : Unit). AreAgain u b.redeclared) (sym plain) (record { rows = other.redeclared.rows; names = other.redeclared.names; each = other.redeclared.each })
+
+  forests : HaveForests a.trees
+  forests = subst (λ (trees : List FileTree). HaveForests trees) (sym one.trees) (spelled_forests p.trees p.files spelled)
+
   again : (at : NodeRef) → a.redeclared at ≡ b.redeclared at
-  again at = one.redeclared at ∙ (ap (λ (u : Unit). is_redeclared u at) plain ∙ sym (other.redeclared at))
+  again at = one_again (bare a) a.redeclared b.redeclared forests (record { rows = one.redeclared.rows; names = one.redeclared.names; each = one.redeclared.each }) turned_over at
 
   whole : a ≡ b
   whole =

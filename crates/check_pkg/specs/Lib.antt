@@ -12,5 +12,7 @@ pub mod ImportLists
 pub mod Exports
 pub mod Readings
 pub mod Universes
+pub mod References
 pub mod Initial
+pub mod InBodies
 pub mod Late

@@ -19,7 +19,7 @@ use Rattle.bind.specs.Denoting.{AreBindings}
 use Rattle.bind.specs.Sources.{Sources, AreFiles}
 use Rattle.unit_read.specs.Units.{Unit, node_at}
 use Rattle.unit_rows.specs.Circular.{AreCircular}
-use Rattle.unit_rows.specs.Redeclared.{is_redeclared}
+use Rattle.unit_blocks.specs.Blocks.{AreAgain}
 
 -- Its path, its files in order of their paths, the path and the bytes of each, and their trees.
 pub record Package : Type 0 where
@@ -65,14 +65,14 @@ pub record AreNeeds (u : Unit) : Type 0 where
   pub owned : (at : NodeRef) (node : Node) → node_at u at ≡ Some node → IsOwnerAt names at (u.owner at)
   pub unowned : (at : NodeRef) → node_at u at ≡ None → u.owner at ≡ None
 
--- What is judged: the package with what its uses denote, over this environment, and with which of its names are declared before in the
--- package block, which need themselves, which lead back to themselves, and whose methods it declares.
+-- What is judged: the package with what its uses denote, over this environment, and with which of its names are declared before in their
+-- block, which need themselves, which lead back to themselves, and whose methods it declares.
 pub record IsUnit (p : Package) (interfaces : Env) (u : Unit) : Type 0 where
   pub path : u.path ≡ p.path
   pub texts : u.texts ≡ texts_in p
   pub trees : u.trees ≡ p.trees
   pub uses : AreUses p interfaces u.uses
   pub env : u.env ≡ interfaces
-  pub redeclared : (at : NodeRef) → u.redeclared at ≡ is_redeclared u at
+  pub redeclared : AreAgain u u.redeclared
   pub needs : AreNeeds u
   pub circular : AreCircular u u.circular

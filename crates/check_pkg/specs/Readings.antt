@@ -6,7 +6,7 @@ use Rattle.go_tree.specs.declared.tree.NodeRef.{NodeRef}
 use Rattle.export_data.specs.declared.constants.ConstInterface.{ConstInterface}
 use Rattle.unit_read.specs.Units.{Unit}
 use Rattle.unit_rows.specs.Circular.{AreCircular}
-use Rattle.unit_rows.specs.Redeclared.{is_redeclared}
+use Rattle.unit_blocks.specs.Blocks.{AreAgain}
 use Rattle.check_pkg.specs.Packages.{AreNeeds}
 
 -- the unit is that of this path, these texts, trees, uses and interfaces, with its flags
@@ -16,6 +16,6 @@ pub record IsUnitOf (name : List ℕ) (sources : List (List ℕ)) (files : List 
   pub trees : u.trees ≡ files
   pub uses : u.uses ≡ bindings
   pub env : u.env ≡ interfaces
-  pub redeclared : (at : NodeRef) → u.redeclared at ≡ is_redeclared u at
+  pub redeclared : AreAgain u u.redeclared
   pub needs : AreNeeds u
   pub circular : AreCircular u u.circular

@@ -7,9 +7,11 @@ ghost use Rattle.go_tree.specs.Bindings.{AreInOrder};
 ghost use Rattle.mark_walk.specs.Asks.{filled};
 ghost use Rattle.typed_marks.specs.Meanings.{Quiet};
 ghost use Rattle.typed_marks.specs.States.{so_far, IsState};
+ghost use Rattle.unit_blocks.specs.Blocks.{HaveForests};
 ghost use Rattle.unit_read.specs.Environments.{IsEnvironment};
 ghost use Rattle.unit_read.specs.Index.{texts_of};
 ghost use Rattle.unit_read.specs.Subjects.{unit_of, IsRead};
+ghost use Rattle.body_facts.specs.Bodies.{AreBodies};
 ghost use Rattle.check_pkg.specs.declared.refusal.Refusal.{Refusal as OneRefusal};
 ghost use Rattle.check_pkg.specs.Checks.{IsOutcome, IsOutcomeBy, IsOutcomeOf};
 ghost use Rattle.check_pkg.specs.Faults.{IsOrdered};
@@ -65,6 +67,7 @@ fn unsorted(
     requires read { IsRead u.now }
     requires small { AreSmall u.now.trees.now }
     requires few { length u.now.trees.now < 2 ^ 32 }
+    requires bodies { AreBodies (texts_of u.now.texts.now) u.now.trees.now }
     requires state { IsState s.now }
     requires block { IsBlock (unit_of u.now) block.now }
     ensures { IfOk result (λ list. (x : OneRefusal) → Contains list.items x ↔ IsRefused (unit_of u.now) (filled Quiet (so_far s.now)) x) }
@@ -86,6 +89,7 @@ fn refusals(
     requires read { IsRead u.now }
     requires small { AreSmall u.now.trees.now }
     requires few { length u.now.trees.now < 2 ^ 32 }
+    requires bodies { AreBodies (texts_of u.now.texts.now) u.now.trees.now }
     requires state { IsState s.now }
     requires block { IsBlock (unit_of u.now) block.now }
     ensures all { IfOk result (λ list. (x : OneRefusal) → Contains list.items x ↔ IsRefused (unit_of u.now) (filled Quiet (so_far s.now)) x) }
@@ -129,6 +133,7 @@ fn judge(alloc: Global, u: &Subject, s: &State) -> Result<Checked, NoMemory>
     requires read { IsRead u.now }
     requires small { AreSmall u.now.trees.now }
     requires few { length u.now.trees.now < 2 ^ 32 }
+    requires bodies { AreBodies (texts_of u.now.texts.now) u.now.trees.now }
     requires state { IsState s.now }
     ensures all { IfOk result (λ c. (x : OneRefusal) → Contains c.refused.items x ↔ IsRefused (unit_of u.now) (filled Quiet (so_far s.now)) x) }
     ensures ordered { IfOk result (λ c. IsOrdered c.refused.items) }
@@ -152,6 +157,7 @@ fn judge_unit<R: Rules>(
     requires read { IsRead u.now }
     requires small { AreSmall u.now.trees.now }
     requires few { length u.now.trees.now < 2 ^ 32 }
+    requires bodies { AreBodies (texts_of u.now.texts.now) u.now.trees.now }
     ensures { IfOk result (IsOutcome R.rule (unit_of u.now)) }
 {
     let table = first_table(alloc)?;
@@ -175,8 +181,10 @@ fn judge_read<R: Rules>(
     uses: &Bindings,
     env: &Environment<'_>,
 ) -> Result<Outcome, NoMemory>
+    requires forests { HaveForests trees.now }
     requires small { AreSmall trees.now }
     requires few { length trees.now < 2 ^ 32 }
+    requires bodies { AreBodies (texts_of sources.now) trees.now }
     requires uses { AreInOrder uses.now }
     requires env { IsEnvironment env.now }
     ensures { IfOk result (IsOutcomeBy R.rule path.now (texts_of sources.now) trees.now uses.now env.now.interfaces.now) }
@@ -196,8 +204,10 @@ fn judge_files<R: Rules>(
     uses: &Bindings,
     env: &[ConstInterface],
 ) -> Result<Outcome, NoMemory>
+    requires forests { HaveForests trees.now }
     requires small { AreSmall trees.now }
     requires few { length trees.now < 2 ^ 32 }
+    requires spelled { AreSpelled trees.now files.now }
     requires uses { AreInOrder uses.now }
     ensures { IfOk result (IsOutcomeBy R.rule path.now (map text_of files.now) trees.now uses.now env.now) }
 {

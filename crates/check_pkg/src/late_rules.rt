@@ -5,27 +5,31 @@ ghost use Rattle.mark_walk.specs.Asks.{filled};
 ghost use Rattle.package_objects.specs.Declares.{AreSmall};
 ghost use Rattle.typed_marks.specs.Meanings.{Quiet};
 ghost use Rattle.typed_marks.specs.States.{so_far, IsState};
+ghost use Rattle.unit_read.specs.Index.{texts_of};
 ghost use Rattle.unit_read.specs.Subjects.{unit_of, IsRead};
+ghost use Rattle.body_facts.specs.Bodies.{AreBodies};
 ghost use Rattle.check_pkg.specs.Gains.{Gains, SomeBelow};
-ghost use Rattle.check_pkg.specs.Late.{lates, late_rule, late_token, RefusesLate, IsLateIn, IsLateAt, RefusedBy, IsRefusedLate, NthLateAt, NthRefusedBy};
+ghost use Rattle.check_pkg.specs.Late.{lates, late_rule, late_token, RefusesLate, IsLateIn, IsLateAt, RefusedBy, IsRefusedByRow, IsRefusedLate, NthLateAt, NthRefusedBy};
 
+use crate::in_bodies::refuse_bodies;
 use crate::initial::initial_nodes;
 use crate::places::start_of;
 use crate::refusal::{Fault, Refusal};
+use duplicate_cases::duplicate_nodes;
 use go_tree::{Node, NodeRef};
 use gv_base::{NoMemory, Place};
 use std::alloc::Global;
 use typed_marks::State;
-use typed_tree::Rule;
+use typed_tree::{DUPLICATE_CASE, INITIALISATION_CYCLE, Rule};
 use unit_read::Subject;
-
-/// E5 initialisation cycle
-pub const INITIALISATION_CYCLE: Rule = Rule(5);
 
 /// A rule that is tested when all marks stand.
 #[derive(Clone, Copy, Debug, PartialEq, Eq, Drop)]
 pub enum Late {
+    /// E5: a variable that reaches itself by references in initial values and bodies.
     InitialCycle,
+    /// E81: a case that stands before in its switch.
+    DuplicateCase,
 }
 
 // ---- the rows
@@ -35,6 +39,7 @@ fn lates(alloc: Global) -> Result<Vec<Late>, NoMemory>
 {
     let mut list = Vec::new(alloc);
     list.push(Late::InitialCycle)?;
+    list.push(Late::DuplicateCase)?;
     Ok(list)
 }
 
@@ -43,6 +48,7 @@ fn late_rule(late: Late) -> Rule
 {
     match late {
         Late::InitialCycle => INITIALISATION_CYCLE,
+        Late::DuplicateCase => DUPLICATE_CASE,
     }
 }
 
@@ -52,6 +58,7 @@ fn late_token(late: Late, node: &Node) -> u32
 {
     match late {
         Late::InitialCycle => node.first,
+        Late::DuplicateCase => node.first,
     }
 }
 
@@ -66,6 +73,10 @@ fn late_nodes(alloc: Global, u: &Subject, s: &State, late: Late) -> Result<Vec<N
     match late {
         Late::InitialCycle => {
             let list = initial_nodes(alloc, u, s)?;
+            Ok(list)
+        }
+        Late::DuplicateCase => {
+            let list = duplicate_nodes(alloc, u, s)?;
             Ok(list)
         }
     }
@@ -158,8 +169,8 @@ fn refuse_each(
     Ok(())
 }
 
-/// Adds what late rules refuse.
-pub fn refuse_late(
+/// Adds what the late rules refuse that are rows.
+fn refuse_rows(
     alloc: Global,
     u: &Subject,
     s: &State,
@@ -169,9 +180,26 @@ pub fn refuse_late(
     requires state { IsState s.now }
     requires small { AreSmall u.now.trees.now }
     requires few { length u.now.trees.now ≤ 2 ^ 32 }
-    ensures { OnOk result (Gains (IsRefusedLate (unit_of u.now) (filled Quiet (so_far s.now))) list.old.items list.new.items) }
+    ensures { OnOk result (Gains (IsRefusedByRow (unit_of u.now) (filled Quiet (so_far s.now))) list.old.items list.new.items) }
 {
     let rules = lates(alloc)?;
     refuse_each(alloc, u, s, &rules, list)?;
+    Ok(())
+}
+
+/// Adds what late rules refuse.
+pub fn refuse_late(
+    alloc: Global,
+    u: &Subject,
+    s: &State,
+    list: &mut Vec<Refusal>,
+) -> Result<(), NoMemory>
+    requires read { IsRead u.now }
+    requires state { IsState s.now }
+    requires bodies { AreBodies (texts_of u.now.texts.now) u.now.trees.now }
+    ensures { OnOk result (Gains (IsRefusedLate (unit_of u.now) (filled Quiet (so_far s.now))) list.old.items list.new.items) }
+{
+    refuse_rows(alloc, u, s, list)?;
+    refuse_bodies(alloc, u, s, list)?;
     Ok(())
 }

@@ -6,6 +6,7 @@ ghost use Rattle.unit_read.specs.Index.{texts_of};
 ghost use Rattle.unit_read.specs.Subjects.{unit_of, IsRead};
 ghost use Rattle.package_objects.specs.Declares.{AreSmall};
 ghost use Rattle.package_needs.specs.Worlds.{AreNeedsOf};
+ghost use Rattle.unit_blocks.specs.Blocks.{HaveForests};
 ghost use Rattle.check_pkg.specs.Readings.{IsUnitOf};
 
 use crate::ahead::stretches;
@@ -15,8 +16,9 @@ use gv_base::NoMemory;
 use object_order::Needed;
 use package_needs::{Needs, needs_of};
 use std::alloc::Global;
+use unit_blocks::block_rows;
 use unit_read::{Environment, Subject};
-use unit_rows::{circular_rows, cyclic_rows, read_unit, redeclared_rows, with_flags};
+use unit_rows::{circular_rows, cyclic_rows, read_unit, with_flags};
 
 /// A package that has been read, and its declarations in the order in which their nodes are marked.
 #[derive(Drop)]
@@ -25,7 +27,7 @@ pub struct Reading<'a> {
     pub first: Vec<Stretch>,
 }
 
-/// Reads a package: with which of its names are declared before in the package block, which need themselves, which lead back to themselves, and
+/// Reads a package: with which of its names are declared before in their block, which need themselves, which lead back to themselves, and
 /// whose methods it declares.
 fn subject_of<'a>(
     alloc: Global,
@@ -37,6 +39,7 @@ fn subject_of<'a>(
     order: &[Needed],
     owners: Vec<Vec<Option<NodeRef>>>,
 ) -> Result<Subject<'a>, NoMemory>
+    requires forests { HaveForests trees.now }
     requires small { AreSmall trees.now }
     requires few { length trees.now ≤ 2 ^ 32 }
     requires uses { AreInOrder uses.now }
@@ -58,7 +61,7 @@ fn subject_of<'a>(
         Vec::new(alloc),
         owners,
     )?;
-    let redeclared = redeclared_rows(alloc, &bare)?;
+    let redeclared = block_rows(alloc, &bare)?;
     let circular = circular_rows(alloc, &bare)?;
     Ok(with_flags(bare, redeclared, cyclic, circular))
 }
@@ -72,6 +75,7 @@ pub fn read<'a>(
     uses: &'a Bindings,
     env: &'a Environment<'a>,
 ) -> Result<Reading<'a>, NoMemory>
+    requires forests { HaveForests trees.now }
     requires small { AreSmall trees.now }
     requires few { length trees.now ≤ 2 ^ 32 }
     requires uses { AreInOrder uses.now }

@@ -11,8 +11,7 @@ use Rattle.package_objects.proofs.GatherLemmas.{gather_more}
 use Rattle.scopes.specs.declared.scope.Named.{Named}
 use Rattle.unit_read.specs.Units.{Unit, nodes_at}
 use Rattle.unit_read.proofs.CellLemmas.{item_is}
-use Rattle.unit_rows.specs.Redeclared.{named_again}
-use Rattle.unit_blocks.specs.Blocks.{placed_name, listed_if, if_of_block, nth_of_block, block_names, again_in_file, again_at, PushesAt, AddsAt, AreBlocks}
+use Rattle.unit_blocks.specs.Blocks.{placed_name, listed_if, if_of_block, nth_of_block, block_names, declared_again, again_in_file, again_at, PushesAt, AddsAt, AreBlocks}
 
 -- ---- groups
 
@@ -95,7 +94,7 @@ blocks_more f count names i d old new there was adds = record {
       (adds.each k (let s = was.size in omega arith) ∙ ap (λ (o : Option Named). group_in old k ++ option_map_or (if_of_block f count k) o []) (sym there));
 }
 
-gather_same : (g h : ℕ → List NodeRef) (n : ℕ) → ((k : ℕ) → k < n → g k ≡ h k) → gather g n ≡ gather h n
+pub gather_same : (g h : ℕ → List NodeRef) (n : ℕ) → ((k : ℕ) → k < n → g k ≡ h k) → gather g n ≡ gather h n
 gather_same g h zero same = refl
 gather_same g h (suc n) same = ap (λ (xs : List NodeRef). xs ++ g n) (gather_same g h n (λ k low. same k (omega arith))) ∙ ap (λ (xs : List NodeRef). gather h n ++ xs) (same n (omega arith))
 
@@ -103,5 +102,5 @@ gather_same g h (suc n) same = ap (λ (xs : List NodeRef). xs ++ g n) (gather_sa
 pub file_again : (u : Unit) (f count : ℕ) (names : List Named) (groups : List (Vec NodeRef)) → count ≡ length (nodes_at u f) → AreBlocks f count names (length names) groups
     → gather (again_at u groups) count ≡ again_in_file u f names
 file_again u f count names groups all are =
-    gather_same (again_at u groups) (λ k. named_again u (block_names f count names k)) count (λ k low. ap (named_again u) (are.each k low))
-    ∙ ap (λ (n : ℕ). gather (λ k. named_again u (block_names f n names k)) n) all
+    gather_same (again_at u groups) (λ k. declared_again u (block_names f count names k)) count (λ k low. ap (declared_again u) (are.each k low))
+    ∙ ap (λ (n : ℕ). gather (λ k. declared_again u (block_names f n names k)) n) all

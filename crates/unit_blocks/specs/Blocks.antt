@@ -5,14 +5,40 @@ use Rattle.std.specs.Prelude.{◌≡◌, ℕ, ◌<◌, ◌++◌, Bool, nat_eq, n
 use Rattle.std.specs.Global.{Vec}
 use Rattle.std.specs.List.{cons_option}
 use Rattle.std.specs.Option.{option_map_or}
+use Rattle.go_tree.specs.Arena.{arena_of}
+use Rattle.go_tree.specs.Forest.{Forest}
+use Rattle.go_tree.specs.declared.bindings.Object.{Object}
+use Rattle.go_tree.specs.declared.tree.FileTree.{FileTree}
 use Rattle.go_tree.specs.declared.tree.NodeRef.{NodeRef}
 use Rattle.object_order.specs.Spots.{place}
 use Rattle.object_order.specs.Views.{group_in}
 use Rattle.package_objects.specs.Declares.{gather}
+use Rattle.scopes.specs.Regions.{file_names}
 use Rattle.scopes.specs.declared.scope.Named.{Named}
-use Rattle.unit_read.specs.Units.{Unit, nodes_at}
+use Rattle.unit_read.specs.Units.{Unit, nodes_at, object_at}
 use Rattle.unit_rows.specs.Redeclared.{named_again, redeclared}
 use Rattle.unit_rows.specs.Tables.{row_in, is_listed}
+
+-- ---- the names of a file
+
+-- the nodes of a file are those of trees
+abbrev pub HasForest : FileTree → Type 0
+HasForest tree = (f : Forest) × (arena_of tree.tokens f ≡ tree)
+
+abbrev pub HaveForests : List FileTree → Type 0
+HaveForests trees = (f : ℕ) (tree : FileTree) → slice_get trees f ≡ Some tree → HasForest tree
+
+-- these are the names that a file declares
+abbrev pub AreNamesOf : FileTree → List Named → Type 0
+AreNamesOf tree names = (f : Forest) → arena_of tree.tokens f ≡ tree → names ≡ file_names f
+
+-- those of the first few files, and of all
+pub record AreNamesTo (trees : List FileTree) (n : ℕ) (rows : List (Vec Named)) : Type 0 where
+  pub size : length rows ≡ n
+  pub each : (f : ℕ) (tree : FileTree) → f < n → slice_get trees f ≡ Some tree → AreNamesOf tree (row_in rows f)
+
+abbrev pub AreNames : List FileTree → List (Vec Named) → Type 0
+AreNames trees rows = (f : ℕ) (tree : FileTree) → slice_get trees f ≡ Some tree → AreNamesOf tree (row_in rows f)
 
 -- ---- the names of a block
 
@@ -35,10 +61,27 @@ block_names f count names block = gather (nth_of_block f count names block) (len
 
 -- ---- names that are declared before
 
--- Those of a block that have the name of an earlier one of it. One that stands on the left of `:=` is assigned there, or declared twice in one
--- statement.
+-- A name on the left of `:=` that its block has already is assigned there ("Short variable declarations"): it is a use, and declares nothing.
+abbrev pub unless_used : NodeRef → Option Object → List NodeRef
+unless_used at None = at ∷ []
+unless_used at (Some object) = []
+
+abbrev pub if_declared : Unit → NodeRef → List NodeRef
+if_declared u at = unless_used at (object_at u at)
+
+abbrev pub nth_declared : Unit → List NodeRef → ℕ → List NodeRef
+nth_declared u nodes i = option_map_or (if_declared u) (slice_get nodes i) []
+
+-- of some names those that are declared where they stand
+abbrev pub all_declared : Unit → List NodeRef → List NodeRef
+all_declared u nodes = gather (nth_declared u nodes) (length nodes)
+
+-- of some names those that are declared and that an earlier one has
+abbrev pub declared_again : Unit → List NodeRef → List NodeRef
+declared_again u nodes = named_again u (all_declared u nodes)
+
 abbrev pub again_in_block : Unit → ℕ → List Named → ℕ → List NodeRef
-again_in_block u f names block = named_again u (block_names f (length (nodes_at u f)) names block)
+again_in_block u f names block = declared_again u (block_names f (length (nodes_at u f)) names block)
 
 -- those of all blocks within functions of a file
 abbrev pub again_in_file : Unit → ℕ → List Named → List NodeRef
@@ -53,6 +96,12 @@ inner_again u names = gather (again_by u names) (length u.trees)
 -- E1: the name is declared before in its block: that of the package, or one within a function
 abbrev pub is_redeclared : Unit → List (Vec Named) → NodeRef → Bool
 is_redeclared u names at = is_listed u.trees (redeclared u ++ inner_again u names) at
+
+-- the flags are those of the names that the trees declare
+pub record AreAgain (u : Unit) (flags : NodeRef → Bool) : Type 0 where
+  pub rows : List (Vec Named)
+  pub names : AreNames u.trees rows
+  pub each : (at : NodeRef) → flags at ≡ is_redeclared u rows at
 
 -- ---- groups
 
@@ -72,6 +121,6 @@ pub record AreBlocks (f count : ℕ) (names : List Named) (n : ℕ) (groups : Li
   pub size : length groups ≡ count
   pub each : (k : ℕ) → k < count → group_in groups k ≡ gather (nth_of_block f count names k) n
 
--- of each group those that have the name of an earlier one
+-- of each group those that are declared and that an earlier one has
 abbrev pub again_at : Unit → List (Vec NodeRef) → ℕ → List NodeRef
-again_at u groups k = named_again u (group_in groups k)
+again_at u groups k = declared_again u (group_in groups k)

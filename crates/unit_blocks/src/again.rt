@@ -1,17 +1,16 @@
 //! Which names are declared before in their block.
-ghost use Rattle.std.specs.Prelude.{◌≡◌, ◌++◌, ◌≤◌, ◌^◌, length, IfOk, OnOk};
+ghost use Rattle.std.specs.Prelude.{◌≡◌, ◌++◌, ◌≤◌, ◌^◌, length, slice_get, IfOk, OnOk};
 ghost use Rattle.go_tree.specs.declared.tree.NodeRef.{NodeRef};
 ghost use Rattle.object_order.specs.Views.{group_in};
 ghost use Rattle.package_objects.specs.Declares.{gather, AreSmall};
-ghost use Rattle.unit_blocks.specs.Blocks.{again_in_file, again_by, inner_again, is_redeclared, again_at};
-ghost use Rattle.unit_read.specs.Subjects.{flag, unit_of};
+ghost use Rattle.unit_blocks.specs.Blocks.{HaveForests, AreAgain, unless_used, if_declared, nth_declared, all_declared, declared_again, again_in_file, again_by, inner_again, is_redeclared, again_at};
+ghost use Rattle.unit_read.specs.Subjects.{flag, unit_of, IsRead};
 ghost use Rattle.unit_read.specs.Units.{nodes_at};
-ghost use Rattle.unit_rows.specs.Drafts.{IsPlaced};
-ghost use Rattle.unit_rows.specs.Redeclared.{named_again};
 ghost use Rattle.unit_rows.specs.Tables.{row_in};
 
 use crate::blocks::blocks_of;
-use go_tree::NodeRef;
+use crate::names::names_in;
+use go_tree::{NodeRef, Object};
 use gv_base::NoMemory;
 use scopes::Named;
 use std::alloc::Global;
@@ -27,20 +26,84 @@ fn group(groups: &[Vec<NodeRef>], n: usize) -> &[NodeRef]
     }
 }
 
+fn nth(nodes: &[NodeRef], i: usize) -> Option<NodeRef>
+    ensures { result ≡ slice_get nodes.now i }
+{
+    nodes.get(i).copied()
+}
+
+/// Adds a name, unless it is a use that denotes something.
+fn add_unless_used(
+    at: NodeRef,
+    object: Option<Object>,
+    out: &mut Vec<NodeRef>,
+) -> Result<(), NoMemory>
+    ensures { OnOk result (out.new.items ≡ out.old.items ++ unless_used at object) }
+{
+    match object {
+        None => {
+            out.push(at)?;
+            Ok(())
+        }
+        Some(_) => Ok(()),
+    }
+}
+
+/// Adds a name, if it is declared where it stands.
+fn add_declared(s: &Subject, at: NodeRef, out: &mut Vec<NodeRef>) -> Result<(), NoMemory>
+    requires { IsRead s.now }
+    ensures { OnOk result (out.new.items ≡ out.old.items ++ if_declared (unit_of s.now) at) }
+{
+    add_unless_used(at, s.object_at(at), out)?;
+    Ok(())
+}
+
+fn add_nth(s: &Subject, nodes: &[NodeRef], i: usize, out: &mut Vec<NodeRef>) -> Result<(), NoMemory>
+    requires { IsRead s.now }
+    ensures { OnOk result (out.new.items ≡ out.old.items ++ nth_declared (unit_of s.now) nodes.now i) }
+{
+    if let Some(at) = nth(nodes, i) {
+        add_declared(s, at, out)?;
+    }
+    Ok(())
+}
+
+/// Of some names those that are declared where they stand.
+fn all_declared(alloc: Global, s: &Subject, nodes: &[NodeRef]) -> Result<Vec<NodeRef>, NoMemory>
+    requires { IsRead s.now }
+    ensures { IfOk result (λ list. list.items ≡ all_declared (unit_of s.now) nodes.now) }
+{
+    let mut out = Vec::new(alloc);
+    for i in 0..nodes.len() {
+        add_nth(s, nodes, i, &mut out)?;
+    }
+    Ok(out)
+}
+
+fn declared_again(alloc: Global, s: &Subject, nodes: &[NodeRef]) -> Result<Vec<NodeRef>, NoMemory>
+    requires { IsRead s.now }
+    ensures { IfOk result (λ list. list.items ≡ declared_again (unit_of s.now) nodes.now) }
+{
+    let names = all_declared(alloc, s, nodes)?;
+    let list = named_again(alloc, s, &names)?;
+    Ok(list)
+}
+
 fn add_named(
     alloc: Global,
     s: &Subject,
     nodes: &[NodeRef],
     out: &mut Vec<NodeRef>,
 ) -> Result<(), NoMemory>
-    ensures { OnOk result (out.new.items ≡ out.old.items ++ named_again (unit_of s.now) nodes.now) }
+    requires { IsRead s.now }
+    ensures { OnOk result (out.new.items ≡ out.old.items ++ declared_again (unit_of s.now) nodes.now) }
 {
-    let list = named_again(alloc, s, nodes)?;
+    let list = declared_again(alloc, s, nodes)?;
     out.extend_from_slice(&list)?;
     Ok(())
 }
 
-/// Adds those of a group that have the name of an earlier one.
+/// Adds those of a group that are declared and that an earlier one has.
 fn add_group(
     alloc: Global,
     s: &Subject,
@@ -48,6 +111,7 @@ fn add_group(
     n: usize,
     out: &mut Vec<NodeRef>,
 ) -> Result<(), NoMemory>
+    requires { IsRead s.now }
     ensures { OnOk result (out.new.items ≡ out.old.items ++ again_at (unit_of s.now) groups.now n) }
 {
     add_named(alloc, s, group(groups, n), out)?;
@@ -61,6 +125,7 @@ fn add_groups(
     count: usize,
     out: &mut Vec<NodeRef>,
 ) -> Result<(), NoMemory>
+    requires { IsRead s.now }
     ensures { OnOk result (out.new.items ≡ out.old.items ++ gather (again_at (unit_of s.now) groups.now) count) }
 {
     for n in 0..count {
@@ -83,7 +148,8 @@ fn add_file(
     names: &[Named],
     out: &mut Vec<NodeRef>,
 ) -> Result<(), NoMemory>
-    requires { length (nodes_at (unit_of s.now) file) ≤ 2 ^ 32 }
+    requires read { IsRead s.now }
+    requires few { length (nodes_at (unit_of s.now) file) ≤ 2 ^ 32 }
     ensures { OnOk result (out.new.items ≡ out.old.items ++ again_in_file (unit_of s.now) file names.now) }
 {
     let count = node_count(s, file);
@@ -108,7 +174,8 @@ fn add_by(
     file: u32,
     out: &mut Vec<NodeRef>,
 ) -> Result<(), NoMemory>
-    requires { length (nodes_at (unit_of s.now) file) ≤ 2 ^ 32 }
+    requires read { IsRead s.now }
+    requires few { length (nodes_at (unit_of s.now) file) ≤ 2 ^ 32 }
     ensures { OnOk result (out.new.items ≡ out.old.items ++ again_by (unit_of s.now) names.now file) }
 {
     add_file(alloc, s, file, row(names, file), out)?;
@@ -122,6 +189,7 @@ fn add_inner(
     names: &[Vec<Named>],
     out: &mut Vec<NodeRef>,
 ) -> Result<(), NoMemory>
+    requires read { IsRead s.now }
     requires small { AreSmall s.now.trees.now }
     requires few { length s.now.trees.now ≤ 2 ^ 32 }
     ensures { OnOk result (out.new.items ≡ out.old.items ++ inner_again (unit_of s.now) names.now) }
@@ -132,14 +200,9 @@ fn add_inner(
     Ok(())
 }
 
-/// For each node of each file whether it is a name that is declared before in its block. `names` has for each file the names that it declares,
-/// in the order in which their regions begin.
-pub fn block_rows(
-    alloc: Global,
-    s: &Subject,
-    names: &[Vec<Named>],
-) -> Result<Vec<Vec<bool>>, NoMemory>
-    requires placed { IsPlaced s.now }
+/// The same by the names of each file, in the order in which their regions begin.
+fn rows_by(alloc: Global, s: &Subject, names: &[Vec<Named>]) -> Result<Vec<Vec<bool>>, NoMemory>
+    requires read { IsRead s.now }
     requires small { AreSmall s.now.trees.now }
     requires few { length s.now.trees.now ≤ 2 ^ 32 }
     ensures { IfOk result (λ flags. (at : NodeRef) → flag flags.items at ≡ is_redeclared (unit_of s.now) names.now at) }
@@ -147,5 +210,18 @@ pub fn block_rows(
     let mut list = redeclared(alloc, s)?;
     add_inner(alloc, s, names, &mut list)?;
     let flags = listed_rows(alloc, s.trees, &list)?;
+    Ok(flags)
+}
+
+/// For each node of each file whether it is a name that is declared before in its block.
+pub fn block_rows(alloc: Global, s: &Subject) -> Result<Vec<Vec<bool>>, NoMemory>
+    requires read { IsRead s.now }
+    requires forests { HaveForests s.now.trees.now }
+    requires small { AreSmall s.now.trees.now }
+    requires few { length s.now.trees.now ≤ 2 ^ 32 }
+    ensures { IfOk result (λ flags. AreAgain (unit_of s.now) (flag flags.items)) }
+{
+    let names = names_in(alloc, s.trees)?;
+    let flags = rows_by(alloc, s, &names)?;
     Ok(flags)
 }

@@ -3,5 +3,6 @@
 
 mod again;
 mod blocks;
+mod names;
 
 pub use again::block_rows;

@@ -1,3 +1,4 @@
 pub mod Values
 pub mod Circles
 pub mod Chosen
+pub mod Bodies

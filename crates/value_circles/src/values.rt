@@ -197,7 +197,7 @@ fn add_top(
     }
 }
 
-fn nth_number(list: &[u32], i: usize) -> Option<u32>
+pub fn nth_number(list: &[u32], i: usize) -> Option<u32>
     ensures { result ≡ slice_get list.now i }
 {
     list.get(i).copied()
@@ -218,7 +218,7 @@ fn add_nth_top(
     }
 }
 
-fn top_count(tree: &FileTree) -> usize
+pub fn top_count(tree: &FileTree) -> usize
     ensures { result ≡ length tree.now.tops }
 {
     tree.tops.as_slice().len()
@@ -233,7 +233,7 @@ fn add_tree(alloc: Global, file: u32, tree: &FileTree, out: &mut Vec<Entry>) -> 
     Ok(())
 }
 
-fn tree_of(trees: &[FileTree], file: u32) -> Option<&FileTree>
+pub fn tree_of(trees: &[FileTree], file: u32) -> Option<&FileTree>
     ensures { option_copied result ≡ slice_get trees.now file }
 {
     trees.get(file as usize)

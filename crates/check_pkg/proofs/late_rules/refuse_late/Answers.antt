@@ -2,10 +2,20 @@ use Rattle.mark_walk.specs.Asks.{filled}
 use Rattle.typed_marks.specs.Meanings.{Quiet}
 use Rattle.typed_marks.specs.States.{so_far}
 use Rattle.unit_read.specs.Subjects.{unit_of}
-use Rattle.check_pkg.proofs.LateLemmas.{lates_gain}
+use Rattle.check_pkg.specs.InBodies.{IsRefusedInBody}
+use Rattle.check_pkg.specs.Late.{IsRefusedByRow}
+use Rattle.check_pkg.proofs.GainLemmas.{gains_then}
 use Rattle.check_pkg.proofs.late_rules.refuse_late.Goals as goal
+
+pub refuse_rows-requires-clause-small : goal.refuse_rows-requires-clause-small
+refuse_rows-requires-clause-small c = c.requires.bodies.small
+
+pub refuse_rows-requires-clause-few : goal.refuse_rows-requires-clause-few
+refuse_rows-requires-clause-few c = c.requires.bodies.few
 
 pub returns : goal.returns
 returns c =
-    lates_gain (unit_of c.args.u.now) (filled Quiet (so_far c.args.s.now)) c.in_ok-rules.rules.items c.deref.result.now c.args.list.now.items c.refuse_each.new.list.items
-    c.deref.ensures.value c.in_ok-rules.ensures c.in_ok-refuse_each.ensures
+    let u = unit_of c.args.u.now in
+    let marks = filled Quiet (so_far c.args.s.now) in
+    gains_then (IsRefusedByRow u marks) (IsRefusedInBody u marks) c.args.list.now.items c.refuse_rows.new.list.items c.refuse_bodies.new.list.items
+    c.in_ok-refuse_rows.ensures c.in_ok-refuse_bodies.ensures

@@ -8,7 +8,7 @@ use Rattle.unit_blocks.proofs.BlockLemmas.{file_again}
 use Rattle.unit_blocks.proofs.again.add_file.Goals as goal
 
 pub blocks_of-requires : goal.blocks_of-requires
-blocks_of-requires c = subst (λ (n : ℕ). n ≤ 2 ^ 32) (sym c.node_count-count.ensures) c.requires
+blocks_of-requires c = subst (λ (n : ℕ). n ≤ 2 ^ 32) (sym c.node_count-count.ensures) c.requires.few
 
 pub returns : goal.returns
 returns c =

@@ -1,12 +1,11 @@
-use Rattle.std.proofs.Common.{◌++◌, List, ap, ◌∙◌}
-use Rattle.go_tree.specs.declared.tree.NodeRef.{NodeRef}
+use Rattle.std.proofs.Common.{ap, ◌∙◌}
 use Rattle.unit_read.specs.Subjects.{unit_of}
-use Rattle.unit_blocks.specs.Blocks.{inner_again}
-use Rattle.unit_rows.specs.Tables.{is_listed}
+use Rattle.unit_blocks.specs.Blocks.{is_redeclared}
 use Rattle.unit_blocks.proofs.again.block_rows.Goals as goal
 
 pub returns : goal.returns
-returns c = λ at.
-    c.in_ok-flags.ensures at
-    ∙ ap (λ (list : List NodeRef). is_listed c.args.s.now.trees.now list at)
-    (c.deref.ensures.value ∙ (c.in_ok-add_inner.ensures ∙ ap (λ (list : List NodeRef). list ++ inner_again (unit_of c.args.s.now) c.args.names.now) c.in_ok-list.ensures))
+returns c = record {
+  rows = c.in_ok-names.names.items;
+  names = c.in_ok-names.ensures;
+  each = λ at. c.in_ok-flags.ensures at ∙ ap (λ rows. is_redeclared (unit_of c.args.s.now) rows at) c.deref.ensures.value;
+}

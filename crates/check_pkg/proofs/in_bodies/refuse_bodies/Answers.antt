@@ -1,0 +1,17 @@
+use Rattle.mark_walk.specs.Asks.{filled}
+use Rattle.typed_marks.specs.Meanings.{Quiet}
+use Rattle.typed_marks.specs.States.{so_far}
+use Rattle.unit_read.specs.Subjects.{unit_of}
+use Rattle.check_pkg.proofs.BodyLemmas.{faults_gain}
+use Rattle.check_pkg.proofs.in_bodies.refuse_bodies.Goals as goal
+
+pub counted_rows-requires-clause-small : goal.counted_rows-requires-clause-small
+counted_rows-requires-clause-small c = c.requires.bodies.small
+
+pub counted_rows-requires-clause-few : goal.counted_rows-requires-clause-few
+counted_rows-requires-clause-few c = c.requires.bodies.few
+
+pub returns : goal.returns
+returns c =
+    faults_gain (unit_of c.args.u.now) (filled Quiet (so_far c.args.s.now)) c.in_ok-meant.meant.items c.in_ok-found.found.items c.deref.result.now c.args.list.now.items
+    c.refuse_faults.new.list.items c.in_ok-meant.ensures c.deref.ensures.value c.in_ok-found.ensures c.in_ok-refuse_faults.ensures
