@@ -49,8 +49,8 @@ source-of tree verdicts heads packages k p ordered form at sound =
       short = subst (λ (l : List Named). All (λ text. length text ≤ 2 ^ 24) (map text_of l)) (sym kept)
           (texts-of-files (λ text. length text ≤ 2 ^ 24) tree p.path (λ n d lt. let small = form.within.small n d lt in omega (arith, small)));
       pack = sources_of p.path (map (file_numbered tree) p.files) (trees-of verdicts p.files);
-      of = package-of tree verdicts heads p.path p.files form.read form.headed form.form whole.parsed;
-      agree = names-agree tree verdicts heads p.files form.read form.headed form.form whole.parsed p.path whole.agree;
+      of = package-of tree verdicts heads p.path p.files form.read form.headed form.counted whole.parsed;
+      agree = names-agree tree verdicts heads p.files form.read form.headed form.counted whole.parsed p.path whole.agree;
     }
 
 -- what a sound package's files import is among its imports
@@ -59,9 +59,9 @@ imports-of : (tree : List Entry) (verdicts : List (Option FileVerdict)) (heads :
 imports-of tree verdicts heads packages k p of path form at sound is_of imported =
     let is : IsPackage tree heads packages k p = form.packed.each k p at in
     let whole : IsWhole heads (paths_of packages) p.files = sound-whole _ heads (paths_of packages) p.files p.state sound is.state in
-    let mine = package-of tree verdicts heads p.path p.files form.read form.headed form.form whole.parsed in
+    let mine = package-of tree verdicts heads p.path p.files form.read form.headed form.counted whole.parsed in
     let same : of ≡ sources_of p.path (map (file_numbered tree) p.files) (trees-of verdicts p.files) = one-package p.path (map (file_numbered tree) p.files) of _ is_of mine in
-    let found = import-found tree verdicts heads p.files form.read form.headed form.form whole.parsed packages p.path path whole.found (subst (λ (s : Sources). ImportsPath s path) same imported) in (
+    let found = import-found tree verdicts heads p.files form.read form.headed form.counted whole.parsed packages p.path path whole.found (subst (λ (s : Sources). ImportsPath s path) same imported) in (
       found.q,
       texts_of tree found.other,
       (is.imports found.q).1 (whole.parsed, (found.other, found.at, found.imported)),

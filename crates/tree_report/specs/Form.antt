@@ -1,7 +1,6 @@
--- The trees that are built: those of whose source files each is refused by the scanner or the parser, or is a file of imports, constants,
--- types, variables, and functions and methods without bodies, with every expression but function literals; a package that another imports has
--- imports and constants alone.
-use Rattle.std.specs.Prelude.{◌≡◌, ℕ, ◌≤◌, ◌||◌, Bool, true, false, Option, Some, None, List, length, map, slice_get, get_or, codes, sum_by, bytes_eq, nat_eq}
+-- The trees that are built: those of whose source files each is refused by the scanner or the parser, or is any other, within limits; but a package that
+-- another imports has imports and constants alone.
+use Rattle.std.specs.Prelude.{◌≡◌, ℕ, ◌≤◌, ◌^◌, ◌||◌, Bool, true, false, Option, Some, None, List, length, map, slice_get, get_or, codes, sum_by, bytes_eq, nat_eq}
 use Rattle.std.specs.List.{All, filter, list_all, starts_with}
 use Rattle.gv_base.specs.Files.{Entry}
 use Rattle.go_tree.specs.Head.{head_of}
@@ -12,7 +11,7 @@ use Rattle.parse_file.specs.declared.verdict.FileVerdict.TheVariants as file
 use Rattle.import_graph.specs.Sources.{is_source}
 use Rattle.import_graph.specs.Packages.{ArePackages}
 use Rattle.import_graph.specs.declared.pack.Package.{Package}
-use Rattle.tree_report.specs.Declarations.{IsDeclarationFile, has_constants_alone}
+use Rattle.tree_report.specs.Constants.{has_constants_alone}
 
 -- the path of a file that a run knows no meaning for yet: `go.mod`, and what stands under `std`
 abbrev pub is_early : List ℕ → Bool
@@ -31,6 +30,9 @@ most_file_bytes = 4194304
 
 abbrev pub most_tree_bytes : ℕ
 most_tree_bytes = 67108864
+
+abbrev pub most_nodes : ℕ
+most_nodes = 2 ^ 32
 
 abbrev pub most_packages : ℕ
 most_packages = 1024
@@ -67,20 +69,20 @@ pub record AreHeads (tree : List Entry) (verdicts : List (Option FileVerdict)) (
   pub size : length heads ≡ length tree
   pub each : (n : ℕ) (entry : Entry) (verdict : Option FileVerdict) (head : Option Head) → slice_get tree n ≡ Some entry → slice_get verdicts n ≡ Some verdict → slice_get heads n ≡ Some head → head ≡ head_in entry verdict
 
--- a file that isn't refused is of declarations
-abbrev pub FitsForm : FileVerdict → Type 0
-FitsForm (file.Parsed tree) = IsDeclarationFile tree
-FitsForm (file.Lexical offset why) = Unit {0}
-FitsForm (file.Syntax offset) = Unit {0}
-FitsForm (file.TooDeep offset) = Unit {0}
+-- the nodes of a file that isn't refused can be counted
+abbrev pub HasFewNodes : FileVerdict → Type 0
+HasFewNodes (file.Parsed tree) = length tree.nodes ≤ most_nodes
+HasFewNodes (file.Lexical offset why) = Unit {0}
+HasFewNodes (file.Syntax offset) = Unit {0}
+HasFewNodes (file.TooDeep offset) = Unit {0}
 
-abbrev pub IsOfForm : Option FileVerdict → Type 0
-IsOfForm None = Unit {0}
-IsOfForm (Some verdict) = FitsForm verdict
+abbrev pub IsCountable : Option FileVerdict → Type 0
+IsCountable None = Unit {0}
+IsCountable (Some verdict) = HasFewNodes verdict
 
 -- the same of each file
-abbrev pub AreOfForm : List (Option FileVerdict) → Type 0
-AreOfForm verdicts = (n : ℕ) (verdict : Option FileVerdict) → slice_get verdicts n ≡ Some verdict → IsOfForm verdict
+abbrev pub AreCountable : List (Option FileVerdict) → Type 0
+AreCountable verdicts = (n : ℕ) (verdict : Option FileVerdict) → slice_get verdicts n ≡ Some verdict → IsCountable verdict
 
 -- a file that isn't refused has imports and constants alone
 abbrev pub is_constant_verdict : FileVerdict → Bool
@@ -113,7 +115,7 @@ pub record IsForm (tree : List Entry) (verdicts : List (Option FileVerdict)) (he
   pub plain : All (λ entry. is_early entry.0 ≡ false) tree
   pub within : AreWithinLimits (source_texts tree)
   pub read : AreRead tree verdicts
-  pub form : AreOfForm verdicts
+  pub counted : AreCountable verdicts
   pub headed : AreHeads tree verdicts heads
   pub packed : ArePackages tree heads packages
   pub few : length packages ≤ most_packages

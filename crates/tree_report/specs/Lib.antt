@@ -1,5 +1,5 @@
 pub mod Shown
-pub mod Declarations
+pub mod Constants
 pub mod Form
 pub mod Lines
 pub mod Reports

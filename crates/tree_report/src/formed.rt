@@ -1,13 +1,13 @@
 //! The files and the packages of a tree of the form.
 ghost use Rattle.std.specs.Prelude.{◌≡◌, ◌≤◌, IfOk, All, true, false, length, map};
 ghost use Rattle.import_graph.specs.Packages.{ArePackages};
-ghost use Rattle.tree_report.specs.Form.{source_texts, AreRead, AreHeads, AreOfForm, is_early, AreWithinLimits};
+ghost use Rattle.tree_report.specs.Form.{source_texts, AreRead, AreHeads, AreCountable, is_early, AreWithinLimits};
 ghost use Rattle.tree_report.specs.Formed.{IsFormed};
 ghost use Rattle.tree_report.specs.Lines.{refusal_in, refusal_of};
 
 use crate::imported::all_import_constants;
 use crate::limits::{are_plain, are_within_limits, source_texts};
-use crate::read::{are_of_form, heads, read_all};
+use crate::read::{are_countable, heads, read_all};
 use go_tree::Head;
 use gv_base::{Files, NoMemory};
 use import_graph::{Package, packages};
@@ -70,7 +70,7 @@ fn checked(
     requires plain { All (λ entry. is_early entry.0 ≡ false) files.now }
     requires within { AreWithinLimits (source_texts files.now) }
     requires read { AreRead files.now verdicts.items }
-    requires form { AreOfForm verdicts.items }
+    requires counted { AreCountable verdicts.items }
     requires headed { AreHeads files.now verdicts.items heads.items }
     requires packed { ArePackages files.now heads.items packages.items }
     requires few { length packages.items ≤ 1024 }
@@ -97,7 +97,7 @@ fn packed(
     requires plain { All (λ entry. is_early entry.0 ≡ false) files.now }
     requires within { AreWithinLimits (source_texts files.now) }
     requires read { AreRead files.now verdicts.items }
-    requires form { AreOfForm verdicts.items }
+    requires counted { AreCountable verdicts.items }
     ensures { IfOk result (λ formed. IsFormed files.now formed) }
 {
     let heads = heads(alloc, files, &verdicts)?;
@@ -116,7 +116,7 @@ fn read_form(alloc: Global, files: &Files) -> Result<Option<Formed>, NoMemory>
     ensures { IfOk result (λ formed. IsFormed files.now formed) }
 {
     let verdicts = read_all(alloc, files)?;
-    if !are_of_form(&verdicts) {
+    if !are_countable(&verdicts) {
         return Ok(None);
     }
     let formed = packed(alloc, files, verdicts)?;

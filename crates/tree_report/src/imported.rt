@@ -3,7 +3,7 @@ ghost use Rattle.std.specs.Prelude.{◌≡◌, true, get_or, IfOk, None};
 ghost use Rattle.std.specs.List.{list_all};
 ghost use Rattle.tree_report.specs.Form.{is_constant_verdict, is_constant_file, is_constant_package, constant_packages, imports_constants, all_import_constants};
 
-use crate::declarations::has_constants_alone;
+use crate::constants::has_constants_alone;
 use gv_base::NoMemory;
 use import_graph::Package;
 use parse_file::FileVerdict;

@@ -1,7 +1,7 @@
 //! What a run replies to a tree of files.
 #![tactic(auto)]
 
-mod declarations;
+mod constants;
 mod files;
 mod formed;
 mod imported;

@@ -1,8 +1,9 @@
 //! Which trees are built, as far as paths and sizes tell.
-ghost use Rattle.std.specs.Prelude.{◌≡◌, ◌≤◌, ◌<◌, ◌↔◌, ℕ, List, length, map, IsTrue, IfOk, All, false};
+ghost use Rattle.std.specs.Prelude.{◌≡◌, ◌≤◌, ◌<◌, ◌^◌, ◌↔◌, ℕ, List, length, map, IsTrue, IfOk, All, false};
 ghost use Rattle.tree_report.specs.Form.{is_early, source_texts, AreWithinLimits};
 ghost use Rattle.tree_report.specs.Shown.{texts_shown};
 
+use go_tree::FileTree;
 use gv_base::{Files, NoMemory};
 use import_graph::is_source;
 use std::alloc::Global;
@@ -13,6 +14,9 @@ const MOST_FILES: usize = 10_000;
 const MOST_FILE_BYTES: usize = 4_194_304;
 
 const MOST_TREE_BYTES: usize = 67_108_864;
+
+/// The most nodes of a file.
+const MOST_NODES: usize = 4_294_967_296;
 
 /// The texts of the source files.
 pub fn source_texts<'a>(alloc: Global, files: &'a Files) -> Result<Vec<&'a [u8]>, NoMemory>
@@ -64,4 +68,11 @@ pub fn are_within_limits(texts: &[&[u8]]) -> bool
         }
     }
     true
+}
+
+/// Whether the nodes of a file can be counted.
+pub fn has_few_nodes(tree: &FileTree) -> bool
+    ensures { IsTrue result ↔ (length tree.now.nodes ≤ 2 ^ 32) }
+{
+    tree.nodes.as_slice().len() <= MOST_NODES
 }

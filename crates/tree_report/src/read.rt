@@ -1,9 +1,9 @@
 //! The verdict of each file of a tree, and its head.
 ghost use Rattle.std.specs.Prelude.{◌≡◌, ◌≤◌, ◌↔◌, ◌^◌, true, length, All, IsTrue, IfOk};
 ghost use Rattle.import_graph.specs.Sources.{is_source};
-ghost use Rattle.tree_report.specs.Form.{source_texts, IsRead, AreRead, head_by, head_in, AreHeads, FitsForm, IsOfForm, AreOfForm};
+ghost use Rattle.tree_report.specs.Form.{source_texts, IsRead, AreRead, head_by, head_in, AreHeads, HasFewNodes, IsCountable, AreCountable};
 
-use crate::declarations::is_declaration_file;
+use crate::limits::has_few_nodes;
 use go_tree::Head;
 use gv_base::{Files, NoMemory};
 use import_graph::is_source;
@@ -87,33 +87,33 @@ pub fn heads(
     Ok(heads)
 }
 
-/// Whether a file that isn't refused is of the form.
-fn fits(verdict: &FileVerdict) -> bool
-    ensures { IsTrue result ↔ FitsForm verdict.now }
+/// Whether the nodes of a file that isn't refused can be counted.
+fn is_counted(verdict: &FileVerdict) -> bool
+    ensures { IsTrue result ↔ HasFewNodes verdict.now }
 {
     match verdict {
-        FileVerdict::Parsed(tree) => is_declaration_file(tree),
+        FileVerdict::Parsed(tree) => has_few_nodes(tree),
         FileVerdict::Lexical { .. } => true,
         FileVerdict::Syntax { .. } => true,
         FileVerdict::TooDeep { .. } => true,
     }
 }
 
-fn is_of_form(verdict: &Option<FileVerdict>) -> bool
-    ensures { IsTrue result ↔ IsOfForm verdict.now }
+fn is_countable(verdict: &Option<FileVerdict>) -> bool
+    ensures { IsTrue result ↔ IsCountable verdict.now }
 {
     match verdict {
         None => true,
-        Some(verdict) => fits(verdict),
+        Some(verdict) => is_counted(verdict),
     }
 }
 
-/// Whether each file that isn't refused is of the form.
-pub fn are_of_form(verdicts: &[Option<FileVerdict>]) -> bool
-    ensures { IsTrue result ↔ AreOfForm verdicts.now }
+/// Whether the nodes of each file that isn't refused can be counted.
+pub fn are_countable(verdicts: &[Option<FileVerdict>]) -> bool
+    ensures { IsTrue result ↔ AreCountable verdicts.now }
 {
     for verdict in verdicts {
-        if !is_of_form(verdict) {
+        if !is_countable(verdict) {
             return false;
         }
     }
