@@ -53,8 +53,27 @@ func treeOf(path string) (note string, files []file) {
 	return sections[0], files
 }
 
-// What go/types says of each line, by PATH:LINE. Where it refuses a second declaration it also prints the first; that is no
-// refusal.
+// Whether a message that begins with a tab says to what a refusal refers, and isn't a part of a circle that is refused itself.
+func isOther(message, line string) bool {
+	for _, other := range []string{"\tother declaration of ", "\tprevious case", "\tinner declaration of "} {
+		if strings.HasPrefix(message, other) {
+			return true
+		}
+	}
+	return strings.HasPrefix(line, "func ")
+}
+
+// The line of a position.
+func lineOf(files []file, at token.Position) string {
+	for _, f := range files {
+		if f.path == at.Filename {
+			return strings.Split(f.text, "\n")[at.Line-1]
+		}
+	}
+	return ""
+}
+
+// What go/types says of each line, by PATH:LINE.
 func refused(files []file) map[string]string {
 	folders := map[string][]file{}
 	for _, f := range files {
@@ -81,10 +100,10 @@ func refused(files []file) map[string]string {
 		}
 		config := types.Config{GoVersion: "go1.17", Importer: known, Error: func(err error) {
 			told := err.(types.Error)
-			if strings.HasPrefix(told.Msg, "\tother declaration of ") {
+			at := set.Position(told.Pos)
+			if strings.HasPrefix(told.Msg, "\t") && isOther(told.Msg, lineOf(folders[folder], at)) {
 				return
 			}
-			at := set.Position(told.Pos)
 			line := fmt.Sprintf("%s:%d", at.Filename, at.Line)
 			said[line] += fmt.Sprintf(" [%d %s]", at.Column, told.Msg)
 		}}
