@@ -8,12 +8,12 @@ use Rattle.std.proofs.lemmas.Option.{same_Some, slice_get_within, slice_get-get_
 use Rattle.type_model.specs.declared.term.TypeId.{TypeId}
 use Rattle.type_model.specs.declared.term.TypeName.{TypeName}
 use Rattle.type_model.specs.declared.table.TypeTable.{TypeTable}
-use Rattle.type_model.specs.GoTypes.{GoType, AreBelow, type_at, type_number}
+use Rattle.type_model.specs.GoTypes.{DefinedType, GoType, AreBelow, type_at, type_number}
 use Rattle.type_model.specs.Declarations.{Meets, MeetsName, MeetsHeld, held}
 use Rattle.type_model.specs.Tables.{types_in, count, declarations_in}
-use Rattle.type_growth.specs.Growth.{IsDeclared, IsKnown, IsMissing}
+use Rattle.type_growth.specs.Growth.{IsMissing}
 use Rattle.rel_growth.specs.Compare.{EnoughToCompare}
-use Rattle.rel_growth.specs.Meeting.{IsVisited, AreVisited, IsFollowed, IsSearch, IsMetMissing}
+use Rattle.rel_growth.specs.Meeting.{IsVisited, AreVisited, IsFollowed, IsSearch, IsKnownIn, IsMetMissing}
 
 by_bool : {C : Type 0} (b : Bool) → (b ≡ true → C) → (b ≡ false → C) → C
 by_bool true f g = f refl
@@ -137,9 +137,9 @@ module _ (ids : List TypeId) (many : ℕ) (met : ℕ → Bool) (list : List Type
 -- ---- the search
 
 -- it begins with one type
-pub begins : (t : TypeTable) (start : TypeId) (met : ℕ → Bool) (list : List TypeId) (new : ℕ → Bool) (newer : List TypeId)
-    → start.0 < count t → ((n : ℕ) → met n ≡ false) → list ≡ [] → IsVisited start met list new newer → IsSearch t start new newer 0
-begins t start met list new newer low none empty v =
+pub begins : (Passes : GoType → Type 0) (t : TypeTable) (start : TypeId) (met : ℕ → Bool) (list : List TypeId) (new : ℕ → Bool) (newer : List TypeId)
+    → start.0 < count t → ((n : ℕ) → met n ≡ false) → list ≡ [] → IsVisited start met list new newer → IsSearch Passes t start new newer 0
+begins Passes t start met list new newer low none empty v =
     let one : newer ≡ start ∷ [] = v.list_more (none start.0) ∙ ap (λ l. l ++ start ∷ []) empty in
     record {
       begun = visit_notes start met new list newer v;
@@ -156,9 +156,9 @@ begins t start met list new newer low none empty v =
     only id (zero, low, is) = is
     only id (suc k, low, is) = absurd (omega (arith, low))
 
-module _ (t : TypeTable) (start : TypeId) (met : ℕ → Bool) (list : List TypeId) (next : ℕ) (s : IsSearch t start met list next) where
+module _ (Passes : GoType → Type 0) (t : TypeTable) (start : TypeId) (met : ℕ → Bool) (list : List TypeId) (next : ℕ) (s : IsSearch Passes t start met list next) where
   -- what the next type holds is visited
-  module _ (here : TypeId) (low : next < length list) (at : slice_get list next ≡ Some here) (known : IsKnown (declarations_in t) (type_at (types_in t) here))
+  module _ (here : TypeId) (low : next < length list) (at : slice_get list next ≡ Some here) (passes : Passes (type_at (types_in t) here))
       (ids : List TypeId) (are : map (λ id. type_at (types_in t) id) ids ≡ held (declarations_in t) (type_at (types_in t) here)) (below : AreBelow (count t) ids)
       (new : ℕ → Bool) (newer : List TypeId) (f : AreVisited ids (length ids) met list new newer) where
     old_or_more : (id : TypeId) → Contains newer id → Contains list id ⊎ Contains f.more id
@@ -170,32 +170,32 @@ module _ (t : TypeTable) (start : TypeId) (met : ℕ → Bool) (list : List Type
     part_of_here : (id : TypeId) → Contains ids id → Contains (held (declarations_in t) (type_at (types_in t) here)) (type_at (types_in t) id)
     part_of_here id c = subst (λ (l : List GoType). Contains l (type_at (types_in t) id)) are (mapped (λ id. type_at (types_in t) id) ids id c)
 
-    followed_still : (of : GoType) → IsFollowed t met of → IsFollowed t new of
+    followed_still : (of : GoType) → IsFollowed Passes t met of → IsFollowed Passes t new of
     followed_still of was = record {
-      known = was.known;
+      passes = was.passes;
       parts = λ part has. let p = was.parts part has in (p.0, f.kept p.0.0 p.1, p.2);
     }
 
-    followed_here : IsFollowed t new (type_at (types_in t) here)
+    followed_here : IsFollowed Passes t new (type_at (types_in t) here)
     followed_here = record {
-      known = known;
+      passes = passes;
       parts = λ part has.
           let p = unmapped (λ id. type_at (types_in t) id) ids part (subst (λ (l : List GoType). Contains l part) (sym are) has) in
           let r = read ids p.0 p.1 in
           (p.0, f.each r.0 p.0 r.1 r.2, p.2);
     }
 
-    followed_next : (k : ℕ) (id : TypeId) → k < next + 1 → slice_get newer k ≡ Some id → IsFollowed t new (type_at (types_in t) id)
+    followed_next : (k : ℕ) (id : TypeId) → k < next + 1 → slice_get newer k ≡ Some id → IsFollowed Passes t new (type_at (types_in t) id)
     followed_next k id less e =
         let was : slice_get list k ≡ Some id = get_back list f.more k id (omega (arith, less, low)) (ap (λ l. slice_get l k) (sym f.grown) ∙ e) in
         elim (at_or_before k next less) [
           | inl same ↦
               let one : here ≡ id = same_Some here id (sym at ∙ (ap (λ j. slice_get list j) (sym same) ∙ was)) in
-              subst (λ (x : TypeId). IsFollowed t new (type_at (types_in t) x)) one followed_here
+              subst (λ (x : TypeId). IsFollowed Passes t new (type_at (types_in t) x)) one followed_here
           | inr before ↦ followed_still (type_at (types_in t) id) (s.followed k id before was)
         ]
 
-    pub goes_on : IsSearch t start new newer (next + 1)
+    pub goes_on : IsSearch Passes t start new newer (next + 1)
     goes_on = record {
       begun = f.kept start.0 s.begun;
       within = λ id c. elim (old_or_more id c) [
@@ -213,26 +213,35 @@ module _ (t : TypeTable) (start : TypeId) (met : ℕ → Bool) (list : List Type
       followed = followed_next;
     }
 
+  -- a listed name is met
+  pub met_name : (here : TypeId) → slice_get list next ≡ Some here → (o : TypeName) → type_at (types_in t) here ≡ DefinedType o → Meets (declarations_in t) o (type_at (types_in t) start)
+  met_name here at o is = s.sound here (contained list here next at) o (MeetsName (type_at (types_in t) here) is)
+
+  -- where all that is listed was followed, each name that is met passes
+  module _ (end : length list ≤ next) where
+    follows : (id : TypeId) → Contains list id → IsFollowed Passes t met (type_at (types_in t) id)
+    follows id c = let r = read list id c in let low = r.1 in s.followed r.0 id (omega (arith, low, end)) r.2
+
+    passes_from : (o : TypeName) (id : TypeId) → Contains list id → (of : GoType) → type_at (types_in t) id ≡ of → Meets (declarations_in t) o of → Passes (DefinedType o)
+    passes_from o id c of is (MeetsName _ e) = subst Passes (is ∙ e) (follows id c).passes
+    passes_from o id c of is (MeetsHeld _ part has rest) =
+        let p = (follows id c).parts part (subst (λ (x : GoType). Contains (held (declarations_in t) x) part) (sym is) has) in
+        let l = s.listed p.0.0 p.1 in
+        passes_from o l.0 l.1 part (ap (λ (n : ℕ). type_number (types_in t) n) l.2 ∙ p.2) rest
+
+    pub all_pass : (o : TypeName) → Meets (declarations_in t) o (type_at (types_in t) start) → Passes (DefinedType o)
+    all_pass o meets =
+        let l = s.listed start.0 s.begun in
+        passes_from o l.0 l.1 (type_at (types_in t) start) (ap (λ (n : ℕ). type_number (types_in t) n) l.2) meets
+
+-- ---- the first name that isn't declared
+
+module _ (t : TypeTable) (start : TypeId) (met : ℕ → Bool) (list : List TypeId) (next : ℕ) (s : IsSearch (IsKnownIn t) t start met list next) where
   -- a listed name that isn't declared is one that the question needs
   pub met_missing : (here : TypeId) → slice_get list next ≡ Some here → (o : TypeName) × IsMissing (declarations_in t) (type_at (types_in t) here) o
       → IsMetMissing t (type_at (types_in t) start) here
-  met_missing here at (o, missing) =
-      let c = contained list here next at in
-      (o, s.within here c, missing.0, (s.sound here c o (MeetsName (type_at (types_in t) here) missing.0), missing.1))
+  met_missing here at (o, missing) = (o, s.within here (contained list here next at), missing.0, (met_name (IsKnownIn t) t start met list next s here at o missing.0, missing.1))
 
   -- where all that is listed was followed, all that is met is declared
-  module _ (end : length list ≤ next) where
-    follows : (id : TypeId) → Contains list id → IsFollowed t met (type_at (types_in t) id)
-    follows id c = let r = read list id c in let low = r.1 in s.followed r.0 id (omega (arith, low, end)) r.2
-
-    declared_from : (o : TypeName) (id : TypeId) → Contains list id → (of : GoType) → type_at (types_in t) id ≡ of → Meets (declarations_in t) o of → IsDeclared (declarations_in t) o
-    declared_from o id c of is (MeetsName _ e) = (follows id c).known o (is ∙ e)
-    declared_from o id c of is (MeetsHeld _ part has rest) =
-        let p = (follows id c).parts part (subst (λ (x : GoType). Contains (held (declarations_in t) x) part) (sym is) has) in
-        let l = s.listed p.0.0 p.1 in
-        declared_from o l.0 l.1 part (ap (λ (n : ℕ). type_number (types_in t) n) l.2 ∙ p.2) rest
-
-    pub all_declared : EnoughToCompare (declarations_in t) (type_at (types_in t) start)
-    all_declared o meets =
-        let l = s.listed start.0 s.begun in
-        declared_from o l.0 l.1 (type_at (types_in t) start) (ap (λ (n : ℕ). type_number (types_in t) n) l.2) meets
+  pub all_declared : length list ≤ next → EnoughToCompare (declarations_in t) (type_at (types_in t) start)
+  all_declared end o meets = all_pass (IsKnownIn t) t start met list next s end o meets o refl

@@ -42,19 +42,27 @@ pub record AreVisited (ids : List TypeId) (many : ℕ) (met : ℕ → Bool) (lis
   pub from : (id : TypeId) → Contains more id → Contains ids id
   pub listed : (n : ℕ) → new_met n ≡ true → (met n ≡ true) ⊎ ((id : TypeId) × Contains more id × (id.0 ≡ n))
 
--- the type is known, and what it holds is noted
-pub record IsFollowed (t : TypeTable) (met : ℕ → Bool) (of : GoType) : Type 0 where
-  pub known : IsKnown (declarations_in t) of
+-- the type passes, and what it holds is noted
+pub record IsFollowed (Passes : GoType → Type 0) (t : TypeTable) (met : ℕ → Bool) (of : GoType) : Type 0 where
+  pub passes : Passes of
   pub parts : (part : GoType) → Contains (held (declarations_in t) of) part → (id : TypeId) × (met id.0 ≡ true) × (type_at (types_in t) id ≡ part)
 
 -- What is listed is of the table, and what is met from it is met from where the search began; those before `next` are followed. What
 -- is noted is listed.
-pub record IsSearch (t : TypeTable) (start : TypeId) (met : ℕ → Bool) (list : List TypeId) (next : ℕ) : Type 0 where
+pub record IsSearch (Passes : GoType → Type 0) (t : TypeTable) (start : TypeId) (met : ℕ → Bool) (list : List TypeId) (next : ℕ) : Type 0 where
   pub begun : met start.0 ≡ true
   pub within : (id : TypeId) → Contains list id → id.0 < count t
   pub sound : (id : TypeId) → Contains list id → (o : TypeName) → Meets (declarations_in t) o (type_at (types_in t) id) → Meets (declarations_in t) o (type_at (types_in t) start)
   pub listed : (n : ℕ) → met n ≡ true → (id : TypeId) × Contains list id × (id.0 ≡ n)
-  pub followed : (k : ℕ) (id : TypeId) → k < next → slice_get list k ≡ Some id → IsFollowed t met (type_at (types_in t) id)
+  pub followed : (k : ℕ) (id : TypeId) → k < next → slice_get list k ≡ Some id → IsFollowed Passes t met (type_at (types_in t) id)
+
+-- the type is known
+abbrev pub IsKnownIn : TypeTable → GoType → Type 0
+IsKnownIn t of = IsKnown (declarations_in t) of
+
+-- the type is another than that of this number
+abbrev pub IsOther : TypeTable → TypeId → GoType → Type 0
+IsOther t id of = of ≡ type_at (types_in t) id → ⊥
 
 -- the type of a name that is met from the type and isn't declared
 abbrev pub IsMetMissing : TypeTable → GoType → TypeId → Type 0

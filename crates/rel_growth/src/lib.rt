@@ -11,3 +11,4 @@ pub use assigning::assign;
 pub use comparing::compare;
 pub use converting::convert;
 pub use laws::relations_last;
+pub use meeting::is_met;

@@ -1,7 +1,8 @@
 //! What is met from a type by what it holds. The cost is in step with what is met: each type is met once.
-ghost use Rattle.std.specs.Prelude.{◌≡◌, ◌<◌, ◌++◌, ◌∷◌, [], ℕ, true, IfOk, OnOk, Some, cond, length, map, nat_eq, slice_get, MatchOption, option_to_list};
-ghost use Rattle.type_model.specs.GoTypes.{AreBelow, type_at};
-ghost use Rattle.type_model.specs.Declarations.{held};
+ghost use Rattle.std.specs.Prelude.{◌≡◌, ◌<◌, ◌++◌, ◌∷◌, [], ℕ, true, IsTrue, IfOk, OnOk, Some, cond, length, map, nat_eq, slice_get, MatchOption, option_to_list};
+ghost use Rattle.type_model.specs.declared.term.TypeName.{TypeName as ATypeName};
+ghost use Rattle.type_model.specs.GoTypes.{AreBelow, DefinedType, type_at};
+ghost use Rattle.type_model.specs.Declarations.{held, Meets};
 ghost use Rattle.type_model.specs.Tables.{types_in, count, IsTable, declarations_in};
 ghost use Rattle.rel_growth.specs.Compare.{EnoughToCompare};
 ghost use Rattle.rel_growth.specs.Meeting.{AreVisited, IsMetMissing, IsVisited, has, held_in};
@@ -149,4 +150,28 @@ pub fn undeclared(alloc: Global, t: &TypeTable, a: TypeId) -> Result<Option<Type
         next += 1;
     }
     Ok(None)
+}
+
+/// Whether a defined type is met from a type by what that holds.
+pub fn is_met(alloc: Global, t: &TypeTable, of: TypeId, a: TypeId) -> Result<bool, NoMemory>
+    requires table { IsTable t.now }
+    requires name { of.0 < count t.now }
+    requires within { a.0 < count t.now }
+    ensures met { (name : ATypeName) → type_at (types_in t.now) of ≡ DefinedType name → IfOk result (λ b. IsTrue b → Meets (declarations_in t.now) name (type_at (types_in t.now) a)) }
+    ensures only { (name : ATypeName) → type_at (types_in t.now) of ≡ DefinedType name → IfOk result (λ b. Meets (declarations_in t.now) name (type_at (types_in t.now) a) → IsTrue b) }
+{
+    let mut met = HashSet::new(alloc);
+    let mut list = Vec::new(alloc);
+    visit(&mut met, &mut list, a)?;
+    let mut at = 0;
+    while at < list.len() {
+        let here = type_listed(&list, at);
+        if t.same(here, of) {
+            return Ok(true);
+        }
+        let parts = held_types(alloc, t, here)?;
+        visit_all(&mut met, &mut list, &parts)?;
+        at += 1;
+    }
+    Ok(false)
 }

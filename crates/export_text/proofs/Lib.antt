@@ -1,0 +1,10 @@
+pub mod FaceReading
+pub mod InterfaceLaws
+pub mod ItemLaws
+pub mod SearchLaws
+pub mod NextLaws
+pub mod SortLaws
+pub mod ExportLaws
+pub mod GatherLaws
+pub mod ListLaws
+pub mod MentionLaws

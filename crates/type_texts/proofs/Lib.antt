@@ -1,0 +1,13 @@
+pub mod Wanted
+pub mod Readers
+pub mod FieldReading
+pub mod PieceReading
+pub mod TypeRows
+pub mod FrontLaws
+pub mod BuildLaws
+pub mod TypeReading
+pub mod ValueLaws
+pub mod GrowLaws
+pub mod PendingLaws
+pub mod OrderLaws
+pub mod WriteLaws

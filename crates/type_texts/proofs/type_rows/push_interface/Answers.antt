@@ -1,0 +1,4 @@
+use Rattle.type_texts.proofs.type_rows.push_interface.Goals as goal
+
+pub returns-clause-within : goal.returns-clause-within
+returns-clause-within c = λ n below h. c.in_ok-push_todo.ensures.within n tt (c.in_ok-push_methods.ensures.within n below h)

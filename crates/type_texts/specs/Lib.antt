@@ -1,0 +1,10 @@
+pub mod Readers
+pub mod Fields
+pub mod Orders
+pub mod Texts
+pub mod Rows
+pub mod Pieces
+pub mod Building
+pub mod Values
+pub mod Pending
+pub mod Answers
