@@ -9,7 +9,6 @@ use Rattle.mark_walk.specs.Asks.{done, ask}
 use Rattle.mark_walk.specs.Telling.{Says, tell}
 use Rattle.type_model.specs.declared.term.TypeId.{TypeId}
 use Rattle.type_model.specs.declared.term.TypeName.{TypeName}
-use Rattle.type_model.specs.Declarations.{Declaration}
 use Rattle.type_model.specs.GoTypes.{GoType, BasicType, DefinedType, PointerTo, SliceOf, ArrayOf, MapOf, ChanOf, FuncOf, StructOf, InterfaceOf}
 use Rattle.type_model.specs.Tables.{is_same_name}
 use Rattle.type_questions.specs.Judging.{IsItemOf}
@@ -18,12 +17,12 @@ use Rattle.typed_marks.specs.declared.item.Stage.{Stage}
 use Rattle.typed_marks.specs.declared.item.Stage.TheVariants as s
 use Rattle.typed_marks.specs.declared.state.State.{State}
 use Rattle.typed_marks.specs.Meanings.{Known, Meaning, Quiet}
-use Rattle.unit_read.specs.Units.{Unit, type_name, named_by, defined, is_this, type_node, base_of, error_declaration}
-use Rattle.unit_read.proofs.TypeLemmas.{same_node}
+use Rattle.unit_read.specs.Units.{Unit, type_name, named_by, defined, is_this, type_node}
+use Rattle.unit_read.proofs.TypeLemmas.{same_node, own_base}
 use Rattle.rule_words.specs.Asking.{Rule, item, stands, mark_ask, under_at, type_item}
 use Rattle.rule_words.specs.Scenes.{type_in, IsTypeOf}
 use Rattle.rule_words.specs.Good.{known_told}
-use Rattle.decl_rules.specs.Under.{is_given, is_of_node, IsTypeAt}
+use Rattle.decl_rules.specs.Under.{is_error, is_of_node, IsTypeAt}
 
 first_of : (a b : Bool) → (a && b) ≡ true → a ≡ true
 first_of true b is = refl
@@ -86,9 +85,9 @@ own_item u at name there is = record {
 
 -- ---- types
 
-not_given : (o : Option Declaration) → not (option_map_or (λ (d : Declaration). true) o false) ≡ true → o ≡ None
-not_given None is = refl
-not_given (Some d) is = absurd cc
+not_true : (b : Bool) → not b ≡ true → b ≡ false
+not_true false is = refl
+not_true true is = absurd cc
 
 pub own_type : (u : Unit) (state : State) (at : NodeRef) (of : TypeId) → IsTypeOf state of → stands u at.file at.node ≡ true → is_of_node u at (type_in state of) ≡ true → IsTypeAt u state at of
 own_type u state at of low there is = by (type_in state of) refl is where
@@ -98,8 +97,9 @@ own_type u state at of low there is = by (type_in state of) refl is where
     name = name;
     within = low;
     named = named;
-    own = own_item u at name there (this_node at (type_node u name) (rest_of (not (is_given u name)) (is_this at (type_node u name)) is));
-    base = not_given (base_of u name) (first_of (not (is_given u name)) (is_this at (type_node u name)) is);
+    own = own_item u at name there (this_node at (type_node u name) (rest_of (not (is_error name)) (is_this at (type_node u name)) is));
+    base = own_base u name at (not_true (is_error name) (first_of (not (is_error name)) (is_this at (type_node u name)) is))
+        (this_node at (type_node u name) (rest_of (not (is_error name)) (is_this at (type_node u name)) is));
   }
   by (PointerTo to) named is = absurd cc
   by (SliceOf element) named is = absurd cc
@@ -125,10 +125,6 @@ standing u marks stage block node m x told known = by (stands u block node) told
       let quiet : m ≡ Quiet = cc in
       let none : Some x ≡ None = known ∙ ap (λ (m : Meaning). known_told m) quiet in
       absurd cc
-
-pub given_test : (b : Bool) → option_map_or (λ (d : Declaration). true) (if b then Some error_declaration else None) false ≡ b
-given_test true = refl
-given_test false = refl
 
 pub among_test : (b : Bool) (n : TypeName) → is_some (option_map (λ (n : TypeName). n.local) (if b then Some n else None)) ≡ b
 among_test true n = refl

@@ -1,21 +1,21 @@
 -- What a defined type is declared with (Go 1.17, "Type declarations").
 use Rattle.std.specs.Prelude.{◌≡◌, ℕ, ◌&&◌, Bool, true, false, not, if◌then◌else◌, List, Option, None, option_and_then}
-use Rattle.std.specs.Option.{option_map_or}
 use Rattle.go_tree.specs.declared.tree.Node.{Node}
 use Rattle.go_tree.specs.declared.tree.NodeRef.{NodeRef}
 use Rattle.object_order.specs.Spots.{place}
 use Rattle.package_objects.specs.Declares.{part}
 use Rattle.type_model.specs.declared.term.TypeId.{TypeId}
 use Rattle.type_model.specs.declared.term.TypeName.{TypeName}
-use Rattle.type_model.specs.Declarations.{Declaration}
 use Rattle.type_model.specs.Parts.{GoMethod}
 use Rattle.type_model.specs.GoTypes.{GoType, BasicType, DefinedType, PointerTo, SliceOf, ArrayOf, MapOf, ChanOf, FuncOf, StructOf, InterfaceOf, is_defined}
+use Rattle.type_model.specs.Tables.{is_same_name}
 use Rattle.type_questions.specs.Judging.{IsItemOf}
 use Rattle.type_questions.specs.Questions.{IsComparable}
 use Rattle.mark_walk.specs.Asks.{done, put, bind}
 use Rattle.typed_marks.specs.declared.item.Stage.TheVariants as s
 use Rattle.typed_marks.specs.declared.state.State.{State}
 use Rattle.typed_marks.specs.Meanings.{Known, Meaning, Quiet}
+use Rattle.typed_tree.specs.Universe.{error_name}
 use Rattle.unit_read.specs.declared.place.Place.{Place}
 use Rattle.unit_read.specs.Units.{Unit, node_at, place_at, is_this, is_among, defined, type_node, base_of}
 use Rattle.rule_words.specs.declared.declaring.Declaring.{Declaring}
@@ -29,13 +29,13 @@ use Rattle.decl_rules.specs.Objects.{placed_ask}
 
 -- ---- the type of a name
 
--- whether the type is declared from the start
-abbrev pub is_given : Unit → TypeName → Bool
-is_given u n = option_map_or (λ (d : Declaration). true) (base_of u n) false
+-- the predeclared type `error`, which no package declares
+abbrev pub is_error : TypeName → Bool
+is_error n = is_same_name n error_name
 
 -- whether the type of this name is declared at this node: of those of one name the first is
 abbrev pub is_here : Unit → NodeRef → TypeName → Bool
-is_here u at n = not (is_given u n) && is_this at (type_node u n)
+is_here u at n = not (is_error n) && is_this at (type_node u n)
 
 abbrev pub is_of_node : Unit → NodeRef → GoType → Bool
 is_of_node u at (BasicType kind) = false

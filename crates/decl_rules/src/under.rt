@@ -2,8 +2,7 @@
 ghost use Rattle.std.specs.Prelude.{IfOk, ◌≡◌, true, Some, option_map};
 ghost use Rattle.mark_walk.specs.Telling.{Says, tell};
 ghost use Rattle.type_model.specs.GoTypes.{is_defined};
-ghost use Rattle.type_model.specs.Tables.{IsTable, is_same_name};
-ghost use Rattle.typed_tree.specs.Universe.{error_name};
+ghost use Rattle.type_model.specs.Tables.{IsTable};
 ghost use Rattle.typed_marks.specs.declared.item.Stage.TheVariants as stage;
 ghost use Rattle.typed_marks.specs.States.{so_far};
 ghost use Rattle.unit_read.specs.Subjects.{unit_of, IsRead};
@@ -14,7 +13,7 @@ ghost use Rattle.rule_words.specs.Declaring.{declaring_in, IsDeclaringAt};
 ghost use Rattle.rule_words.specs.Scenes.{IsScene, said, IsMarkOf, type_in, IsTypeOf, MayBeTypeOf};
 ghost use Rattle.rule_words.specs.Good.{known_of, AreFactsOf};
 ghost use Rattle.decl_rules.specs.Objects.{placed_ask};
-ghost use Rattle.decl_rules.specs.Under.{is_given, is_here, is_of_node, written_in, written_type, declared_with, declaring, underlying_rule, written_rule, named_rule, known_rule, own_rule, type_rule, under_rule, IsDeclaringOf};
+ghost use Rattle.decl_rules.specs.Under.{is_error, is_here, is_of_node, written_in, written_type, declared_with, declaring, underlying_rule, written_rule, named_rule, known_rule, own_rule, type_rule, under_rule, IsDeclaringOf};
 
 use crate::methods::add_methods;
 use go_tree::NodeRef;
@@ -211,18 +210,10 @@ fn named(
 
 /// Whether this is the name of the predeclared type `error`.
 fn is_error(name: &TypeName) -> bool
-    ensures { result ≡ is_same_name name.now error_name }
+    ensures { result ≡ is_error name.now }
 {
     name.package.as_str().as_bytes() == b"".as_slice()
         && (name.name.as_str().as_bytes() == b"error".as_slice() && name.local == 0)
-}
-
-/// Whether a type is declared from the start.
-fn is_given(u: &Subject, name: &TypeName) -> bool
-    ensures { result ≡ is_given (unit_of u.now) name.now }
-{
-    let _ = u;
-    is_error(name)
 }
 
 fn is_this(at: NodeRef, other: Option<NodeRef>) -> bool
@@ -239,7 +230,7 @@ fn is_here(u: &Subject, at: NodeRef, name: &TypeName) -> bool
     requires { IsRead u.now }
     ensures { result ≡ is_here (unit_of u.now) at name.now }
 {
-    !is_given(u, name) && is_this(at, u.type_node(name))
+    !is_error(name) && is_this(at, u.type_node(name))
 }
 
 fn is_of_node(u: &Subject, s: &State, at: NodeRef, of: TypeId) -> bool

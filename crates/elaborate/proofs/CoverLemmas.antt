@@ -19,14 +19,13 @@ use Rattle.typed_marks.proofs.CellLemmas.{no_item_quiet}
 use Rattle.unit_read.specs.declared.subject.Subject.{Subject}
 use Rattle.unit_read.specs.Units.{Unit, base_of}
 use Rattle.unit_read.specs.Subjects.{unit_of, IsRead}
-use Rattle.rule_words.specs.Asking.{Rule, type_item, declaration_told, item}
+use Rattle.rule_words.specs.Asking.{Rule, declaration_told, item}
 use Rattle.rule_words.specs.Scenes.{IsScene}
-use Rattle.type_model.specs.Tables.{declarations_in}
+use Rattle.type_model.specs.Tables.{declarations_in, terms_in, Extends}
 use Rattle.type_model.specs.declared.table.TypeTable.{TypeTable}
 use Rattle.type_model.specs.declared.term.TypeName.{TypeName}
 use Rattle.typed_tree.specs.Basics.{HasBasics}
 use Rattle.elaborate.proofs.WalkLemmas.{first_declared}
-use Rattle.type_questions.specs.Over.{declared}
 use Rattle.elaborate.specs.Walks.{blocks_of, count_of, item_rule, IsItemOf}
 use Rattle.type_answers.specs.Answering.{says_of, pends_of, answers_last}
 use Rattle.elaborate.specs.Elaborated.{IsAtWork, IsAnnotated, IsInCircle}
@@ -46,13 +45,8 @@ item_at u0 u1 i same is = subst (λ (u : Unit). IsItemOf u i) (sym same) is
 pub node_at : (u0 u1 : Unit) (block n : ℕ) → u1 ≡ u0 → IsNodeOf u0 block n → IsNodeOf u1 block n
 node_at u0 u1 block n same is stage = subst (λ (u : Unit). IsItemOf u (item stage block n)) (sym same) (is stage)
 
-pub scene_for : (u0 u1 : Subject) (s : State) → unit_of u1 ≡ unit_of u0 → IsRead u0 → IsScene u1 s → IsScene u0 s
-scene_for u0 u1 s same read scene = record {
-  read = read;
-  state = scene.state;
-  basics = scene.basics;
-  step = λ name. subst (λ (u : Unit). declarations_in s.table name ≡ declared (base_of u) (type_item u) declaration_told (so_far s) name) same (scene.step name);
-}
+pub scene_for : (u0 u1 : Subject) (s : State) → u1 ≡ u0 → IsScene u1 s → IsScene u0 s
+scene_for u0 u1 s same scene = subst (λ (u : Subject). IsScene u s) same scene
 
 -- ---- a circle ends all
 
@@ -201,14 +195,15 @@ block_here u0 u1 blocks k block same now at = ap (λ (bs : List Block). slice_ge
 
 -- ---- before anything is marked
 
-pub started : (u : Subject) (s : State) (table : TypeTable) → IsRead u → HasBasics table → ((name : TypeName) → declarations_in table name ≡ base_of (unit_of u) name)
+pub started : (u : Subject) (s : State) (table : TypeTable) → IsRead u → HasBasics table → Extends u.env.now.types.now (terms_in table) → ((name : TypeName) → declarations_in table name ≡ base_of (unit_of u) name)
     → IsState s → s.table ≡ table → s.blocks.items ≡ blocks_of (unit_of u) → length s.cells.items ≡ count_of (unit_of u)
     → ((i : Item) → IsItem s.blocks.items i → so_far s i ≡ None) → IsAtWork u s
-started u s table read basics base state same blocks cells unmarked = record {
+started u s table read basics env base state same blocks cells unmarked = record {
   scene = record {
     read = read;
     state = state;
     basics = subst HasBasics (sym same) basics;
+    env = subst (λ (t : TypeTable). Extends u.env.now.types.now (terms_in t)) (sym same) env;
     step = λ name. ap (λ (t : TypeTable). declarations_in t name) same ∙ base name
         ∙ sym (first_declared (unit_of u) (so_far s) (nothing_declared (λ v i. done Quiet) (unit_of u) s blocks (λ i is. unmarked i (subst (λ (bs : List Block). IsItem bs i) (sym blocks) is))) name);
   };

@@ -47,11 +47,17 @@ rule_of_item rule u i is = ap (λ (b : Bool). if b then rule u i else done Quiet
 -- ---- from state to state
 
 pub went_itself : (rule : Unit → Item → Rule) (u : Subject) (s : State) → IsAtWork u s → Went rule u u s s
-went_itself rule u s work = record { work = work; unit = refl; goes = goes_itself (says_of (unit_of u)) (item_rule rule (unit_of u)) (so_far s) }
+went_itself rule u s work = record { work = work; subject = refl; unit = refl; goes = goes_itself (says_of (unit_of u)) (item_rule rule (unit_of u)) (so_far s) }
+
+-- the same package, so the same unit
+pub went_by : (rule : Unit → Item → Rule) (u0 u1 : Subject) (s0 s1 : State) → IsAtWork u1 s1 → u1 ≡ u0 → Goes (says_of (unit_of u0)) (item_rule rule (unit_of u0)) (so_far s0) (so_far s1)
+    → Went rule u0 u1 s0 s1
+went_by rule u0 u1 s0 s1 work same goes = record { work = work; subject = same; unit = ap unit_of same; goes = goes }
 
 pub went_then : (rule : Unit → Item → Rule) (u0 u1 u2 : Subject) (s0 s1 s2 : State) → Went rule u0 u1 s0 s1 → Went rule u1 u2 s1 s2 → Went rule u0 u2 s0 s2
 went_then rule u0 u1 u2 s0 s1 s2 a b = record {
   work = b.work;
+  subject = b.subject ∙ a.subject;
   unit = b.unit ∙ a.unit;
   goes = goes_then (says_of (unit_of u0)) (item_rule rule (unit_of u0)) (so_far s0) (so_far s1) (so_far s2) a.goes
       (subst (λ (u : Unit). Goes (says_of u) (item_rule rule u) (so_far s1) (so_far s2)) a.unit b.goes);

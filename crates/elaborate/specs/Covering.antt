@@ -25,6 +25,7 @@ use Rattle.elaborate.specs.Elaborated.{IsAtWork, IsAnnotated, IsInCircle}
 -- the same package, of which more is marked, by its rules
 pub record Went (rule : Unit → Item → Rule) (u0 u1 : Subject) (s0 s1 : State) : Type 0 where
   pub work : IsAtWork u1 s1
+  pub subject : u1 ≡ u0
   pub unit : unit_of u1 ≡ unit_of u0
   pub goes : Goes (says_of (unit_of u0)) (item_rule rule (unit_of u0)) (so_far s0) (so_far s1)
 

@@ -1,6 +1,6 @@
 //! All items of a package.
 ghost use Rattle.std.specs.Prelude.{◌≡◌, ◌<◌, ◌≤◌, ◌+◌, ℕ, Some, None, IfOk, OnOk, length, slice_get};
-ghost use Rattle.type_model.specs.Tables.{declarations_in};
+ghost use Rattle.type_model.specs.Tables.{declarations_in, terms_in, Extends};
 ghost use Rattle.type_model.specs.declared.term.TypeName.{TypeName};
 ghost use Rattle.typed_tree.specs.Basics.{HasBasics};
 ghost use Rattle.typed_marks.specs.declared.item.Item.{Item as AnItem};
@@ -151,10 +151,11 @@ fn span_at(list: &[Passage], k: usize) -> Span
     list[k].span
 }
 
-/// No marks, over a table that declares what is declared from the start.
+/// No marks, over a table that has the types of the environment and declares what is declared from the start.
 fn start(alloc: Global, u: &Subject, table: TypeTable) -> Result<State, NoMemory>
     requires read { IsRead u.now }
     requires basics { HasBasics table }
+    requires env { Extends u.now.env.now.types.now (terms_in table) }
     requires base { (name : TypeName) → declarations_in table name ≡ base_of (unit_of u.now) name }
     ensures work { IfOk result (IsAtWork u.now) }
     ensures unmarked { IfOk result (λ s. (i : AnItem) → IsItemOf (unit_of u.now) i → so_far s i ≡ None) }
@@ -176,6 +177,7 @@ pub fn elaborate<R: Rules>(
 ) -> Result<Elaborated, NoMemory>
     requires read { IsRead u.now }
     requires basics { HasBasics table }
+    requires env { Extends u.now.env.now.types.now (terms_in table) }
     requires base { (name : TypeName) → declarations_in table name ≡ base_of (unit_of u.now) name }
     ensures { IfOk result (IsElaborated R.rule u.now) }
 {

@@ -3,7 +3,7 @@ ghost use Rattle.std.specs.Prelude.{◌≡◌, None, IfOk, OnOk};
 ghost use Rattle.typed_marks.specs.Meanings.{Meaning};
 ghost use Rattle.typed_marks.specs.States.{so_far};
 ghost use Rattle.type_questions.specs.Questions.{Question, Told};
-ghost use Rattle.unit_read.specs.Units.{Unit};
+ghost use Rattle.unit_read.specs.declared.subject.Subject.{Subject as Known};
 ghost use Rattle.unit_read.specs.Subjects.{unit_of};
 ghost use Rattle.mark_walk.specs.Marking.{Steps};
 ghost use Rattle.elaborate.specs.Walks.{IsItemOf, count_of, number_in, own_numbers, item_rule, is_declaring};
@@ -72,29 +72,29 @@ impl<'a, R: Rules> Marking for Work<'a, R> {
 
     ghost Answer = { Told };
 
-    ghost Subject = { Unit };
+    ghost Subject = { Known };
 
-    ghost subject = { λ w. unit_of w.subject.now };
+    ghost subject = { λ w. w.subject.now };
 
-    ghost says = { says_of };
+    ghost says = { λ u. says_of (unit_of u) };
 
-    ghost pends = { pends_of };
+    ghost pends = { λ u. pends_of (unit_of u) };
 
-    ghost IsItem = { IsItemOf };
+    ghost IsItem = { λ u. IsItemOf (unit_of u) };
 
-    ghost count = { count_of };
+    ghost count = { λ u. count_of (unit_of u) };
 
-    ghost number = { number_in };
+    ghost number = { λ u. number_in (unit_of u) };
 
-    ghost rule = { λ u i. item_rule R.rule u i };
+    ghost rule = { λ u i. item_rule R.rule (unit_of u) i };
 
     ghost IsState = { λ w. IsAtWork w.subject.now w.state };
 
     ghost so_far = { λ w. so_far w.state };
 
-    ghost lasts = { answers_last };
+    ghost lasts = { λ u. answers_last (unit_of u) };
 
-    ghost numbers = { own_numbers };
+    ghost numbers = { λ u. own_numbers (unit_of u) };
 
     fn count(&self) -> usize {
         self.state.cells.len()

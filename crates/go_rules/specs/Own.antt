@@ -32,6 +32,7 @@ names_circular u at = option_map_or (is_circular u) (object_at u at) false
 
 abbrev pub is_type_wanted : Demand → Bool
 is_type_wanted demand.Type = true
+is_type_wanted demand.Case = true
 is_type_wanted _ = false
 
 abbrev pub is_selector : NodeKind → Bool

@@ -44,6 +44,7 @@ fn is_type_wanted(demand: Demand) -> bool
 {
     match demand {
         Demand::Type => true,
+        Demand::Case => true,
         _ => false,
     }
 }

@@ -132,6 +132,7 @@ bare demand.Owner = Some no_literal
 bare demand.Nothing = None
 bare demand.Inside = None
 bare demand.Type = None
+bare demand.Case = None
 
 abbrev pub inner_by : Unit → Demand → Wish → Asks (Option Literal)
 inner_by u demand Free = done (bare demand)

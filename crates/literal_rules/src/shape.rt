@@ -134,5 +134,6 @@ pub fn bare(s: &State, demand: Demand) -> Option<Literal>
         Demand::Nothing => None,
         Demand::Inside => None,
         Demand::Type => None,
+        Demand::Case => None,
     }
 }

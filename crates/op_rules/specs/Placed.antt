@@ -111,6 +111,7 @@ single_demanded u wish x demand.Nothing = done (Right x)
 single_demanded u wish x demand.Inside = done (Right x)
 single_demanded u wish x demand.Owner = done (Right x)
 single_demanded u wish x demand.Type = done (Right x)
+single_demanded u wish x demand.Case = done (Right x)
 
 abbrev pub unless : Option RuleNumber → Rule → Rule
 unless None rest = rest
@@ -126,12 +127,17 @@ owner_fault mode = if is_type mode || is_package mode then None else single_faul
 abbrev pub owner_demanded : Known → Rule
 owner_demanded x = unless (owner_fault x.mode) (done (Right x))
 
+-- in a case of a type switch "the predeclared identifier nil" may stand for a type
+abbrev pub may_be_case : Mode → Bool
+may_be_case mode = is_type mode || is_nil_mode mode
+
 -- Between parentheses stands no package.
 abbrev pub demanded : Unit → Wish → Known → Demand → Rule
 demanded u wish x demand.Nothing = done (Right x)
 demanded u wish x demand.Inside = test (not (is_package x.mode)) NOT_A_VALUE (done (Right x))
 demanded u wish x demand.Owner = owner_demanded x
 demanded u wish x demand.Type = test (is_type x.mode) NOT_A_TYPE (done (Right x))
+demanded u wish x demand.Case = test (may_be_case x.mode) NOT_A_TYPE (done (Right x))
 demanded u wish x demand.Operand = value_demanded u wish x demand.Operand
 demanded u wish x demand.Count = value_demanded u wish x demand.Count
 demanded u wish x demand.Constant = value_demanded u wish x demand.Constant

@@ -15,6 +15,7 @@ mod name;
 mod operand;
 mod operators;
 mod placed;
+mod qualified;
 mod results;
 mod rules;
 mod shift;

@@ -1,44 +1,35 @@
-//! Names and qualified identifiers (Go 1.17, "Operands", "Qualified identifiers", "Iota").
-ghost use Rattle.std.specs.Prelude.{◌≡◌, IfOk, Some, option_map, IfSome};
+//! Names (Go 1.17, "Operands", "Iota").
+ghost use Rattle.std.specs.Prelude.{◌≡◌, Some};
 ghost use Rattle.mark_walk.specs.Telling.{tell};
 ghost use Rattle.type_model.specs.Tables.{types_in, count};
 ghost use Rattle.typed_tree.specs.Basics.{HasBasics, Says as SaysInTree};
 ghost use Rattle.typed_tree.specs.Meanings.{Meaning as TreeMeaning, mark_in as tree_mark_in, IsWithin};
-ghost use Rattle.typed_tree.specs.Places.{exported_mark};
-ghost use Rattle.typed_marks.specs.Meanings.{known_in, AreWithin};
 ghost use Rattle.typed_marks.specs.States.{so_far};
-ghost use Rattle.unit_read.specs.Imports.{exported_of};
 ghost use Rattle.unit_read.specs.Subjects.{unit_of, IsRead};
 ghost use Rattle.unit_read.specs.Units.{is_blank};
-ghost use Rattle.std.specs.Prelude.{length};
-ghost use Rattle.rule_words.specs.Scenes.{IsScene, said, IsMarkOf, type_in, IsTypeOf, part_in, IsSeenOf};
+ghost use Rattle.rule_words.specs.Scenes.{IsScene, said, IsMarkOf, type_in, IsTypeOf};
 ghost use Rattle.rule_words.specs.Answers.{answer_in, IsAnswerOf};
 ghost use Rattle.rule_words.specs.Steps.{step_in, IsStepOf};
 ghost use Rattle.rule_words.specs.Wanting.{wanted_of, IsWantedOf};
-ghost use Rattle.op_rules.specs.Names.{with_last, wished, begins, is_within_spec, spec_number, written_iota, iota_by, iota_of, predeclared, used, object_ask, denoted, blank, name_rule, owner_at, selected, owned, selector_rule};
+ghost use Rattle.op_rules.specs.Names.{with_last, wished, begins, is_within_spec, spec_number, written_iota, iota_by, iota_of, predeclared, used, object_ask, denoted, blank, name_rule};
 ghost use Rattle.op_rules.specs.InCode.{wish_of, IsWishOf};
 
-use crate::modes::is_package;
 use crate::operand::{bad, outside, silent};
-use crate::types::is_basic;
 use const_tree::Spec;
 use go_tree::{Node, NodeRef, Object};
-use gv_base::{Const, NoMemory};
-use package_objects::part_of;
-use rule_words::{Answer, Seen, Step, Wanted, last_of, look, operand};
-use std::alloc::Global;
+use gv_base::Const;
+use rule_words::{Answer, Step, Wanted, last_of, look, operand};
 use type_model::TypeId;
 use type_questions::Found;
-use typed_marks::{Facts, Mark, Stage, State, Want};
+use typed_marks::{Mark, Stage, State, Want};
 use typed_tree::{
-    Mark as TreeMark, Mode, NO_SUCH_FIELD_OR_METHOD, NOT_EXPORTED_BY_PACKAGE, UNDEFINED,
-    Want as Demand, judge_blank, judge_predeclared,
+    Mark as TreeMark, Mode, UNDEFINED, Want as Demand, judge_blank, judge_predeclared,
 };
-use unit_read::{Subject, exported_of, judge_lead};
+use unit_read::{Subject, judge_lead};
 
 // ---- final types
 
-fn with_last(s: &State, mode: Mode, of: TypeId, value: Option<Const>, want: Want) -> Answer
+pub fn with_last(s: &State, mode: Mode, of: TypeId, value: Option<Const>, want: Want) -> Answer
     requires basics { HasBasics s.now.table }
     requires of { IsTypeOf s.now of }
     requires want { IsWishOf s.now want }
@@ -229,14 +220,14 @@ fn judge_denoted(
     }
 }
 
-fn is_blank(name: &[u8]) -> bool
+pub fn is_blank(name: &[u8]) -> bool
     ensures { result ≡ is_blank name.now }
 {
     name == b"_".as_slice()
 }
 
 /// E17 a blank, E10 where a type is wanted.
-fn blank(s: &State, demand: Demand, want: Want) -> Answer
+pub fn blank(s: &State, demand: Demand, want: Want) -> Answer
     requires basics { HasBasics s.now.table }
     requires want { IsWishOf s.now want }
     ensures is { answer_in s.now result ≡ blank demand (wish_of s.now want) }
@@ -257,128 +248,4 @@ pub fn judge_name(u: &Subject, s: &State, block: usize, at: NodeRef, node: &Node
         return Step::Says(blank(s, w.demand, w.want));
     }
     judge_denoted(u, s, iota_of(u, block, at), w.want, u.object_at(at))
-}
-
-// ---- qualified identifiers
-
-fn owner_at(u: &Subject, at: NodeRef, node: &Node) -> Option<Object>
-    requires { IsRead u.now }
-    ensures { result ≡ owner_at (unit_of u.now) at node.now }
-{
-    match part_of(node, 0) {
-        Some(n) => u.object_at(NodeRef {
-            file: at.file,
-            node: n,
-        }),
-        None => None,
-    }
-}
-
-/// What a package has for a name: E9 where it hasn't the name.
-fn judge_exported(s: &State, want: Want, exported: Option<TreeMark>) -> Answer
-    requires basics { HasBasics s.now.table }
-    requires within { IfSome exported (IsWithin (count s.now.table)) }
-    requires want { IsWishOf s.now want }
-    ensures is { answer_in s.now result ≡ wished (wish_of s.now want) (exported_mark (option_map (tree_mark_in (types_in s.now.table)) exported)) }
-    ensures over { IsAnswerOf s.now result }
-{
-    match exported {
-        Some(TreeMark::Good(facts)) => with_last(s, facts.mode, facts.of, facts.value, want),
-        Some(TreeMark::Bad(_)) => silent(),
-        Some(TreeMark::Outside(_)) => silent(),
-        Some(TreeMark::Silent) => silent(),
-        // E9
-        None => bad(NOT_EXPORTED_BY_PACKAGE),
-    }
-}
-
-fn judge_member(
-    alloc: Global,
-    u: &Subject,
-    s: &State,
-    name: &[u8],
-    owner: Option<Object>,
-    want: Want,
-) -> Result<Answer, NoMemory>
-    requires scene { IsScene u.now s.now }
-    requires want { IsWishOf s.now want }
-    ensures is { IfOk result (λ answer. answer_in s.now answer ≡ wished (wish_of s.now want) (exported_mark (exported_of (unit_of u.now) name.now owner))) }
-    ensures over { IfOk result (IsAnswerOf s.now) }
-{
-    let exported = exported_of(alloc, u, name, owner)?;
-    Ok(judge_exported(s, want, exported))
-}
-
-fn judge_selected(
-    alloc: Global,
-    u: &Subject,
-    s: &State,
-    name: &[u8],
-    owner: Option<Object>,
-    want: Want,
-    x: Facts,
-) -> Result<Answer, NoMemory>
-    requires scene { IsScene u.now s.now }
-    requires want { IsWishOf s.now want }
-    requires facts { AreWithin (count s.now.table) (length s.now.constants.items) x }
-    ensures is { IfOk result (λ answer. answer_in s.now answer ≡ selected (unit_of u.now) name.now owner (wish_of s.now want) (known_in (types_in s.now.table) s.now.constants.items x)) }
-    ensures over { IfOk result (IsAnswerOf s.now) }
-{
-    if is_package(x.mode) {
-        let answer = judge_member(alloc, u, s, name, owner, want)?;
-        return Ok(answer);
-    }
-    // E20
-    if is_basic(s, x.of) {
-        return Ok(bad(NO_SUCH_FIELD_OR_METHOD));
-    }
-    Ok(silent())
-}
-
-fn judge_owned(
-    alloc: Global,
-    u: &Subject,
-    s: &State,
-    name: &[u8],
-    owner: Option<Object>,
-    want: Want,
-    a: Mark,
-) -> Result<Step, NoMemory>
-    requires scene { IsScene u.now s.now }
-    requires want { IsWishOf s.now want }
-    requires mark { IsMarkOf s.now a }
-    ensures is { IfOk result (λ step. step_in s.now step ≡ tell (so_far s.now) (owned (unit_of u.now) name.now owner (wish_of s.now want) (said s.now a))) }
-    ensures over { IfOk result (IsStepOf s.now) }
-{
-    let Mark::Good(x) = a else {
-        return Ok(Step::Says(silent()));
-    };
-    let answer = judge_selected(alloc, u, s, name, owner, want, x)?;
-    Ok(Step::Says(answer))
-}
-
-/// How far the rule of a selector goes: E17, E10, E9, E20.
-#[tactic(auto, unfolding(crate::specs::Names::selector_rule))]
-pub fn judge_selector(
-    alloc: Global,
-    u: &Subject,
-    s: &State,
-    at: NodeRef,
-    node: &Node,
-    a: Seen,
-    w: Wanted,
-) -> Result<Step, NoMemory>
-    requires scene { IsScene u.now s.now }
-    requires part { IsSeenOf s.now a }
-    requires wanted { IsWantedOf s.now w }
-    ensures is { IfOk result (λ step. step_in s.now step ≡ tell (so_far s.now) (selector_rule (unit_of u.now) at node.now (part_in s.now a) (wanted_of s.now w))) }
-    ensures over { IfOk result (IsStepOf s.now) }
-{
-    let name = u.spelled(at.file, node.last);
-    if is_blank(name) {
-        return Ok(Step::Says(blank(s, w.demand, w.want)));
-    }
-    let owner = owner_at(u, at, node);
-    let step = judge_owned(alloc, u, s, name, owner, w.want, a.mark)?;
-    Ok(step)
 }

@@ -11,7 +11,7 @@ ghost use Rattle.rule_words.specs.Scenes.{IsScene, said, IsMarkOf, type_in, IsTy
 ghost use Rattle.rule_words.specs.Steps.{step_in, IsStepOf};
 ghost use Rattle.rule_words.specs.Putting.{held, assign_ask};
 ghost use Rattle.rule_words.specs.Wanting.{wanted_of, IsWantedOf};
-ghost use Rattle.op_rules.specs.Placed.{represented, assigned_type, assigned_to, assigned_good, assigned, wished_free, wished_value, wished_constant, is_value, single_fault, owner_fault, owner_demanded, single_constant, single_demanded, value_demanded, demanded, placed_rule};
+ghost use Rattle.op_rules.specs.Placed.{represented, assigned_type, assigned_to, assigned_good, assigned, wished_free, wished_value, wished_constant, is_value, single_fault, owner_fault, owner_demanded, single_constant, single_demanded, value_demanded, may_be_case, demanded, placed_rule};
 ghost use Rattle.op_rules.specs.InCode.{wish_of, IsWishOf, facts_in, AreFactsOf};
 ghost use Rattle.typed_tree.specs.declared.rule.TheConstants.{NOT_ASSIGNABLE as NotAssignable};
 
@@ -256,6 +256,7 @@ fn judge_single(u: &Subject, s: &State, demand: Demand, want: Want, x: Facts) ->
         Demand::Inside => good(x),
         Demand::Owner => good(x),
         Demand::Type => good(x),
+        Demand::Case => good(x),
     }
 }
 
@@ -285,6 +286,12 @@ fn judge_owner(s: &State, x: Facts) -> Step
     }
 }
 
+fn may_be_case(mode: Mode) -> bool
+    ensures { result ≡ may_be_case mode }
+{
+    is_type(mode) || is_nil_mode(mode)
+}
+
 fn judge_demand(u: &Subject, s: &State, demand: Demand, want: Want, x: Facts) -> Step
     requires scene { IsScene u.now s.now }
     requires want { IsWishOf s.now want }
@@ -299,6 +306,7 @@ fn judge_demand(u: &Subject, s: &State, demand: Demand, want: Want, x: Facts) ->
         Demand::Owner => judge_owner(s, x),
         // E10
         Demand::Type => tested(is_type(x.mode), NOT_A_TYPE, x),
+        Demand::Case => tested(may_be_case(x.mode), NOT_A_TYPE, x),
         Demand::Operand => judge_value(u, s, demand, want, x),
         Demand::Count => judge_value(u, s, demand, want, x),
         Demand::Constant => judge_value(u, s, demand, want, x),

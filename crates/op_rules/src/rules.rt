@@ -14,8 +14,9 @@ ghost use Rattle.op_rules.specs.InCode.{wish_of, IsWishOf};
 
 use crate::binary::judge_binary;
 use crate::forms::{Form, Literal, binary_in, form_of, unary_in};
-use crate::name::{judge_name, judge_selector, used, wished};
+use crate::name::{judge_name, used, wished};
 use crate::operand::{outside, silent};
+use crate::qualified::judge_selector;
 use crate::types::takes_default;
 use crate::unary::judge_unary;
 use go_tree::{Node, NodeRef};

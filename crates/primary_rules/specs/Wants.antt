@@ -78,6 +78,7 @@ assert_wants slot = if slot == 0 then wants demand.Operand Free else wants deman
 
 abbrev pub wants_type : Demand → Bool
 wants_type demand.Type = true
+wants_type demand.Case = true
 wants_type demand.Nothing = false
 wants_type demand.Inside = false
 wants_type demand.Owner = false
@@ -138,9 +139,9 @@ unary_wants u block p around = unary_asked u block p around (operator_in unary_o
 
 -- ---- parentheses
 
--- where a type is wanted of the whole it is wanted of what stands between them, before that is looked at
+-- where a type is wanted of the whole, in a case nil too, it is wanted of what stands between them, before that is looked at
 abbrev pub paren_asked : Unit → ℕ → Place → Node → Demand → Rule
-paren_asked u block p around whole = if wants_type whole then wants demand.Type Free else op_wants u block p around
+paren_asked u block p around whole = if wants_type whole then wants whole Free else op_wants u block p around
 
 abbrev pub paren_wanted : Unit → ℕ → Place → Node → Meaning → Rule
 paren_wanted u block p around m = paren_asked u block p around (wanted_in m).demand

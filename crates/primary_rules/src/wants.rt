@@ -158,6 +158,7 @@ fn wants_type(demand: Demand) -> bool
 {
     match demand {
         Demand::Type => true,
+        Demand::Case => true,
         Demand::Nothing => false,
         Demand::Inside => false,
         Demand::Owner => false,
@@ -263,7 +264,7 @@ fn paren_asked(
     ensures over { IfFound result (IsMarkOf s.now) }
 {
     if wants_type(whole) {
-        wants(Demand::Type)
+        wants(whole)
     } else {
         want_op(u, s, block, p, around)
     }

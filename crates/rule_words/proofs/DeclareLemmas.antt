@@ -7,7 +7,7 @@ use Rattle.type_model.specs.declared.term.TypeId.{TypeId}
 use Rattle.type_model.specs.declared.term.TypeName.{TypeName}
 use Rattle.type_model.specs.Declarations.{Declaration, Meets}
 use Rattle.type_model.specs.GoTypes.{GoType, DefinedType, is_defined}
-use Rattle.type_model.specs.Tables.{declarations_in, Declares}
+use Rattle.type_model.specs.Tables.{terms_in, declarations_in, Declares}
 use Rattle.type_questions.specs.Judging.{IsItemOf}
 use Rattle.type_questions.proofs.StepLaws.{declares_stay}
 use Rattle.rel_growth.specs.Compare.{EnoughToCompare}
@@ -22,6 +22,7 @@ use Rattle.rule_words.specs.Asking.{type_item, declaration_told}
 use Rattle.rule_words.specs.Declaring.{declaration_in, IsDeclaration}
 use Rattle.rule_words.specs.Scenes.{IsScene, type_in}
 use Rattle.rule_words.proofs.KeepLemmas.{grown_basics}
+use Rattle.rule_words.proofs.SceneLemmas.{extends_then}
 
 pub one_name : (t : GoType) (a b : TypeName) → t ≡ DefinedType a → t ≡ DefinedType b → a ≡ b
 one_name t a b one other = cc
@@ -46,6 +47,7 @@ declared_scene u s next i of under methods name scene none own base state adds d
   read = scene.read;
   state = state;
   basics = grown_basics s.table next.table scene.basics declares.table declares.extends;
+  env = extends_then u.env.now.types.now (terms_in s.table) (terms_in next.table) scene.env declares.extends;
   step = λ other. declares_stay (base_of (unit_of u)) (type_item (unit_of u)) declaration_told s.table next.table (so_far s) (so_far next) i
       (TypeDeclares (declaration_in s under methods)) name under methods scene.step adds own refl (undeclared u s i name scene none own.here base) declares other;
 }

@@ -30,7 +30,7 @@ use Rattle.rule_words.specs.Asking.{declaration_told}
 use Rattle.rule_words.specs.Scenes.{IsScene, said, type_in}
 use Rattle.typed_tree.specs.declared.rule.Limit.TheVariants.{WideType}
 use Rattle.rule_words.specs.Answers.{is_plain, constant, typed, mark_of}
-use Rattle.rule_words.proofs.SceneLemmas.{stays_declared, adds_declared}
+use Rattle.rule_words.proofs.SceneLemmas.{stays_declared, adds_declared, extends_then}
 
 -- a plain mark declares nothing
 plain_told : (s : State) (mark : Mark) → is_plain mark ≡ true → declaration_told (said s mark) ≡ None
@@ -47,6 +47,7 @@ kept_scene u s next i mark scene none plain state table adds = record {
   read = scene.read;
   state = state;
   basics = subst HasBasics (sym table) scene.basics;
+  env = subst (λ (t : TypeTable). Extends u.env.now.types.now (terms_in t)) (sym table) scene.env;
   step = λ name. ap (λ (t : TypeTable). declarations_in t name) table ∙ scene.step name
       ∙ sym (adds_declared (unit_of u) (so_far s) (so_far next) i (said s mark) none (plain_told s mark plain) adds name);
 }
@@ -84,6 +85,7 @@ grown_scene u s next scene grown = record {
   read = scene.read;
   state = grown.state;
   basics = grown_basics s.table next.table scene.basics grown.state.table grown.extends;
+  env = extends_then u.env.now.types.now (terms_in s.table) (terms_in next.table) scene.env grown.extends;
   step = λ name. grown.declarations name ∙ scene.step name ∙ sym (stays_declared (unit_of u) (so_far s) (so_far next) grown.stays name);
 }
 

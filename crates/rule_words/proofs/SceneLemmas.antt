@@ -1,9 +1,31 @@
 -- What is declared over the marks, as more is marked; and what is known of a type that isn't declared.
-use Rattle.std.proofs.Common.{◌≡◌, ◌≢◌, ◌⊎◌, ℕ, Bool, true, false, Option, Some, None, option_map, refl, sym, ap, ◌∙◌, subst, inl, inr}
+use Rattle.std.proofs.Common.{◌≡◌, ◌≢◌, ◌⊎◌, ℕ, ◌<◌, Bool, true, false, Option, Some, None, option_map, refl, sym, ap, ◌∙◌, subst, inl, inr}
 use Rattle.std.specs.Option.{option_or, option_map_or}
+use Rattle.std.specs.Prelude.{IfSome, length, List}
 use Rattle.type_model.specs.declared.term.TypeName.{TypeName}
 use Rattle.type_model.specs.GoTypes.{GoType, BasicType, DefinedType, PointerTo, SliceOf, ArrayOf, MapOf, ChanOf, FuncOf, StructOf, InterfaceOf}
 use Rattle.type_model.specs.Declarations.{Declaration, Declarations, under_of}
+use Rattle.type_model.specs.declared.term.TypeId.{TypeId}
+use Rattle.type_model.specs.declared.term.Term.{Term}
+use Rattle.type_model.specs.GoTypes.{type_at, types_of}
+use Rattle.type_model.specs.Tables.{types_in, terms_in, count, Extends}
+use Rattle.gv_base.specs.declared.constant.Const.{Const}
+use Rattle.package_faces.specs.declared.interface.Exported.{Exported}
+use Rattle.package_faces.specs.declared.interface.ExportForm.{ExportForm}
+use Rattle.package_faces.specs.declared.interface.ExportForm.TheVariants as form
+use Rattle.package_faces.specs.Faces.{Face}
+use Rattle.package_faces.specs.Interfaces.{faces_of, id_of}
+use Rattle.package_faces.proofs.FaceLaws.{faces_stay}
+use Rattle.typed_tree.specs.declared.mark.Mode.TheVariants as mode
+use Rattle.typed_tree.specs.Meanings.{Meaning as TreeMeaning, Right as RightInTree}
+use Rattle.typed_marks.specs.declared.state.State.{State}
+use Rattle.unit_read.specs.declared.environment.Environment.{Environment}
+use Rattle.unit_read.specs.declared.subject.Subject.{Subject}
+use Rattle.unit_read.specs.Environments.{faces_in}
+use Rattle.unit_read.specs.Exports.{mark_in, use_in, uses_in, IsUseIn}
+use Rattle.unit_read.specs.Imports.{plain_mark}
+use Rattle.unit_read.specs.Subjects.{unit_of}
+use Rattle.rule_words.specs.Scenes.{IsScene}
 use Rattle.mark_walk.specs.Asks.{Adds, Stays, done, ask, bind}
 use Rattle.mark_walk.specs.Telling.{Outcome, Says, Waits, tell, then}
 use Rattle.mark_walk.proofs.TellLaws.{tell_bind}
@@ -12,6 +34,39 @@ use Rattle.typed_marks.specs.Meanings.{Meaning}
 use Rattle.type_questions.specs.Over.{mark_of, marked, declared}
 use Rattle.unit_read.specs.Units.{Unit, base_of}
 use Rattle.rule_words.specs.Asking.{Asks, type_item, declaration_told, item_ask, declaration_ask, named_under, under_ask}
+
+-- ---- the packages to which imports lead
+
+pub extends_then : (a b c : List Term) → Extends a b → Extends b c → Extends a c
+extends_then a b c first second i low = let one = first i low in let two = second i one.0 in (two.0, two.1 ∙ one.1)
+
+faces_are : (env : Environment) → faces_in env ≡ faces_of (types_of env.types.now) env.interfaces.now
+unfolding faces_in
+faces_are env = refl
+
+-- over the table of a scene the packages are seen as the unit has them
+pub faces_seen : (u : Subject) (s : State) → IsScene u s → faces_of (types_in s.table) u.env.now.interfaces.now ≡ (unit_of u).env
+faces_seen u s scene = faces_stay u.env.now.types.now (terms_in s.table) scene.env u.env.now.interfaces.now scene.read.env.within ∙ sym (faces_are u.env.now)
+
+module _ (old new : List Term) (grown : Extends old new) where
+  abbrev constant_with : Const → GoType → TreeMeaning
+  constant_with c of = RightInTree (record { mode = mode.Constant; of = of; value = Some c })
+
+  mark_stays : (f : ExportForm) → (id_of f).0 < length old → mark_in (types_of new) f ≡ mark_in (types_of old) f
+  mark_stays (form.Constant id c) low = ap (constant_with c) (grown id.0 low).1
+  mark_stays (form.Variable id) low = ap (plain_mark mode.Variable) (grown id.0 low).1
+  mark_stays (form.Function id) low = ap (plain_mark mode.Value) (grown id.0 low).1
+  mark_stays (form.Own id) low = ap (plain_mark mode.TypeName) (grown id.0 low).1
+  mark_stays (form.Alias id) low = ap (plain_mark mode.TypeName) (grown id.0 low).1
+
+  -- what is exported is the same over more types
+  pub uses_stay : (o : Option Exported) → IfSome o (IsUseIn (length old)) → uses_in (types_of new) o ≡ uses_in (types_of old) o
+  uses_stay None low = refl
+  uses_stay (Some e) low = ap Some (mark_stays e.form low)
+
+  pub uses_grow : (o : Option Exported) → IfSome o (IsUseIn (length old)) → IfSome o (IsUseIn (length new))
+  uses_grow None low = tt
+  uses_grow (Some e) low = (grown (id_of e.form).0 low).0
 
 -- ---- more marks
 

@@ -3,7 +3,7 @@ use Rattle.std.specs.Prelude.{◌≡◌, ◌<◌, ℕ, List, length, map, option
 use Rattle.type_model.specs.declared.term.TypeId.{TypeId}
 use Rattle.type_model.specs.declared.term.TypeName.{TypeName}
 use Rattle.type_model.specs.GoTypes.{GoType, type_at}
-use Rattle.type_model.specs.Tables.{types_in, count, declarations_in}
+use Rattle.type_model.specs.Tables.{types_in, terms_in, count, declarations_in, Extends}
 use Rattle.typed_tree.specs.Basics.{HasBasics}
 use Rattle.mark_walk.specs.Telling.{Outcome, Says, Waits}
 use Rattle.typed_marks.specs.declared.item.Item.{Item}
@@ -22,11 +22,13 @@ use Rattle.rule_words.specs.declared.seen.Seen.{Seen}
 use Rattle.rule_words.specs.Parts.{Part}
 use Rattle.rule_words.specs.Asking.{type_item, declaration_told}
 
--- the package has been read, and the table declares what is declared from the start and by the marks so far
+-- The package has been read, the types by whose numbers the environment says what packages export stand in the table under these, and the
+-- table declares what is declared from the start and by the marks so far.
 pub record IsScene (u : Subject) (s : State) : Type 0 where
   pub read : IsRead u
   pub state : IsState s
   pub basics : HasBasics s.table
+  pub env : Extends u.env.now.types.now (terms_in s.table)
   pub step : (name : TypeName) → declarations_in s.table name ≡ declared (base_of (unit_of u)) (type_item (unit_of u)) declaration_told (so_far s) name
 
 -- ---- what is found

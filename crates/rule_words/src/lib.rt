@@ -3,6 +3,7 @@
 
 mod answer;
 mod declaring;
+mod exporting;
 pub mod good;
 mod keeping;
 mod marks;
@@ -15,6 +16,7 @@ mod wanted;
 
 pub use answer::Answer;
 pub use declaring::{Declaring, declare};
+pub use exporting::exported;
 pub use keeping::keep;
 pub use marks::look;
 pub use read::{How, Read};

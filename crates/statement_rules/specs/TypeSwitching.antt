@@ -134,7 +134,7 @@ case_type_rule u block file around m = option_map_or (type_in_clause u block fil
 -- ---- places
 
 abbrev pub type_wants : List Node → Node → ℕ → Rule
-type_wants nodes around slot = if is_type_list (part_kind nodes around slot) then nothing_wanted else wants demand.Type Free
+type_wants nodes around slot = if is_type_list (part_kind nodes around slot) then nothing_wanted else wants demand.Case Free
 
 -- ---- the variable of each clause: "the variable has the type" of a clause with exactly one type, else that of the operand
 

@@ -196,7 +196,7 @@ pub fn want_type(s: &State, nodes: &[Node], around: &Node, slot: usize) -> Mark
     if is_type_list(part_kind(nodes, around, slot)) {
         nothing_wanted()
     } else {
-        Mark::Wants(Demand::Type, Want::Free)
+        Mark::Wants(Demand::Case, Want::Free)
     }
 }
 

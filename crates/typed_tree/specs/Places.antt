@@ -41,6 +41,7 @@ is_package _ = false
 -- E17 a blank, E10 where a type is wanted
 abbrev pub blank_mark : Want → Meaning
 blank_mark w.Type = Wrong NOT_A_TYPE
+blank_mark w.Case = Wrong NOT_A_TYPE
 blank_mark _ = Wrong BLANK_USED_AS_VALUE
 
 -- the mark of a use, from that of the object which it denotes: E3 where it denotes nothing

@@ -20,6 +20,8 @@ pub enum Want {
     Count,
     /// A type.
     Type,
+    /// A type, or nil: a case of a type switch.
+    Case,
     /// A constant, of the declared type where there is one.
     Constant,
 }
@@ -31,6 +33,7 @@ pub fn judge_blank(want: Want) -> Mark
     match want {
         // E10
         Want::Type => Mark::Bad(NOT_A_TYPE),
+        Want::Case => Mark::Bad(NOT_A_TYPE),
         // E17
         Want::Nothing => Mark::Bad(BLANK_USED_AS_VALUE),
         Want::Inside => Mark::Bad(BLANK_USED_AS_VALUE),

@@ -3,7 +3,7 @@ use Rattle.std.proofs.Common.{◌≡◌, ℕ, zero, suc, ◌+◌, ◌⊎◌, Lis
 use Rattle.std.specs.HashMap.{HashMap}
 use Rattle.std.proofs.lemmas.List.{length_push}
 use denote.Ref.{Bor}
-use Rattle.export_data.specs.declared.constants.ConstInterface.{ConstInterface}
+use Rattle.package_faces.specs.declared.interface.Interface.{Interface}
 use Rattle.unit_read.specs.Environments.{IsMember, ListsMembers}
 
 pub same_some : {X : Type 0} (o : Option X) (a b : X) → o ≡ Some a → o ≡ Some b → a ≡ b
@@ -18,7 +18,7 @@ push_cases (x ∷ xs) y z (suc o) h = elim (push_cases xs y z o h) [
   | inr (at, same) ↦ inr (omega arith, same)
 ]
 
-pub members_more : {S : Type 0} (interfaces : List ConstInterface) (k : ℕ) (old new : List (HashMap (Bor (List ℕ)) ℕ S)) (i : ConstInterface) (names : HashMap (Bor (List ℕ)) ℕ S)
+pub members_more : {S : Type 0} (interfaces : List Interface) (k : ℕ) (old new : List (HashMap (Bor (List ℕ)) ℕ S)) (i : Interface) (names : HashMap (Bor (List ℕ)) ℕ S)
     → ListsMembers interfaces k old → slice_get interfaces k ≡ Some i → IsMember i names → new ≡ old ++ names ∷ [] → ListsMembers interfaces (k + 1) new
 members_more interfaces k old new i names lists read is push = record {
   size = ap length push ∙ (length_push old names ∙ ap (λ n. n + 1) lists.size);
@@ -27,6 +27,6 @@ members_more interfaces k old new i names lists read is push = record {
         | inl before ↦ lists.each j other row there before
         | inr (at, same) ↦
             let e : i ≡ other = same_some (slice_get interfaces k) i other read (ap (slice_get interfaces) (sym (at ∙ lists.size)) ∙ there) in
-            subst (λ (x : ConstInterface). IsMember x row) e (subst (λ (x : HashMap (Bor (List ℕ)) ℕ _). IsMember i x) (sym same) is)
+            subst (λ (x : Interface). IsMember x row) e (subst (λ (x : HashMap (Bor (List ℕ)) ℕ _). IsMember i x) (sym same) is)
       ];
 }

@@ -6,7 +6,10 @@ use Rattle.go_tree.specs.declared.tree.NodeRef.{NodeRef}
 use Rattle.object_order.specs.Views.{same_key}
 use Rattle.type_model.specs.declared.term.TypeName.{TypeName}
 use Rattle.type_model.specs.Tables.{is_same_name}
-use Rattle.unit_read.specs.Units.{Unit, type_name, named_by, defined, place_in, is_top}
+use Rattle.type_model.specs.Declarations.{Declaration}
+use Rattle.typed_tree.specs.Universe.{error_name}
+use Rattle.package_faces.specs.Declaring.{declared_by}
+use Rattle.unit_read.specs.Units.{Unit, type_name, named_by, defined, place_in, is_top, type_node, error_declaration, imported_from, base_of}
 
 -- no type of another package is one of this
 pub foreign : (u : Unit) (name : TypeName) (list : List NodeRef) → bytes_eq u.path name.«package» ≡ false → named_by u name list ≡ None
@@ -14,6 +17,18 @@ foreign u name [] e = refl
 foreign u name (at ∷ list) e =
     let other : is_same_name (type_name u at) name ≡ false = ap (λ b. b && (bytes_eq (type_name u at).name name.name && nat_eq (type_name u at).local name.local)) e in
     rw other (foreign u name list e)
+
+own_path : (u : Unit) (name : TypeName) (at : NodeRef) → type_node u name ≡ Some at → bytes_eq u.path name.«package» ≡ true
+own_path u name at is = by (bytes_eq u.path name.«package») refl where
+  by : (b : Bool) → bytes_eq u.path name.«package» ≡ b → b ≡ true
+  by true e = refl
+  by false e = (let none : type_node u name ≡ None = foreign u name (defined u) e in absurd cc)
+
+-- a type of this package isn't declared from the start
+pub own_base : (u : Unit) (name : TypeName) (at : NodeRef) → is_same_name name error_name ≡ false → type_node u name ≡ Some at → base_of u name ≡ None
+own_base u name at other is =
+    ap (λ (b : Bool). if b then Some error_declaration else imported_from u name) other
+    ∙ ap (λ (b : Bool). if b then None else declared_by u.env name) (own_path u name at is)
 
 pub named_is : (u : Unit) (name : TypeName) (at : NodeRef) (list : List NodeRef) (k : ℕ)
     → ((j : ℕ) (x : NodeRef) → slice_get list j ≡ Some x → is_same_name (type_name u x) name ≡ true → x ≡ at)

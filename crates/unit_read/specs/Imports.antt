@@ -11,14 +11,14 @@ use Rattle.go_tree.specs.declared.tree.NodeKind.TheVariants as k
 use Rattle.go_tree.specs.declared.tree.NodeRef.{NodeRef}
 use Rattle.go_tree.specs.declared.bindings.Object.{Object}
 use Rattle.go_tree.specs.declared.bindings.Object.TheVariants as o
-use Rattle.export_data.specs.declared.constants.ConstOut.{ConstOut}
-use Rattle.export_data.specs.declared.constants.ConstInterface.{ConstInterface}
-use Rattle.type_model.specs.GoTypes.{BasicType}
+use Rattle.package_faces.specs.Declaring.{first_named, path_of as face_path}
+use Rattle.package_faces.specs.Faces.{Form, ConstantForm, VariableForm, FunctionForm, OwnForm, AliasForm, ObjectOut, Face}
+use Rattle.type_model.specs.GoTypes.{GoType, BasicType, DefinedType}
+use Rattle.typed_tree.specs.declared.mark.Mode.{Mode}
 use Rattle.typed_tree.specs.declared.mark.Mode.TheVariants as mode
 use Rattle.typed_tree.specs.declared.rule.Limit.{Limit}
 use Rattle.typed_tree.specs.declared.rule.Limit.TheVariants.{Unsafe, Cgo, DotImport}
 use Rattle.typed_tree.specs.Meanings.{Meaning, Right, Beyond, Quiet}
-use Rattle.typed_tree.specs.Operands.{constant_mark}
 use Rattle.unit_read.specs.declared.lead.Lead.{Lead}
 use Rattle.unit_read.specs.Units.{Unit, node_at, last_spelled}
 
@@ -41,12 +41,12 @@ path_limit path kind =
 
 -- ---- packages
 
-abbrev pub paths_of : List ConstInterface → List (List ℕ)
-paths_of env = map (λ (i : ConstInterface). i.path) env
+abbrev pub paths_of : List Face → List (List ℕ)
+paths_of env = map face_path env
 
--- What an import of this literal leads to: the limit outside which it lies, if it does, and the number of the interface that has
+-- What an import of this literal leads to: the limit outside which it lies, if it does, and the number of the package that has
 -- its path, if one has.
-abbrev pub lead_by : List ConstInterface → List ℕ → NodeKind → Lead
+abbrev pub lead_by : List Face → List ℕ → NodeKind → Lead
 lead_by env literal kind = record { limit = path_limit (text_value literal) kind; interface = place_of (paths_of env) (path_of literal) }
 
 abbrev pub lead_of : Unit → ℕ → Node → Option Lead
@@ -74,19 +74,30 @@ meaning_by (Some l) interface = Beyond l
 abbrev pub import_meaning : Unit → NodeRef → Meaning
 import_meaning u at = option_map_or (λ (l : Lead). meaning_by l.limit l.interface) (lead_at u at) Quiet
 
--- ---- exported constants
+-- ---- exported objects
 
-abbrev pub names_of : List ConstOut → List (List ℕ)
-names_of list = map (λ (c : ConstOut). c.name) list
+abbrev pub object_name : ObjectOut → List ℕ
+object_name o = o.name
 
-abbrev pub out_mark : ConstOut → Meaning
-out_mark c = constant_mark c.kind c.value
+abbrev pub plain_mark : Mode → GoType → Meaning
+plain_mark mode of = Right (record { mode = mode; of = of; value = None })
 
--- the constant that an interface has for a name
-abbrev pub exported_in : List ℕ → ConstInterface → Option Meaning
-exported_in name i = option_and_then (λ j. option_map out_mark (slice_get i.list j)) (place_of (names_of i.list) name)
+-- what a use of an object is: a constant of its type and its value, a variable, a function as a value of its type, or a type
+abbrev pub form_mark : List ℕ → List ℕ → Form → Meaning
+form_mark path name (ConstantForm of c) = Right (record { mode = mode.Constant; of = of; value = Some c })
+form_mark path name (VariableForm of) = plain_mark mode.Variable of
+form_mark path name (FunctionForm of) = plain_mark mode.Value of
+form_mark path name OwnForm = plain_mark mode.TypeName (DefinedType (record { «package» = path; name = name; local = 0 }))
+form_mark path name (AliasForm of) = plain_mark mode.TypeName of
 
-abbrev pub exported_by : List ConstInterface → List ℕ → Lead → Option Meaning
+abbrev pub out_mark : List ℕ → ObjectOut → Meaning
+out_mark path o = form_mark path o.name o.form
+
+-- what a package has for a name
+abbrev pub exported_in : List ℕ → Face → Option Meaning
+exported_in name f = option_map (out_mark f.path) (first_named object_name f.objects name)
+
+abbrev pub exported_by : List Face → List ℕ → Lead → Option Meaning
 exported_by env name l = option_and_then (λ i. option_and_then (exported_in name) (slice_get env i)) l.interface
 
 -- what the package of an import has for a name

@@ -2,7 +2,7 @@
 use Rattle.std.specs.Prelude.{◌≡◌, ℕ, ◌<◌, List, [], length, Option, Some, None, slice_get, slice_index_or, if◌then◌else◌, option_and_then}
 use Rattle.std.specs.Global.{Vec}
 use Rattle.std.specs.Option.{option_map_or}
-use Rattle.export_data.specs.declared.constants.ConstInterface.{ConstInterface}
+use Rattle.package_faces.specs.Faces.{Face}
 use Rattle.go_tree.specs.Spelling.{text_of}
 use Rattle.go_tree.specs.declared.tree.FileTree.{FileTree}
 use Rattle.go_tree.specs.declared.tree.Node.{Node}
@@ -25,11 +25,11 @@ pub record AreRows {X : Type 0} (says : ℕ → FileTree → ℕ → Option X) (
 abbrev pub token_bytes : List ℕ → FileTree → ℕ → List ℕ
 token_bytes source tree i = option_map_or (text_of source) (slice_get tree.tokens i) []
 
-abbrev pub lead_in : List ConstInterface → List ℕ → FileTree → Node → Option Lead
+abbrev pub lead_in : List Face → List ℕ → FileTree → Node → Option Lead
 lead_in env source tree node = if is_import node.kind then Some (lead_by env (token_bytes source tree node.last) node.kind) else None
 
-abbrev pub lead_for : List ConstInterface → List ℕ → FileTree → ℕ → Option Lead
+abbrev pub lead_for : List Face → List ℕ → FileTree → ℕ → Option Lead
 lead_for env source tree n = option_and_then (lead_in env source tree) (slice_get tree.nodes n)
 
-abbrev pub leads_in : List ConstInterface → List (List ℕ) → ℕ → FileTree → ℕ → Option Lead
+abbrev pub leads_in : List Face → List (List ℕ) → ℕ → FileTree → ℕ → Option Lead
 leads_in env texts f tree n = lead_for env (slice_index_or texts f []) tree n

@@ -7,7 +7,7 @@ use Rattle.go_tree.specs.declared.tree.NodeRef.{NodeRef}
 use Rattle.object_order.specs.Views.{group_in}
 use Rattle.unit_read.specs.declared.subject.Subject.{Subject}
 use Rattle.unit_read.specs.Entries.{entry}
-use Rattle.unit_read.specs.Environments.{IsEnvironment}
+use Rattle.unit_read.specs.Environments.{IsEnvironment, faces_in}
 use Rattle.unit_read.specs.Imports.{lead_at}
 use Rattle.unit_read.specs.Index.{texts_of, found}
 use Rattle.unit_read.specs.Passages.{passages}
@@ -25,7 +25,7 @@ flag rows at = option_map_or (λ (row : Vec Bool). slice_index_or row.items at.n
 
 -- the package of a subject
 abbrev pub unit_of : Subject → Unit
-unit_of s = record { path = s.path.now; texts = texts_of s.texts.now; trees = s.trees.now; uses = s.uses.now; env = s.env.now.interfaces.now; redeclared = flag s.redeclared.items; cyclic = flag s.cyclic.items; circular = flag s.circular.items; owner = cell s.owners.items }
+unit_of s = record { path = s.path.now; texts = texts_of s.texts.now; trees = s.trees.now; uses = s.uses.now; env = faces_in s.env.now; redeclared = flag s.redeclared.items; cyclic = flag s.cyclic.items; circular = flag s.circular.items; owner = cell s.owners.items }
 
 -- the name of a defined type of a package that is declared at package level
 abbrev pub top_name : Unit → List ℕ → TypeName

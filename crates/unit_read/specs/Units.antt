@@ -4,7 +4,8 @@ use Rattle.std.specs.List.{position_from}
 use Rattle.std.specs.Option.{option_map_or}
 use Rattle.std.specs.Str.{bytes_eq}
 use Rattle.gv_base.specs.declared.constant.Kind.TheVariants as kind
-use Rattle.export_data.specs.declared.constants.ConstInterface.{ConstInterface}
+use Rattle.package_faces.specs.Faces.{Face}
+use Rattle.package_faces.specs.Declaring.{declared_by}
 use Rattle.type_model.specs.declared.term.TypeName.{TypeName}
 use Rattle.type_model.specs.GoTypes.{BasicType, InterfaceOf, AndMethod, NoMethod, From, NoType, AndType}
 use Rattle.type_model.specs.Declarations.{Declaration, Declarations}
@@ -28,15 +29,15 @@ use Rattle.unit_read.specs.declared.place.Place.{Place}
 use Rattle.unit_read.specs.Places.{place_of}
 use Rattle.unit_read.specs.Passages.{passages}
 
--- The path of a package, the texts and trees of its files in the order of their paths, what the uses in them denote, and the interfaces to
--- which imports lead: of two of one path the first counts; which of the names that it declares are declared before in their block, which are
+-- The path of a package, the texts and trees of its files in the order of their paths, what the uses in them denote, and what is seen of the
+-- packages to which imports lead: of two of one path the first counts; which of the names that it declares are declared before in their block, which are
 -- cyclic: they need themselves, and which are circular: they are no types, and lead back to themselves; and of which type a node declares a method.
 pub record Unit : Type 0 where
   pub path : List ℕ
   pub texts : List (List ℕ)
   pub trees : List FileTree
   pub uses : List (NodeRef × Object)
-  pub env : List ConstInterface
+  pub env : List Face
   pub redeclared : NodeRef → Bool
   pub cyclic : NodeRef → Bool
   pub circular : NodeRef → Bool
@@ -191,6 +192,10 @@ type_node u name = named_by u name (defined u)
 abbrev pub error_declaration : Declaration
 error_declaration = record { under = InterfaceOf (AndMethod (codes "Error") [] false (From NoType (AndType (BasicType kind.Text) NoType) false) NoMethod); methods = [] }
 
+-- what the defined types of other packages are declared with; what is seen of this package itself is never asked
+abbrev pub imported_from : Unit → Declarations
+imported_from u name = if bytes_eq u.path name.package then None else declared_by u.env name
+
 -- what the defined types of other packages and of the universe block are declared with
 abbrev pub base_of : Unit → Declarations
-base_of u name = if is_same_name name error_name then Some error_declaration else None
+base_of u name = if is_same_name name error_name then Some error_declaration else imported_from u name

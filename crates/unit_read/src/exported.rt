@@ -1,23 +1,22 @@
 //! What the packages of imports export.
-ghost use Rattle.std.specs.Prelude.{◌≡◌, Some, None, IfOk, slice_get, option_map, option_and_then};
+ghost use Rattle.std.specs.Prelude.{◌≡◌, Some, None, IfSome, length, slice_get, option_and_then};
 ghost use Rattle.std.specs.Option.{option_copied};
-ghost use Rattle.type_model.specs.GoTypes.{BasicType};
+ghost use Rattle.type_model.specs.GoTypes.{BasicType, types_of};
 ghost use Rattle.typed_tree.specs.Basics.{Says};
 ghost use Rattle.typed_tree.specs.Meanings.{Right};
 ghost use Rattle.typed_tree.specs.Places.{use_mark};
-ghost use Rattle.unit_read.specs.Imports.{package_mark, package_of, meaning_by, lead_at, out_mark, exported_in, exported_by, exported_of};
-ghost use Rattle.unit_read.specs.Environments.{IsEnvironment};
+ghost use Rattle.unit_read.specs.Imports.{package_mark, package_of, meaning_by, exported_of};
+ghost use Rattle.unit_read.specs.Environments.{IsEnvironment, object_in};
 ghost use Rattle.unit_read.specs.Subjects.{unit_of, IsRead};
-ghost use Rattle.unit_read.specs.Exports.{SaysIfSome, member_of, used_lead};
+ghost use Rattle.unit_read.specs.Exports.{member_of, used_lead, uses_in, IsUseIn, object_at, object_by, object_from, object_of};
 
 use crate::environment::Environment;
 use crate::first_names::find;
 use crate::lead::Lead;
 use crate::subject::Subject;
-use export_data::{ConstInterface, ConstOut};
-use go_tree::{NodeRef, Object};
-use gv_base::{Const, Kind, NoMemory};
-use std::alloc::Global;
+use go_tree::Object;
+use gv_base::Kind;
+use package_faces::{Exported, Interface};
 use typed_tree::{Facts, Limit, Mark, Mode, basic};
 
 /// A good mark of a basic type, without a value.
@@ -66,40 +65,25 @@ pub fn judge_lead(lead: Option<Lead>) -> Mark
     }
 }
 
-fn copy_of(alloc: Global, c: &Const) -> Result<Const, NoMemory>
-    ensures { IfOk result (λ copy. copy ≡ c.now) }
-{
-    match c {
-        Const::Truth(b) => Ok(Const::Truth(*b)),
-        Const::Int(n) => Ok(Const::Int(*n)),
-        Const::Text(text) => {
-            let copy = text.copy(alloc)?;
-            Ok(Const::Text(copy))
-        }
-    }
-}
-
-fn out_mark(alloc: Global, out: &ConstOut) -> Result<Mark, NoMemory>
-    ensures { IfOk result (λ m. Says m (out_mark out.now)) }
-{
-    let value = copy_of(alloc, &out.value)?;
-    Ok(Mark::Good(Facts {
-        mode: Mode::Constant,
-        of: basic(out.kind),
-        value: Some(value),
-    }))
-}
-
-fn interface_at(interfaces: &[ConstInterface], i: usize) -> Option<&ConstInterface>
+fn interface_at(interfaces: &[Interface], i: usize) -> Option<&Interface>
     ensures { option_copied result ≡ slice_get interfaces.now i }
 {
     interfaces.get(i)
 }
 
-fn out_at(i: &ConstInterface, j: usize) -> Option<&ConstOut>
-    ensures { option_copied result ≡ slice_get i.now.list j }
+fn nth(i: &Interface, j: usize) -> Option<&Exported>
+    ensures { option_copied result ≡ slice_get i.now.objects j }
 {
-    i.list.as_slice().get(j)
+    i.objects.as_slice().get(j)
+}
+
+fn nth_of(i: &Interface, j: Option<usize>) -> Option<&Exported>
+    ensures { option_copied result ≡ option_and_then (slice_get i.now.objects) j }
+{
+    match j {
+        Some(j) => nth(i, j),
+        None => None,
+    }
 }
 
 fn member_of(env: &Environment, i: usize, name: &[u8]) -> Option<usize>
@@ -111,110 +95,64 @@ fn member_of(env: &Environment, i: usize, name: &[u8]) -> Option<usize>
     }
 }
 
-fn mark_at(alloc: Global, i: &ConstInterface, j: Option<usize>) -> Result<Option<Mark>, NoMemory>
-    ensures { IfOk result (λ o. SaysIfSome o (option_and_then (λ k. option_map out_mark (slice_get i.now.list k)) j)) }
-{
-    match j {
-        Some(j) => match out_at(i, j) {
-            Some(out) => {
-                let mark = out_mark(alloc, out)?;
-                Ok(Some(mark))
-            }
-            None => Ok(None),
-        },
-        None => Ok(None),
-    }
-}
-
-fn exported_at(
-    alloc: Global,
-    env: &Environment,
-    i: usize,
-    name: &[u8],
-) -> Result<Option<Mark>, NoMemory>
+/// The object of a name that the interface at a place has.
+fn object_at<'a>(env: &Environment<'a>, name: &[u8], i: usize) -> Option<&'a Exported>
     requires { IsEnvironment env.now }
-    ensures { IfOk result (λ o. SaysIfSome o (option_and_then (exported_in name.now) (slice_get env.now.interfaces.now i))) }
+    ensures { option_copied result ≡ object_at env.now.interfaces.now name.now i }
 {
     match interface_at(env.interfaces, i) {
-        Some(interface) => {
-            let mark = mark_at(alloc, interface, member_of(env, i, name))?;
-            Ok(mark)
-        }
-        None => Ok(None),
+        Some(interface) => nth_of(interface, member_of(env, i, name)),
+        None => None,
     }
 }
 
-fn exported_by(
-    alloc: Global,
-    env: &Environment,
-    name: &[u8],
-    interface: Option<usize>,
-) -> Result<Option<Mark>, NoMemory>
+fn object_by<'a>(env: &Environment<'a>, name: &[u8], i: Option<usize>) -> Option<&'a Exported>
     requires { IsEnvironment env.now }
-    ensures { IfOk result (λ o. SaysIfSome o (option_and_then (λ i. option_and_then (exported_in name.now) (slice_get env.now.interfaces.now i)) interface)) }
+    ensures { option_copied result ≡ object_by env.now.interfaces.now name.now i }
 {
-    match interface {
-        Some(i) => {
-            let mark = exported_at(alloc, env, i, name)?;
-            Ok(mark)
-        }
-        None => Ok(None),
+    match i {
+        Some(i) => object_at(env, name, i),
+        None => None,
     }
 }
 
-fn exported_from(
-    alloc: Global,
-    s: &Subject,
-    name: &[u8],
-    at: NodeRef,
-) -> Result<Option<Mark>, NoMemory>
-    requires { IsRead s.now }
-    ensures { IfOk result (λ o. SaysIfSome o (option_and_then (exported_by (unit_of s.now).env name.now) (lead_at (unit_of s.now) at))) }
+fn object_from<'a>(env: &Environment<'a>, name: &[u8], lead: Option<Lead>) -> Option<&'a Exported>
+    requires { IsEnvironment env.now }
+    ensures { option_copied result ≡ object_from env.now.interfaces.now name.now lead }
 {
-    match s.lead_at(at) {
-        Some(lead) => {
-            let mark = exported_by(alloc, s.env, name, lead.interface)?;
-            Ok(mark)
-        }
-        None => Ok(None),
+    match lead {
+        Some(lead) => object_by(env, name, lead.interface),
+        None => None,
     }
 }
 
-fn exported_of_one(
-    alloc: Global,
-    s: &Subject,
-    name: &[u8],
-    object: Object,
-) -> Result<Option<Mark>, NoMemory>
+fn object_for<'a>(s: &Subject<'a>, name: &[u8], object: Object) -> Option<&'a Exported>
     requires { IsRead s.now }
-    ensures { IfOk result (λ o. SaysIfSome o (exported_of (unit_of s.now) name.now (Some object))) }
+    ensures { option_copied result ≡ object_of s.now name.now (Some object) }
 {
     match object {
-        Object::Import(at) => {
-            let mark = exported_from(alloc, s, name, at)?;
-            Ok(mark)
-        }
-        Object::Universe(_) => Ok(None),
-        Object::Local(_) => Ok(None),
-        Object::Package(_) => Ok(None),
+        Object::Import(at) => object_from(s.env, name, s.lead_at(at)),
+        Object::Universe(_) => None,
+        Object::Local(_) => None,
+        Object::Package(_) => None,
     }
 }
 
-/// What the package that an object is has for a name.
-pub fn exported_of(
-    alloc: Global,
-    s: &Subject,
-    name: &[u8],
-    object: Option<Object>,
-) -> Result<Option<Mark>, NoMemory>
+fn object_of<'a>(s: &Subject<'a>, name: &[u8], object: Option<Object>) -> Option<&'a Exported>
     requires { IsRead s.now }
-    ensures { IfOk result (λ o. SaysIfSome o (exported_of (unit_of s.now) name.now object)) }
+    ensures { option_copied result ≡ object_of s.now name.now object }
 {
     match object {
-        Some(object) => {
-            let mark = exported_of_one(alloc, s, name, object)?;
-            Ok(mark)
-        }
-        None => Ok(None),
+        Some(object) => object_for(s, name, object),
+        None => None,
     }
+}
+
+/// What the package that an object is has for a name, over the types of the environment.
+pub fn exported_of<'a>(s: &Subject<'a>, name: &[u8], object: Option<Object>) -> Option<&'a Exported>
+    requires { IsRead s.now }
+    ensures is { uses_in (types_of s.now.env.now.types.now) (option_copied result) ≡ exported_of (unit_of s.now) name.now object }
+    ensures within { IfSome (option_copied result) (IsUseIn (length s.now.env.now.types.now)) }
+{
+    object_of(s, name, object)
 }

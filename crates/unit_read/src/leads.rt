@@ -2,7 +2,7 @@
 ghost use Rattle.std.specs.Prelude.{◌≡◌, [], IfOk, length, slice_index_or, slice_get, if◌then◌else◌};
 ghost use Rattle.std.specs.Option.{option_copied};
 ghost use Rattle.go_tree.specs.ImportPaths.{are_segments};
-ghost use Rattle.unit_read.specs.Environments.{IsEnvironment};
+ghost use Rattle.unit_read.specs.Environments.{IsEnvironment, faces_in};
 ghost use Rattle.unit_read.specs.Imports.{is_import, dot_limit, path_limit, lead_by};
 ghost use Rattle.unit_read.specs.Index.{texts_of};
 ghost use Rattle.unit_read.specs.Rows.{IsRow, AreRows, token_bytes, lead_in, lead_for, leads_in};
@@ -63,7 +63,7 @@ fn lead_by(
     kind: NodeKind,
 ) -> Result<Lead, NoMemory>
     requires { IsEnvironment env.now }
-    ensures { IfOk result (λ lead. lead ≡ lead_by env.now.interfaces.now literal.now kind) }
+    ensures { IfOk result (λ lead. lead ≡ lead_by (faces_in env.now) literal.now kind) }
 {
     let value = text_value(alloc, literal)?;
     Ok(Lead {
@@ -97,7 +97,7 @@ fn lead_in(
     node: &Node,
 ) -> Result<Option<Lead>, NoMemory>
     requires { IsEnvironment env.now }
-    ensures { IfOk result (λ lead. lead ≡ lead_in env.now.interfaces.now source.now tree.now node.now) }
+    ensures { IfOk result (λ lead. lead ≡ lead_in (faces_in env.now) source.now tree.now node.now) }
 {
     if !is_import(node.kind) {
         return Ok(None);
@@ -114,7 +114,7 @@ fn tree_leads(
     tree: &FileTree,
 ) -> Result<Vec<Option<Lead>>, NoMemory>
     requires { IsEnvironment env.now }
-    ensures { IfOk result (λ row. IsRow (lead_for env.now.interfaces.now source.now tree.now) row.items (length tree.now.nodes)) }
+    ensures { IfOk result (λ row. IsRow (lead_for (faces_in env.now) source.now tree.now) row.items (length tree.now.nodes)) }
 {
     let nodes = tree.nodes.as_slice();
     let mut row = Vec::with_capacity(alloc, nodes.len())?;
@@ -144,7 +144,7 @@ pub fn lead_rows(
     trees: &[FileTree],
 ) -> Result<Vec<Vec<Option<Lead>>>, NoMemory>
     requires { IsEnvironment env.now }
-    ensures { IfOk result (λ rows. AreRows (leads_in env.now.interfaces.now (texts_of sources.now)) trees.now rows.items (length trees.now)) }
+    ensures { IfOk result (λ rows. AreRows (leads_in (faces_in env.now) (texts_of sources.now)) trees.now rows.items (length trees.now)) }
 {
     let mut rows = Vec::new(alloc);
     for file in 0..trees.len() {

@@ -15,7 +15,7 @@ mod places;
 mod subject;
 
 pub use entries::Entries;
-pub use environment::Environment;
+pub use environment::{Environment, path_index};
 pub use exported::{exported_of, judge_lead};
 pub use few::{entry, entry_rows};
 pub use first_names::{add_name, find, index};

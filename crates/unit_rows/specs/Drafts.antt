@@ -3,7 +3,7 @@ use Rattle.std.specs.Prelude.{◌≡◌, ℕ, Bool, true, false, List, Option}
 use Rattle.std.specs.Global.{Vec}
 use Rattle.std.specs.HashMap.{HashMap}
 use denote.Ref.{Bor}
-use Rattle.export_data.specs.declared.constants.ConstInterface.{ConstInterface}
+use Rattle.package_faces.specs.Faces.{Face}
 use Rattle.go_tree.specs.declared.bindings.Object.{Object}
 use Rattle.go_tree.specs.declared.tree.FileTree.{FileTree}
 use Rattle.go_tree.specs.declared.tree.NodeRef.{NodeRef}
@@ -12,8 +12,8 @@ use Rattle.unit_read.specs.Index.{AddsName}
 use Rattle.unit_read.specs.Subjects.{cell, flag, unit_of}
 use Rattle.unit_read.specs.Units.{Unit, name_at, place_at, is_top}
 
--- the package of these files, uses, interfaces, flags and types of methods
-abbrev pub package_unit : List ℕ → List (List ℕ) → List FileTree → List (NodeRef × Object) → List ConstInterface → List (Vec Bool) → List (Vec Bool)
+-- the package of these files, uses, faces of others, flags and types of methods
+abbrev pub package_unit : List ℕ → List (List ℕ) → List FileTree → List (NodeRef × Object) → List Face → List (Vec Bool) → List (Vec Bool)
     → List (Vec Bool) → List (Vec (Option NodeRef)) → Unit
 package_unit path texts trees uses env redeclared cyclic circular owners =
     record { path = path; texts = texts; trees = trees; uses = uses; env = env; redeclared = flag redeclared; cyclic = flag cyclic; circular = flag circular; owner = cell owners }

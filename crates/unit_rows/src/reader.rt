@@ -1,7 +1,7 @@
 //! How a package is read.
 ghost use Rattle.std.specs.Prelude.{◌≡◌, ◌≤◌, ◌^◌, IfOk, length};
 ghost use Rattle.go_tree.specs.Bindings.{AreInOrder};
-ghost use Rattle.unit_read.specs.Environments.{IsEnvironment};
+ghost use Rattle.unit_read.specs.Environments.{IsEnvironment, faces_in};
 ghost use Rattle.unit_read.specs.Index.{texts_of};
 ghost use Rattle.unit_read.specs.Subjects.{unit_of, IsRead};
 ghost use Rattle.unit_rows.specs.Drafts.{package_unit, with_flags};
@@ -41,7 +41,8 @@ pub fn read_unit<'a>(
     requires uses { AreInOrder uses.now }
     requires env { IsEnvironment env.now }
     ensures read { IfOk result (λ s. IsRead s) }
-    ensures of { IfOk result (λ s. unit_of s ≡ package_unit path.now (texts_of texts.now) trees.now uses.now env.now.interfaces.now redeclared.items cyclic.items circular.items owners.items) }
+    ensures of { IfOk result (λ s. unit_of s ≡ package_unit path.now (texts_of texts.now) trees.now uses.now (faces_in env.now) redeclared.items cyclic.items circular.items owners.items) }
+    ensures env { IfOk result (λ s. s.env.now ≡ env.now) }
 {
     let passages = passages(alloc, trees)?;
     let objects = object_rows(alloc, uses, trees)?;
@@ -101,6 +102,7 @@ pub fn with_flags<'a>(
     requires { IsRead s }
     ensures read { IsRead result }
     ensures of { unit_of result ≡ with_flags (unit_of s.entry) redeclared.items cyclic.items circular.items }
+    ensures env { result.env.now ≡ s.entry.env.now }
 {
     let mut s = s;
     s.redeclared = redeclared;

@@ -13,7 +13,7 @@ returns-in-Some g c =
     let next = c.mark_in_turn.new.work in
     let made = c.in_ok-circle.ensures in
     let sound = sound_first rule (unit_of u) s c.in_ok-state.ensures.work.blocks c.in_ok-state.ensures.unmarked in (
-      scene_for u next.subject.now next.state made.went.unit c.requires.read made.went.work.scene,
+      scene_for u next.subject.now next.state made.went.subject made.went.work.scene,
       in_circle rule u next.subject.now s next.state made.went sound c.in-Some.item (subst (IsCircleAt rule (unit_of u) next.state) c.in-Some.is made.ended.waits),
     )
 
@@ -25,6 +25,6 @@ returns g c =
     let next = c.mark_in_turn.new.work in
     let made = c.in_ok-circle.ensures in
     let sound = sound_first rule (unit_of u) s c.in_ok-state.ensures.work.blocks c.in_ok-state.ensures.unmarked in (
-      scene_for u next.subject.now next.state made.went.unit c.requires.read made.went.work.scene,
+      scene_for u next.subject.now next.state made.went.subject made.went.work.scene,
       annotated rule u next.subject.now s next.state made.went sound (made.ended.marked c.in-None.is),
     )

@@ -12,5 +12,5 @@ returns-clause-work c =
     let s = c.in_ok-state.state in
     let made = c.in_ok-state.ensures in
     let spans = c.deref.ensures.value ∙ c.in_ok-list.ensures in
-    started c.args.u.now s c.args.table c.requires.read c.requires.basics c.requires.base made.state made.table
+    started c.args.u.now s c.args.table c.requires.read c.requires.basics c.requires.env c.requires.base made.state made.table
     (made.blocks ∙ ap (laid 0) spans) (made.cells ∙ ap room spans) made.unmarked

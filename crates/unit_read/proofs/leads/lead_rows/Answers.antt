@@ -1,4 +1,5 @@
 use Rattle.std.proofs.Common.{ℕ, List, length, subst}
+use Rattle.unit_read.specs.Environments.{faces_in}
 use Rattle.unit_read.specs.Index.{texts_of}
 use Rattle.unit_read.specs.Rows.{IsRow, lead_for, leads_in}
 use Rattle.unit_read.proofs.CellLemmas.{rows_more, item_is}
@@ -6,7 +7,7 @@ use Rattle.unit_read.proofs.leads.lead_rows.Goals as goal
 
 pub loop-file-preserved : goal.loop-file-preserved
 loop-file-preserved c =
-    let env = c.args.env.now.interfaces.now in
+    let env = faces_in c.args.env.now in
     let tree = c.index-trees-file.result in
     let row = c.in_ok-tree_leads.field-0 in
     rows_more (leads_in env (texts_of c.args.sources.now)) c.args.trees.now c.loop-file.rows.items c.push.new.self.items c.loop-file.file tree row c.loop-file.invariant

@@ -1,4 +1,5 @@
 use Rattle.std.proofs.Common.{ap, ◌∙◌, option_map, ◌≡◌}
+use Rattle.unit_read.specs.Environments.{faces_in}
 use Rattle.unit_read.specs.Index.{texts_of}
 use Rattle.unit_read.specs.Subjects.{top_name}
 use Rattle.unit_read.specs.Units.{named_by, type_name_at}
@@ -16,17 +17,17 @@ object_rows-requires-clause-single c = single_in_order c.args.uses.now c.require
 
 pub local_rows-requires : goal.local_rows-requires
 local_rows-requires c =
-    let u = package_unit c.args.path.now (texts_of c.args.texts.now) c.args.trees.now c.args.uses.now c.args.env.now.interfaces.now c.args.redeclared.items c.args.cyclic.items c.args.circular.items c.args.owners.items in
+    let u = package_unit c.args.path.now (texts_of c.args.texts.now) c.args.trees.now c.args.uses.now (faces_in c.args.env.now) c.args.redeclared.items c.args.cyclic.items c.args.circular.items c.args.owners.items in
     places_read u c.in_ok-places.places.items c.in_ok-places.ensures
 
 pub named_types-requires : goal.named_types-requires
 named_types-requires c =
-    let u = package_unit c.args.path.now (texts_of c.args.texts.now) c.args.trees.now c.args.uses.now c.args.env.now.interfaces.now c.args.redeclared.items c.args.cyclic.items c.args.circular.items c.args.owners.items in
+    let u = package_unit c.args.path.now (texts_of c.args.texts.now) c.args.trees.now c.args.uses.now (faces_in c.args.env.now) c.args.redeclared.items c.args.cyclic.items c.args.circular.items c.args.owners.items in
     places_read u c.in_ok-places.places.items c.in_ok-places.ensures
 
 pub returns-clause-read : goal.returns-clause-read
 returns-clause-read c =
-    let u = package_unit c.args.path.now (texts_of c.args.texts.now) c.args.trees.now c.args.uses.now c.args.env.now.interfaces.now c.args.redeclared.items c.args.cyclic.items c.args.circular.items c.args.owners.items in
+    let u = package_unit c.args.path.now (texts_of c.args.texts.now) c.args.trees.now c.args.uses.now (faces_in c.args.env.now) c.args.redeclared.items c.args.cyclic.items c.args.circular.items c.args.owners.items in
     let numbers : (at : NodeRef) → entry c.in_ok-locals.locals.items at ≡ option_map (λ (n : TypeName). n.local) (type_name_at u at) = λ at. c.in_ok-locals.ensures at ∙ locals_read u c.in_ok-defined.defined.items c.in_ok-local_cells.local_cells.items c.in_ok-defined.ensures c.in_ok-local_cells.ensures at in
     record {
       blocks = c.in_ok-passages.ensures;
