@@ -1,5 +1,5 @@
 -- What the late rules of bodies refuse, fault by fault.
-use Rattle.std.proofs.Common.{◌≡◌, ◌↔◌, ℕ, ◌<◌, ◌≤◌, ◌^◌, List, [], ◌∷◌, ◌++◌, map, length, slice_get, Option, Some, option_map, refl, sym, ap, ◌∙◌, subst, arith}
+use Rattle.std.proofs.Common.{◌≡◌, ◌↔◌, ℕ, ◌<◌, ◌≤◌, ◌^◌, List, [], ◌∷◌, ◌++◌, map, length, slice_get, Option, Some, None, option_map, refl, sym, ap, ◌∙◌, subst, arith}
 use Rattle.std.proofs.Math.Path.{fun_ext}
 use Rattle.std.proofs.lemmas.List.{length-map}
 use Rattle.std.proofs.lemmas.Option.{slice_get_within, slice_get-map}
@@ -15,7 +15,7 @@ use Rattle.typed_marks.specs.declared.item.Item.{Item}
 use Rattle.typed_marks.specs.Meanings.{Meaning}
 use Rattle.unit_read.specs.Rows.{AreRows}
 use Rattle.unit_read.specs.Subjects.{cell}
-use Rattle.unit_read.specs.Units.{Unit}
+use Rattle.unit_read.specs.Units.{Unit, node_at}
 use Rattle.bind.specs.Answers.{AreSmall, AreSpelled}
 use Rattle.body_facts.specs.Bodies.{AreBodies}
 use Rattle.body_facts.specs.Facts.{IsBodyFault}
@@ -38,17 +38,20 @@ fault_gain y fault old new is push =
     gains_push (IsOfFault y) old new (record { place = y.place; fault = fault }) push (refl, is) (λ x (there, same). same_refusal x y.place fault there (same ∙ sym is))
 
 -- all that are found
-pub faults_gain : (u : Unit) (marks : Item → Meaning) (rows : List (Vec (Option NodeRef))) (found given : List LateFault) (old new : List Refusal)
-    → AreRows (λ f tree n. counted_at u marks counts.Uses (place f n)) u.trees rows (length u.trees) → given ≡ found → ((y : LateFault) → Contains found y ↔ IsBodyFault u (cell rows) y)
+pub faults_gain : (u : Unit) (marks : Item → Meaning) (methods : List (Vec (Option NodeRef))) (rows : List (Vec (Option NodeRef))) (found given : List LateFault) (old new : List Refusal)
+    → methods ≡ [] → AreRows (λ f tree n. counted_at u marks (cell methods) counts.Uses (place f n)) u.trees rows (length u.trees) → given ≡ found → ((y : LateFault) → Contains found y ↔ IsBodyFault u (cell rows) y)
     → Gains (SomeBelow (length given) (NthOfFault given)) old new → Gains (IsRefusedInBody u marks) old new
-faults_gain u marks rows found given old new filled same are gains =
+faults_gain u marks methods rows found given old new bare filled same are gains =
     gains_as (SomeBelow (length found) (NthOfFault found)) (IsRefusedInBody u marks) old new
     (subst (λ (ys : List LateFault). Gains (SomeBelow (length ys) (NthOfFault ys)) old new) same gains) (λ x. (
       λ (k, low, (y, read, is)). (y, (exactly y).0 (contains_at found k y read), is),
       λ (y, fault, is). let s = stands_in found y ((exactly y).1 fault) in (s.0, slice_get_within found s.0 y s.1, (y, s.1, is)),
     )) where
+      nothing : (at : NodeRef) → node_at u at ≡ None → cell methods at ≡ None
+      nothing at none = ap (λ (r : List (Vec (Option NodeRef))). cell r at) bare
+
       exactly : (y : LateFault) → Contains found y ↔ IsBodyFault u (reads_at u marks) y
-      exactly y = subst (λ (m : NodeRef → Option NodeRef). Contains found y ↔ IsBodyFault u m y) (fun_ext (counted_are u marks counts.Uses rows filled)) (are y)
+      exactly y = subst (λ (m : NodeRef → Option NodeRef). Contains found y ↔ IsBodyFault u m y) (fun_ext (counted_are u marks (cell methods) nothing counts.Uses rows filled)) (are y)
 
 -- ---- the files of a package
 

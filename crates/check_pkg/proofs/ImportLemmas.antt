@@ -21,6 +21,8 @@ use Rattle.bind.specs.Imports.{specs_in, line_name}
 use Rattle.bind.specs.Imported.{imported}
 use Rattle.bind.proofs.ImportLemmas.{lines_are, map_size, from_imported, to_imported}
 use Rattle.typed_tree.specs.declared.rule.TheConstants.{REDECLARED, UNUSED_IMPORT}
+use Rattle.typed_marks.specs.declared.item.Item.{Item}
+use Rattle.typed_marks.specs.Meanings.{Meaning}
 use Rattle.unit_read.specs.Imports.{import_limit}
 use Rattle.unit_read.specs.Units.{Unit, text_in, tree_at, nodes_at, node_at, object_in, object_at, name_at}
 use Rattle.unit_rows.specs.Redeclared.{package_names}
@@ -33,6 +35,7 @@ use Rattle.check_pkg.specs.Packages.{known_of}
 use Rattle.check_pkg.specs.Faults.{place_of}
 use Rattle.check_pkg.specs.Imports.{import_name, IsTaken, IsUsed}
 use Rattle.check_pkg.specs.Names.{spelled_names}
+use Rattle.check_pkg.specs.References.{names_field, uses_at}
 use Rattle.check_pkg.proofs.FaultLemmas.{same_refusal}
 use Rattle.check_pkg.proofs.GainLemmas.{gains_none, gains_as, gains_then, gains_some}
 use Rattle.check_pkg.proofs.Lists.{same_some, stands_in, contains_at, first_is, none_is}
@@ -199,36 +202,41 @@ node_low u at x h = by (node_at u at) refl h where
   by None e h = absurd cc
   by (Some node) e h = slice_get_within (nodes_at u at.file) at.node node e
 
-pub used_noted : (u : Unit) (at : NodeRef) (used : ℕ → Bool) → AreUsed u at.file (length (nodes_at u at.file)) used → IsTrue (used at.node) ↔ IsUsed u at
-used_noted u at used are = (
-  λ h. let (k, low, uses) = (are at.node).0 h in (place at.file k, refl, import_back at.file (object_at u (place at.file k)) at.node uses),
-  λ (n, file, denotes).
+-- what a node uses it denotes
+used_denotes : (names : Bool) (o : Option Object) (x : Object) → (if names then None else o) ≡ Some x → o ≡ Some x
+used_denotes true o x h = absurd cc
+used_denotes false o x h = h
+
+pub used_noted : (u : Unit) (marks : Item → Meaning) (at : NodeRef) (used : ℕ → Bool) → AreUsed u marks at.file (length (nodes_at u at.file)) used → IsTrue (used at.node) ↔ IsUsed u marks at
+used_noted u marks at used are = (
+  λ h. let (k, low, uses) = (are at.node).0 h in (place at.file k, refl, import_back at.file (uses_at u marks (place at.file k)) at.node uses),
+  λ (n, file, uses).
       let same = same_ref n at.file n.node file refl in
-      let low = node_low u n (o.Import at) denotes in
+      let low = node_low u n (o.Import at) (used_denotes (names_field u marks n) (object_at u n) (o.Import at) uses) in
       (are at.node).1 (
         n.node,
         subst (λ g. n.node < length (nodes_at u g)) file low,
-        ap (import_in at.file) (ap (object_at u) (sym same) ∙ denotes) ∙ import_forth at.file at.node,
+        ap (import_in at.file) (ap (uses_at u marks) (sym same) ∙ uses) ∙ import_forth at.file at.node,
       ),
 )
 
-pub unused_is : (u : Unit) (at : NodeRef) (used : ℕ → Bool) (b : Bool) → AreUsed u at.file (length (nodes_at u at.file)) used → import_limit u at ≡ None → b ≡ used at.node
-    → IsTrue (not b) ↔ IsUnused u at
-unused_is u at used true are none is = (
+pub unused_is : (u : Unit) (marks : Item → Meaning) (at : NodeRef) (used : ℕ → Bool) (b : Bool) → AreUsed u marks at.file (length (nodes_at u at.file)) used → import_limit u at ≡ None → b ≡ used at.node
+    → IsTrue (not b) ↔ IsUnused u marks at
+unused_is u marks at used true are none is = (
   λ h. absurd cc,
-  λ (limit, unused). absurd (unused ((used_noted u at used are).0 (sym is))),
+  λ (limit, unused). absurd (unused ((used_noted u marks at used are).0 (sym is))),
 )
-unused_is u at used false are none is = (
-  λ h. (none, λ uses. let e : false ≡ true = is ∙ (used_noted u at used are).1 uses in absurd cc),
+unused_is u marks at used false are none is = (
+  λ h. (none, λ uses. let e : false ≡ true = is ∙ (used_noted u marks at used are).1 uses in absurd cc),
   λ unused. refl,
 )
 
 -- ---- faults
 
-pub import_gains : (u : Unit) (at : NodeRef) (name : List ℕ) (taken unused : Bool) (lies : Place) (old mid new : List Refusal) → lies ≡ place_of u at → (IsTrue taken ↔ IsTaken u at name)
-    → (IsTrue unused ↔ IsUnused u at) → Gains (RefusesIf taken lies REDECLARED) old mid → Gains (RefusesIf unused lies UNUSED_IMPORT) mid new → Gains (RefusesName u at name) old new
-import_gains u at name taken unused lies old mid new is is_taken is_unused first second =
-    gains_as (λ x. RefusesIf taken lies REDECLARED x ⊎ RefusesIf unused lies UNUSED_IMPORT x) (RefusesName u at name) old new
+pub import_gains : (u : Unit) (marks : Item → Meaning) (at : NodeRef) (name : List ℕ) (taken unused : Bool) (lies : Place) (old mid new : List Refusal) → lies ≡ place_of u at → (IsTrue taken ↔ IsTaken u at name)
+    → (IsTrue unused ↔ IsUnused u marks at) → Gains (RefusesIf taken lies REDECLARED) old mid → Gains (RefusesIf unused lies UNUSED_IMPORT) mid new → Gains (RefusesName u marks at name) old new
+import_gains u marks at name taken unused lies old mid new is is_taken is_unused first second =
+    gains_as (λ x. RefusesIf taken lies REDECLARED x ⊎ RefusesIf unused lies UNUSED_IMPORT x) (RefusesName u marks at name) old new
     (gains_then (RefusesIf taken lies REDECLARED) (RefusesIf unused lies UNUSED_IMPORT) old mid new first second) (λ x. (
       λ h. elim h [
         | inl (broken, same) ↦ (ap (λ (y : Refusal). y.place) same ∙ is, inl (ap (λ (y : Refusal). y.fault) same, is_taken.0 broken))
@@ -241,12 +249,14 @@ import_gains u at name taken unused lies old mid new is is_taken is_unused first
     ))
 
 -- the import at a place of the list
-pub name_gains : (u : Unit) (list : List Declared) (k : ℕ) (d : Declared) (old new : List Refusal) → slice_get list k ≡ Some d → Gains (RefusesName u d.at d.name.now) old new → Gains (RefusesNthName u list k) old new
-name_gains u list k d old new read gains = gains_some (slice_get list k) (λ (e : Declared). RefusesName u e.at e.name.now) d old new read gains
+pub name_gains : (u : Unit) (marks : Item → Meaning) (list : List Declared) (k : ℕ) (d : Declared) (old new : List Refusal) → slice_get list k ≡ Some d → Gains (RefusesName u marks d.at d.name.now) old new
+    → Gains (RefusesNthName u marks list k) old new
+name_gains u marks list k d old new read gains = gains_some (slice_get list k) (λ (e : Declared). RefusesName u marks e.at e.name.now) d old new read gains
 
-pub names_gain : (u : Unit) (f : ℕ) (names : List Declared) (old new : List Refusal) → AreNames u f names → Gains (SomeBelow (length names) (RefusesNthName u names)) old new → Gains (RefusesImports u f) old new
-names_gain u f names old new are gains =
-    gains_as (SomeBelow (length names) (RefusesNthName u names)) (RefusesImports u f) old new gains (λ x. (
+pub names_gain : (u : Unit) (marks : Item → Meaning) (f : ℕ) (names : List Declared) (old new : List Refusal) → AreNames u f names → Gains (SomeBelow (length names) (RefusesNthName u marks names)) old new
+    → Gains (RefusesImports u marks f) old new
+names_gain u marks f names old new are gains =
+    gains_as (SomeBelow (length names) (RefusesNthName u marks names)) (RefusesImports u marks f) old new gains (λ x. (
       λ (k, low, (d, read, refuses)). (d.at, d.name.now, named_at u f names k d are read, refuses),
       λ (at, name, named, refuses).
           let s = from_names u f names name at are named in (
@@ -255,13 +265,13 @@ names_gain u f names old new are gains =
             (
               s.item,
               s.there,
-              subst (λ (a : NodeRef). RefusesName u a s.item.name.now x) (sym s.node) (subst (λ (q : List ℕ). RefusesName u at q x) (sym s.named) refuses),
+              subst (λ (a : NodeRef). RefusesName u marks a s.item.name.now x) (sym s.node) (subst (λ (q : List ℕ). RefusesName u marks at q x) (sym s.named) refuses),
             ),
           ),
     ))
 
-pub no_imports : (u : Unit) (f : ℕ) (list : List Refusal) → tree_at u f ≡ None → Gains (RefusesImports u f) list list
-no_imports u f list none = gains_none (RefusesImports u f) list list refl (λ x (at, name, named, refuses).
+pub no_imports : (u : Unit) (marks : Item → Meaning) (f : ℕ) (list : List Refusal) → tree_at u f ≡ None → Gains (RefusesImports u marks f) list list
+no_imports u marks f list none = gains_none (RefusesImports u marks f) list list refl (λ x (at, name, named, refuses).
     differ (tree_at u f) named.1.0 none (ap (tree_at u) (sym named.0) ∙ named.1.1)) where
       differ : (o : Option FileTree) (t : FileTree) → o ≡ None → o ≡ Some t → ⊥
       differ o t p q = cc

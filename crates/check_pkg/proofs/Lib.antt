@@ -9,7 +9,6 @@ pub mod ExportLemmas
 pub mod NameLemmas
 pub mod UsedLemmas
 pub mod ImportLemmas
-pub mod UniverseLemmas
 pub mod ReferenceLemmas
 pub mod InitialLemmas
 pub mod LateLemmas

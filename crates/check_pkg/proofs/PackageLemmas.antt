@@ -1,21 +1,38 @@
 -- A package and the unit that is judged.
-use Rattle.std.proofs.Common.{◌≡◌, ◌⊎◌, ◌↔◌, ℕ, true, List, [], map, refl, sym, ap, ◌∙◌, subst, inl, inr, arith}
+use Rattle.std.proofs.Common.{◌≡◌, ◌⊎◌, ◌↔◌, ℕ, true, List, [], map, Option, Some, None, unwrap_or, refl, sym, ap, ◌∙◌, subst, inl, inr, arith}
 use Rattle.std.proofs.Math.Path.{fun_ext}
 use Rattle.std.specs.List.{Contains}
-use Rattle.export_data.specs.declared.constants.ConstInterface.{ConstInterface}
-use Rattle.export_data.specs.declared.constants.ConstOut.{ConstOut}
-use Rattle.export_data.specs.Order.{names_rise}
+use Rattle.face_table.specs.Fitting.{given}
+use Rattle.package_faces.specs.Faces.{Face, ObjectOut}
+use Rattle.package_faces.specs.declared.interface.Interface.{Interface}
+use Rattle.std.specs.Global.{Vec}
+use Rattle.std.specs.Option.{option_or, option_map_or}
+use Rattle.package_faces.specs.declared.interface.Exported.{Exported}
+use Rattle.package_faces.specs.Interfaces.{faces_of, AreObjectsIn}
+use Rattle.package_faces.specs.Orders.{object_before, rises}
+use Rattle.type_model.specs.declared.term.Term.{Term}
+use Rattle.type_model.specs.declared.term.TypeName.{TypeName}
+use Rattle.type_model.specs.GoTypes.{types_of}
+use Rattle.type_model.specs.Tables.{count, types_in}
+use Rattle.type_questions.specs.Over.{declared}
 use Rattle.go_tree.specs.Bindings.{AreInOrder}
 use Rattle.go_tree.specs.declared.bindings.Object.{Object}
 use Rattle.go_tree.specs.declared.tree.FileTree.{FileTree}
 use Rattle.go_tree.specs.declared.tree.NodeRef.{NodeRef}
-use Rattle.mark_walk.specs.Asks.{IsTheAnnotation}
+use Rattle.mark_walk.specs.Asks.{IsTheAnnotation, filled}
 use Rattle.bind.specs.Denoting.{AreBindings}
 use Rattle.bind.specs.Sources.{Sources, AreFiles}
 use Rattle.typed_marks.specs.declared.item.Item.{Item}
-use Rattle.typed_marks.specs.Meanings.{Meaning}
-use Rattle.unit_read.specs.Units.{Unit}
-use Rattle.rule_words.specs.Asking.{Rule}
+use Rattle.typed_marks.specs.declared.state.State.{State}
+use Rattle.typed_marks.specs.Meanings.{Meaning, Quiet}
+use Rattle.typed_marks.specs.States.{so_far}
+use Rattle.unit_read.specs.declared.subject.Subject.{Subject}
+use Rattle.unit_read.specs.Subjects.{unit_of}
+use Rattle.unit_read.specs.declared.environment.Environment.{Environment}
+use Rattle.unit_read.specs.Environments.{faces_in}
+use Rattle.unit_read.specs.Units.{Unit, name_at, base_of}
+use Rattle.rule_words.specs.Asking.{Rule, type_item, declaration_told}
+use Rattle.rule_words.specs.Scenes.{IsScene}
 use Rattle.elaborate.specs.Walks.{item_rule}
 use Rattle.type_answers.specs.Answering.{says_of}
 use Rattle.check_pkg.specs.declared.judging.Checked.{Checked}
@@ -28,7 +45,8 @@ use Rattle.check_pkg.specs.ImportLists.{RefusesAllImports}
 use Rattle.check_pkg.specs.Imports.{IsRefusedImport}
 use Rattle.check_pkg.specs.Items.{IsRefusedItem}
 use Rattle.check_pkg.specs.Late.{IsRefusedLate}
-use Rattle.check_pkg.specs.Interfaces.{worth_of, object_item, IsExported}
+use Rattle.check_pkg.specs.Exports.{outs_in}
+use Rattle.check_pkg.specs.Interfaces.{form_of, object_item, declarations_of, IsExported}
 use Rattle.check_pkg.specs.Packages.{package_of, text_of, known_of}
 use Rattle.check_pkg.specs.Refusals.{IsRefused}
 use Rattle.check_pkg.proofs.GainLemmas.{gains_then}
@@ -48,10 +66,10 @@ refused_alike u a b alike x (inl r) = inl (record {
   told = r.told;
   refuses = (ap fault_in (sym (alike (record { stage = r.stage; block = r.block; node = r.node }))) ∙ r.refuses.0, r.refuses.1);
 })
-refused_alike u a b alike x (inr (inl import)) = inr (inl import)
+refused_alike u a b alike x (inr (inl import)) = inr (inl (subst (λ (m : Item → Meaning). IsRefusedImport u m x) (fun_ext alike) import))
 refused_alike u a b alike x (inr (inr late)) = inr (inr (subst (λ (m : Item → Meaning). IsRefusedLate u m x) (fun_ext alike) late))
 
-exported_alike : (u : Unit) (a b : Item → Meaning) → ((i : Item) → a i ≡ b i) → (out : ConstOut) → IsExported u a out → IsExported u b out
+exported_alike : (u : Unit) (a b : Item → Meaning) → ((i : Item) → a i ≡ b i) → (out : ObjectOut) → IsExported u a out → IsExported u b out
 exported_alike u a b alike out (k, r) = (
   k,
   record {
@@ -60,44 +78,79 @@ exported_alike u a b alike out (k, r) = (
     first = r.first;
     exported = r.exported;
     named = r.named;
-    worth = ap worth_of (sym (alike (object_item r.name))) ∙ r.worth;
+    form = ap (form_of u.path (name_at u r.name)) (sym (alike (object_item r.name))) ∙ r.form;
   },
 )
 
-pub is_checked : (rule : Unit → Item → Rule) (u : Unit) (marks : Item → Meaning) (c : Checked) → IsTheAnnotation (says_of u) (item_rule rule u) marks
-    → ((x : Refusal) → Contains c.refused.items x ↔ IsRefused u marks x) → IsOrdered c.refused.items → (c.refused.items ≡ [] → names_rise c.exports.items ≡ true)
-    → (c.refused.items ≡ [] → (out : ConstOut) → Contains c.exports.items out ↔ IsExported u marks out) → (¬ (c.refused.items ≡ []) → c.exports.items ≡ []) → IsChecked rule u c
-is_checked rule u marks c the all ordered rise exported nothing = record {
+-- what is declared by the marks so far is what they declare, once nothing is said of the rest
+told_at : (u : Unit) (so_far : Item → Option Meaning) (name : TypeName) → declared (base_of u) (type_item u) declaration_told so_far name ≡ declarations_of u (filled Quiet so_far) name
+told_at u so_far name = ap (option_or (base_of u name)) (by (type_item u name)) where
+  at : (i : Item) (m : Option Meaning) → so_far i ≡ m → option_map_or declaration_told (so_far i) None ≡ declaration_told (filled Quiet so_far i)
+  at i None e = ap (λ (m : Option Meaning). option_map_or declaration_told m None) e ∙ sym (ap (λ (m : Option Meaning). declaration_told (unwrap_or m Quiet)) e)
+  at i (Some x) e = ap (λ (m : Option Meaning). option_map_or declaration_told m None) e ∙ sym (ap (λ (m : Option Meaning). declaration_told (unwrap_or m Quiet)) e)
+
+  by : (o : Option Item) → option_map_or declaration_told (option_map_or so_far o None) None ≡ option_map_or declaration_told (option_map_or (λ (i : Item). Some (filled Quiet so_far i)) o None) None
+  by None = refl
+  by (Some i) = at i (so_far i) refl
+
+pub is_checked : (rule : Unit → Item → Rule) (u : Subject) (s : State) (refused : Vec Refusal) (exports : Vec Exported) → IsScene u s
+    → IsTheAnnotation (says_of (unit_of u)) (item_rule rule (unit_of u)) (filled Quiet (so_far s))
+    → ((x : Refusal) → Contains refused.items x ↔ IsRefused (unit_of u) (filled Quiet (so_far s)) x) → IsOrdered refused.items
+    → (refused.items ≡ [] → rises object_before (outs_in s exports.items) ≡ true)
+    → (refused.items ≡ [] → (out : ObjectOut) → Contains (outs_in s exports.items) out ↔ IsExported (unit_of u) (filled Quiet (so_far s)) out)
+    → (refused.items ≡ [] → AreObjectsIn (unit_of u).path (count s.table) (types_in s.table) exports.items) → (¬ (refused.items ≡ []) → exports.items ≡ [])
+    → IsChecked rule (unit_of u) (record { refused = refused; exports = exports; table = s.table })
+is_checked rule u s refused exports scene the all ordered rise exported within nothing = record {
   marks = record {
     marks = marks;
     annotated = the.is;
     each = λ other is x. (
-      λ h. refused_alike u marks other (λ i. sym (the.alone other is i)) x ((all x).0 h),
-      λ h. (all x).1 (refused_alike u other marks (λ i. the.alone other is i) x h),
+      λ h. refused_alike (unit_of u) marks other (λ i. sym (the.alone other is i)) x ((all x).0 h),
+      λ h. (all x).1 (refused_alike (unit_of u) other marks (λ i. the.alone other is i) x h),
     );
   };
   ordered = ordered;
   exports = λ empty. record {
-    rise = rise empty;
-    each = λ other is out. (
-      λ h. exported_alike u marks other (λ i. sym (the.alone other is i)) out ((exported empty out).0 h),
-      λ h. (exported empty out).1 (exported_alike u other marks (λ i. the.alone other is i) out h),
-    );
+    table = scene.state.table;
+    within = within empty;
+    objects = record {
+      rise = rise empty;
+      each = λ other is out. (
+        λ h. exported_alike (unit_of u) marks other (λ i. sym (the.alone other is i)) out ((exported empty out).0 h),
+        λ h. (exported empty out).1 (exported_alike (unit_of u) other marks (λ i. the.alone other is i) out h),
+      );
+    };
+    declared = λ other is name.
+        scene.step name ∙ (told_at (unit_of u) (so_far s) name ∙ ap (λ (m : Item → Meaning). declarations_of (unit_of u) m name) (fun_ext (λ i. sym (the.alone other is i))));
   };
   nothing = nothing;
-}
+} where
+  marks : Item → Meaning
+  marks = filled Quiet (so_far s)
 
 -- ---- all that is refused
 
-down_imports : (u : Unit) (x : Refusal) → RefusesAllImports u x → IsRefusedImport u x
-down_imports u x (f, low, (at, name, (file, import, named), (lies, fault))) = (at, name, import, named, lies, fault)
+down_imports : (u : Unit) (marks : Item → Meaning) (x : Refusal) → RefusesAllImports u marks x → IsRefusedImport u marks x
+down_imports u marks x (f, low, (at, name, (file, import, named), (lies, fault))) = (at, name, import, named, lies, fault)
 
-up_import : (u : Unit) (x : Refusal) → IsRefusedImport u x → RefusesAllImports u x
-up_import u x (at, name, import, named, lies, fault) = (at.file, slice_get_within u.trees at.file import.0 import.1, (at, name, (refl, import, named), (lies, fault)))
+up_import : (u : Unit) (marks : Item → Meaning) (x : Refusal) → IsRefusedImport u marks x → RefusesAllImports u marks x
+up_import u marks x (at, name, import, named, lies, fault) = (at.file, slice_get_within u.trees at.file import.0 import.1, (at, name, (refl, import, named), (lies, fault)))
+
+-- ---- the environment
+
+-- what is declared from the start is what is given beside the package
+pub given_base : (u : Unit) (path : List ℕ) (env : List Face) → u.path ≡ path → u.env ≡ env → (name : TypeName) → given path env name ≡ base_of u name
+given_base u path env is are name = ap (λ (p : List ℕ). given p env name) (sym is) ∙ ap (λ (e : List Face). given u.path e name) (sym are)
+
+-- an environment over these terms has the faces over their types
+pub faces_are : (e : Environment) (interfaces : List Interface) (terms : List Term) → e.interfaces.now ≡ interfaces → e.types.now ≡ terms → faces_in e ≡ faces_of (types_of terms) interfaces
+unfolding faces_in
+faces_are e interfaces terms are types =
+    ap (λ (ts : List Term). faces_of (types_of ts) e.interfaces.now) types ∙ ap (λ (is : List Interface). faces_of (types_of terms) is) are
 
 -- ---- the package
 
-pub is_outcome : (rule : Unit → Item → Rule) (path : List ℕ) (files : List (List ℕ × List ℕ)) (trees : List FileTree) (env : List ConstInterface) (named : List (List ℕ × List ℕ)) (uses : List (NodeRef × Object)) (outcome : Outcome)
+pub is_outcome : (rule : Unit → Item → Rule) (path : List ℕ) (files : List (List ℕ × List ℕ)) (trees : List FileTree) (env : List Face) (named : List (List ℕ × List ℕ)) (uses : List (NodeRef × Object)) (outcome : Outcome)
     → named ≡ known_of env → AreInOrder uses → ((p : Sources) → p.named ≡ named → AreFiles trees files p.files → AreBindings p uses)
     → IsOutcomeBy rule path (map text_of files) trees uses env outcome → IsOutcomeOf rule (package_of path files trees) env outcome
 is_outcome rule path files trees env named uses outcome known ordered bound by = record {
@@ -118,16 +171,16 @@ is_outcome rule path files trees env named uses outcome known ordered bound by =
   comes = by.comes;
 }
 
-pub collected : (u : Unit) (marks : Item → Meaning) (start mid last end : List Refusal) → start ≡ [] → Gains (IsRefusedItem u marks) start mid → Gains (RefusesAllImports u) mid last
+pub collected : (u : Unit) (marks : Item → Meaning) (start mid last end : List Refusal) → start ≡ [] → Gains (IsRefusedItem u marks) start mid → Gains (RefusesAllImports u marks) mid last
     → Gains (IsRefusedLate u marks) last end → (x : Refusal) → Contains end x ↔ IsRefused u marks x
 collected u marks start mid last end empty items imports lates x =
-    let all = gains_then (IsRefusedItem u marks) (λ y. RefusesAllImports u y ⊎ IsRefusedLate u marks y) start mid end items
-    (gains_then (RefusesAllImports u) (IsRefusedLate u marks) mid last end imports lates) in (
+    let all = gains_then (IsRefusedItem u marks) (λ y. RefusesAllImports u marks y ⊎ IsRefusedLate u marks y) start mid end items
+    (gains_then (RefusesAllImports u marks) (IsRefusedLate u marks) mid last end imports lates) in (
       λ h. elim ((all.all x).0 h) [
         | inl before ↦ absurd (nothing start x empty before)
-        | inr gained ↦ elim gained [ inl item ↦ inl item | inr other ↦ inr (elim other [ inl import ↦ inl (down_imports u x import) | inr late ↦ inr late ]) ]
+        | inr gained ↦ elim gained [ inl item ↦ inl item | inr other ↦ inr (elim other [ inl import ↦ inl (down_imports u marks x import) | inr late ↦ inr late ]) ]
       ],
-      λ h. (all.all x).1 (inr (elim h [ inl item ↦ inl item | inr other ↦ inr (elim other [ inl import ↦ inl (up_import u x import) | inr late ↦ inr late ]) ])),
+      λ h. (all.all x).1 (inr (elim h [ inl item ↦ inl item | inr other ↦ inr (elim other [ inl import ↦ inl (up_import u marks x import) | inr late ↦ inr late ]) ])),
     ) where
       nothing : (list : List Refusal) (x : Refusal) → list ≡ [] → Contains list x → ⊥
       nothing list x is has = let none : Contains [] x = subst (λ (l : List Refusal). Contains l x) is has in absurd (let (k, low, e) = none in omega arith)

@@ -2,7 +2,7 @@
 use Rattle.std.proofs.Common.{◌≡◌, ◌↔◌, ℕ, ◌<◌, ◌≤◌, IsTrue, Bool, false, List, [], length, slice_get, Option, Some, None, option_and_then, refl, sym, ap, ◌∙◌, subst, arith}
 use Rattle.std.specs.Global.{Vec}
 use Rattle.std.specs.Option.{option_map_or}
-use Rattle.export_data.specs.declared.constants.ConstInterface.{ConstInterface}
+use Rattle.package_faces.specs.Faces.{Face}
 use Rattle.go_tree.specs.declared.bindings.Object.{Object}
 use Rattle.go_tree.specs.declared.tree.FileTree.{FileTree}
 use Rattle.go_tree.specs.declared.tree.Node.{Node}
@@ -87,7 +87,7 @@ are_needs u order owners of flags own = record {
   marks_of : (at : NodeRef) (node : Node) → slice_get (nodes_of (slice_get u.trees at.file)) at.node ≡ Some node → IsTrue (is_cyclic u.trees order at) ↔ (IsNamed (declared u.trees of.rows) at × Leads (NeedsOf of.world) at at)
   marks_of at node there = marks_cyclic u.uses u.trees order (order_of u.uses u.trees order owners of) at node there
 
-pub is_unit_of : (path : List ℕ) (texts : List (List ℕ)) (trees : List FileTree) (uses : List (NodeRef × Object)) (env : List ConstInterface) (bare u : Unit) (before after later redeclared cyclic circular : List (Vec Bool)) (order : List Needed)
+pub is_unit_of : (path : List ℕ) (texts : List (List ℕ)) (trees : List FileTree) (uses : List (NodeRef × Object)) (env : List Face) (bare u : Unit) (before after later redeclared cyclic circular : List (Vec Bool)) (order : List Needed)
     (owners : List (Vec (Option NodeRef))) → bare ≡ package_unit path texts trees uses env before after later owners → u ≡ with_flags bare redeclared cyclic circular → AreAgain bare (flag redeclared)
     → AreNeedsOf uses trees order owners → ((at : NodeRef) → flag cyclic at ≡ is_cyclic trees order at) → AreCircular bare (flag circular) → IsUnitOf path texts trees uses env u
 is_unit_of path texts trees uses env bare u before after later redeclared cyclic circular order owners bare_is u_is again of needs turn =

@@ -5,7 +5,7 @@ use Rattle.go_tree.specs.Bindings.{AreInOrder, IsBefore}
 use Rattle.go_tree.specs.declared.bindings.Object.{Object}
 use Rattle.go_tree.specs.declared.tree.FileTree.{FileTree}
 use Rattle.go_tree.specs.declared.tree.NodeRef.{NodeRef}
-use Rattle.export_data.specs.declared.constants.ConstInterface.{ConstInterface}
+use Rattle.package_faces.specs.Faces.{Face}
 use Rattle.std.proofs.lemmas.Option.{slice_get_within}
 use Rattle.bind.specs.Answers.{AreSpelled}
 use Rattle.bind.specs.Denoting.{AreBindings}
@@ -98,7 +98,7 @@ spelled_forests trees files spelled f tree there =
 same_uses : (s : Sources) (one other : List Use) → AreBindings s one → AreBindings s other → (z : Use) → Has one z → Has other z
 same_uses s one other a b z (k, at) = stands_in other z ((b z.0 z.1).1 ((a z.0 z.1).0 (contains_at one k z at)))
 
-abbrev pub unit_with : List ℕ → List (List ℕ) → List FileTree → List Use → List ConstInterface → (NodeRef → Bool) → (NodeRef → Bool) → (NodeRef → Bool) → (NodeRef → Option NodeRef) → Unit
+abbrev pub unit_with : List ℕ → List (List ℕ) → List FileTree → List Use → List Face → (NodeRef → Bool) → (NodeRef → Bool) → (NodeRef → Bool) → (NodeRef → Option NodeRef) → Unit
 unit_with path texts trees uses env redeclared cyclic circular owner =
     record { path = path; texts = texts; trees = trees; uses = uses; env = env; redeclared = redeclared; cyclic = cyclic; circular = circular; owner = owner }
 
@@ -117,7 +117,7 @@ with_flags a b redeclared cyclic circular owner shares =
     ∙ (ap (λ (x : List (List ℕ)). unit_with b.path x a.trees a.uses a.env redeclared cyclic circular owner) shares.texts
     ∙ (ap (λ (x : List FileTree). unit_with b.path b.texts x a.uses a.env redeclared cyclic circular owner) shares.trees
     ∙ (ap (λ (x : List Use). unit_with b.path b.texts b.trees x a.env redeclared cyclic circular owner) shares.uses
-    ∙ ap (λ (x : List ConstInterface). unit_with b.path b.texts b.trees b.uses x redeclared cyclic circular owner) shares.env)))
+    ∙ ap (λ (x : List Face). unit_with b.path b.texts b.trees b.uses x redeclared cyclic circular owner) shares.env)))
 
 pub shared : (p : Package) (env : Env) (a b : Unit) → IsUnit p env a → IsUnit p env b → AreSpelled p.trees p.files → Shares a b
 shared p env a b one other spelled =

@@ -1,5 +1,8 @@
 -- What comes of a package.
-use Rattle.std.specs.Prelude.{◌≡◌, ℕ, List, [], Option}
+use Rattle.std.specs.Prelude.{◌≡◌, ℕ, List, [], map, Option}
+use Rattle.package_faces.specs.Interfaces.{object_in, AreObjectsIn}
+use Rattle.type_model.specs.declared.term.TypeName.{TypeName}
+use Rattle.type_model.specs.Tables.{IsTable, count, types_in, declarations_in}
 use Rattle.mark_walk.specs.Asks.{Sound, Awaits, WaitsFor}
 use Rattle.typed_marks.specs.declared.item.Item.{Item}
 use Rattle.typed_marks.specs.Meanings.{Meaning}
@@ -11,19 +14,26 @@ use Rattle.check_pkg.specs.declared.judging.Checked.{Checked}
 use Rattle.check_pkg.specs.declared.judging.Outcome.{Outcome}
 use Rattle.check_pkg.specs.declared.judging.Outcome.TheVariants as o
 use Rattle.check_pkg.specs.Faults.{IsOrdered}
-use Rattle.check_pkg.specs.Interfaces.{HasExports}
+use Rattle.check_pkg.specs.Interfaces.{HasObjects, declarations_of}
 use Rattle.check_pkg.specs.Packages.{Package, Env, IsUnit}
 use Rattle.check_pkg.specs.Readings.{IsUnitOf}
-use Rattle.check_pkg.specs.Refusals.{HasMarks}
+use Rattle.check_pkg.specs.Refusals.{HasMarks, IsAnnotation}
 use Rattle.go_tree.specs.declared.bindings.Object.{Object}
 use Rattle.go_tree.specs.declared.tree.FileTree.{FileTree}
 use Rattle.go_tree.specs.declared.tree.NodeRef.{NodeRef}
+
+-- the objects are what the unit exports, over the table, which declares what every annotation does
+pub record HasExported (rule : Unit → Item → Rule) (u : Unit) (c : Checked) : Type 0 where
+  pub table : IsTable c.table
+  pub within : AreObjectsIn u.path (count c.table) (types_in c.table) c.exports.items
+  pub objects : HasObjects rule u (map (λ e. object_in (types_in c.table) e) c.exports.items)
+  pub declared : (marks : Item → Meaning) → IsAnnotation rule u marks → (name : TypeName) → declarations_in c.table name ≡ declarations_of u marks name
 
 -- The list has all that refuses the unit, in order and each once; and where nothing refuses it the exports are what it exports.
 pub record IsChecked (rule : Unit → Item → Rule) (u : Unit) (c : Checked) : Type 0 where
   pub marks : HasMarks rule u c.refused.items
   pub ordered : IsOrdered c.refused.items
-  pub exports : c.refused.items ≡ [] → HasExports rule u c.exports.items
+  pub exports : c.refused.items ≡ [] → HasExported rule u c
   pub nothing : ¬ (c.refused.items ≡ []) → c.exports.items ≡ []
 
 -- Over marks that every annotation has, an item waits for itself.

@@ -8,9 +8,12 @@ use Rattle.go_tree.specs.declared.tree.NodeRef.{NodeRef}
 use Rattle.object_order.specs.Spots.{place}
 use Rattle.go_tree.specs.Bindings.{IsBefore}
 use Rattle.gv_base.specs.declared.place.Place.{Place}
+use Rattle.package_faces.specs.declared.interface.Interface.{Interface}
 use Rattle.typed_tree.specs.declared.rule.Rule.{Rule}
 use Rattle.unit_read.specs.Imports.{import_limit}
-use Rattle.unit_read.specs.Units.{Unit, object_at, name_at}
+use Rattle.typed_marks.specs.declared.item.Item.{Item}
+use Rattle.typed_marks.specs.Meanings.{Meaning}
+use Rattle.unit_read.specs.Units.{Unit, name_at}
 use Rattle.unit_rows.specs.Redeclared.{package_names}
 use Rattle.check_pkg.specs.declared.import_names.Declared.{Declared}
 use Rattle.check_pkg.specs.declared.refusal.Refusal.{Refusal}
@@ -18,8 +21,13 @@ use Rattle.check_pkg.specs.declared.refusal.Fault.TheVariants.{Rule as RuleFault
 use Rattle.check_pkg.specs.Gains.{SomeBelow}
 use Rattle.check_pkg.specs.Faults.{place_of}
 use Rattle.check_pkg.specs.Imports.{IsImport, import_name, IsUsed, HasImportFault}
+use Rattle.check_pkg.specs.References.{uses_at}
 
 -- ---- names
+
+-- the path and the name of each package
+abbrev pub named_in : List Interface → List (List ℕ × List ℕ)
+named_in list = map (λ (i : Interface). (i.path, i.name)) list
 
 abbrev pub pairs : List Declared → List (List ℕ × NodeRef)
 pairs list = map (λ (d : Declared). (d.name.now, d.at)) list
@@ -42,9 +50,9 @@ import_in f (Some (o.Universe i)) = None
 import_in f (Some (o.Local at)) = None
 import_in f (Some (o.Package at)) = None
 
--- one of the first few nodes of a file denotes the import at a node
-abbrev pub UsesBelow : Unit → ℕ → ℕ → ℕ → Type 0
-UsesBelow u f n j = (k : ℕ) × (k < n) × (import_in f (object_at u (place f k)) ≡ Some j)
+-- one of the first few nodes of a file uses the import at a node
+abbrev pub UsesBelow : Unit → (Item → Meaning) → ℕ → ℕ → ℕ → Type 0
+UsesBelow u marks f n j = (k : ℕ) × (k < n) × (import_in f (uses_at u marks (place f k)) ≡ Some j)
 
 abbrev pub has : {S : Type 0} → HashSet ℕ S → ℕ → Bool
 has used node = contains_by (λ key. nat_eq node key) used
@@ -53,9 +61,9 @@ has used node = contains_by (λ key. nat_eq node key) used
 abbrev pub Notes : Option ℕ → (ℕ → Bool) → (ℕ → Bool) → Type 0
 Notes at old new = (j : ℕ) → IsTrue (new j) ↔ (IsTrue (old j) ⊎ (at ≡ Some j))
 
--- the nodes that are noted are those that the first few nodes of the file denote as imports
-abbrev pub AreUsed : Unit → ℕ → ℕ → (ℕ → Bool) → Type 0
-AreUsed u f n used = (j : ℕ) → IsTrue (used j) ↔ UsesBelow u f n j
+-- the nodes that are noted are those of the imports that the first few nodes of the file use
+abbrev pub AreUsed : Unit → (Item → Meaning) → ℕ → ℕ → (ℕ → Bool) → Type 0
+AreUsed u marks f n used = (j : ℕ) → IsTrue (used j) ↔ UsesBelow u marks f n j
 
 -- ---- the first import by each name
 
@@ -96,17 +104,17 @@ abbrev pub ComesLater : Unit → NodeRef → List ℕ → Type 0
 ComesLater u at name = (other : NodeRef) × IsImport u other × (other.file ≡ at.file) × IsBefore other at × (import_name u other ≡ Some name)
 
 -- E7 is broken
-abbrev pub IsUnused : Unit → NodeRef → Type 0
-IsUnused u at = (import_limit u at ≡ None) × (IsUsed u at → ⊥)
+abbrev pub IsUnused : Unit → (Item → Meaning) → NodeRef → Type 0
+IsUnused u marks at = (import_limit u at ≡ None) × (IsUsed u marks at → ⊥)
 
-abbrev pub RefusesName : Unit → NodeRef → List ℕ → Refusal → Type 0
-RefusesName u at name x = (x.place ≡ place_of u at) × HasImportFault u at name x.fault
+abbrev pub RefusesName : Unit → (Item → Meaning) → NodeRef → List ℕ → Refusal → Type 0
+RefusesName u marks at name x = (x.place ≡ place_of u at) × HasImportFault u marks at name x.fault
 
-abbrev pub RefusesNthName : Unit → List Declared → ℕ → Refusal → Type 0
-RefusesNthName u list k x = (d : Declared) × (slice_get list k ≡ Some d) × RefusesName u d.at d.name.now x
+abbrev pub RefusesNthName : Unit → (Item → Meaning) → List Declared → ℕ → Refusal → Type 0
+RefusesNthName u marks list k x = (d : Declared) × (slice_get list k ≡ Some d) × RefusesName u marks d.at d.name.now x
 
-abbrev pub RefusesImports : Unit → ℕ → Refusal → Type 0
-RefusesImports u f x = (at : NodeRef) × (name : List ℕ) × Names u f at name × RefusesName u at name x
+abbrev pub RefusesImports : Unit → (Item → Meaning) → ℕ → Refusal → Type 0
+RefusesImports u marks f x = (at : NodeRef) × (name : List ℕ) × Names u f at name × RefusesName u marks at name x
 
-abbrev pub RefusesAllImports : Unit → Refusal → Type 0
-RefusesAllImports u x = SomeBelow (length u.trees) (RefusesImports u) x
+abbrev pub RefusesAllImports : Unit → (Item → Meaning) → Refusal → Type 0
+RefusesAllImports u marks x = SomeBelow (length u.trees) (RefusesImports u marks) x

@@ -10,13 +10,16 @@ use Rattle.go_tree.specs.declared.tree.NodeRef.{NodeRef}
 use Rattle.bind.specs.Imports.{line_name, specs_in}
 use Rattle.typed_tree.specs.declared.rule.TheConstants.{REDECLARED, UNUSED_IMPORT}
 use Rattle.unit_read.specs.Imports.{import_limit}
-use Rattle.unit_read.specs.Units.{Unit, text_in, tree_at, object_at, name_at}
+use Rattle.typed_marks.specs.declared.item.Item.{Item}
+use Rattle.typed_marks.specs.Meanings.{Meaning}
+use Rattle.unit_read.specs.Units.{Unit, text_in, tree_at, name_at}
 use Rattle.unit_rows.specs.Redeclared.{package_names}
 use Rattle.check_pkg.specs.declared.refusal.Fault.{Fault}
 use Rattle.check_pkg.specs.declared.refusal.Fault.TheVariants.{Rule as RuleFault}
 use Rattle.check_pkg.specs.declared.refusal.Refusal.{Refusal}
 use Rattle.check_pkg.specs.Faults.{place_of}
 use Rattle.check_pkg.specs.Packages.{known_of}
+use Rattle.check_pkg.specs.References.{uses_at}
 
 -- the name that an import declares
 abbrev pub import_name : Unit → NodeRef → Option (List ℕ)
@@ -35,17 +38,17 @@ IsTaken u at name =
     IsDeclared u name
     ⊎ ((other : NodeRef) × IsImport u other × (other.file ≡ at.file) × IsBefore other at × (import_name u other ≡ Some name))
 
--- a use in the file denotes the import
-abbrev pub IsUsed : Unit → NodeRef → Type 0
-IsUsed u at = (n : NodeRef) × (n.file ≡ at.file) × (object_at u n ≡ Some (o.Import at))
+-- a use in the file denotes the import; the name of a field before a colon is none
+abbrev pub IsUsed : Unit → (Item → Meaning) → NodeRef → Type 0
+IsUsed u marks at = (n : NodeRef) × (n.file ≡ at.file) × (uses_at u marks n ≡ Some (o.Import at))
 
 -- E1 of an import whose name is taken; E7 of one that declares a name, lies in the profile and isn't used
-abbrev pub HasImportFault : Unit → NodeRef → List ℕ → Fault → Type 0
-HasImportFault u at name fault =
+abbrev pub HasImportFault : Unit → (Item → Meaning) → NodeRef → List ℕ → Fault → Type 0
+HasImportFault u marks at name fault =
     ((fault ≡ RuleFault REDECLARED) × IsTaken u at name)
-    ⊎ ((fault ≡ RuleFault UNUSED_IMPORT) × (import_limit u at ≡ None) × (IsUsed u at → ⊥))
+    ⊎ ((fault ≡ RuleFault UNUSED_IMPORT) × (import_limit u at ≡ None) × (IsUsed u marks at → ⊥))
 
 -- an import refuses the package, at its first token
-abbrev pub IsRefusedImport : Unit → Refusal → Type 0
-IsRefusedImport u x =
-    (at : NodeRef) × (name : List ℕ) × IsImport u at × (import_name u at ≡ Some name) × (x.place ≡ place_of u at) × HasImportFault u at name x.fault
+abbrev pub IsRefusedImport : Unit → (Item → Meaning) → Refusal → Type 0
+IsRefusedImport u marks x =
+    (at : NodeRef) × (name : List ℕ) × IsImport u at × (import_name u at ≡ Some name) × (x.place ≡ place_of u at) × HasImportFault u marks at name x.fault

@@ -11,7 +11,6 @@ pub mod Gains
 pub mod ImportLists
 pub mod Exports
 pub mod Readings
-pub mod Universes
 pub mod References
 pub mod Initial
 pub mod InBodies

@@ -7,7 +7,7 @@ use Rattle.go_tree.specs.declared.tree.FileTree.{FileTree}
 use Rattle.go_tree.specs.declared.tree.Node.{Node}
 use Rattle.go_tree.specs.declared.tree.NodeRef.{NodeRef}
 use Rattle.go_tree.specs.declared.bindings.Object.{Object}
-use Rattle.export_data.specs.declared.constants.ConstInterface.{ConstInterface}
+use Rattle.package_faces.specs.Faces.{Face}
 use Rattle.object_order.specs.Cases.{NeedsOf}
 use Rattle.object_order.specs.Names.{IsNamed}
 use Rattle.object_order.specs.Paths.{Leads}
@@ -41,13 +41,13 @@ texts_in p = map text_of p.files
 abbrev pub package_name : Package → List ℕ
 package_name p = spelled_at (record { texts = texts_in p; trees = p.trees }) 0 0
 
--- the interfaces of the packages to which imports may lead
+-- what is seen of the packages to which imports may lead
 abbrev pub Env : Type 0
-Env = List ConstInterface
+Env = List Face
 
 -- the path and the name of each
 abbrev pub known_of : Env → List (List ℕ × List ℕ)
-known_of env = map (λ (i : ConstInterface). (i.path, i.name)) env
+known_of env = map (λ (f : Face). (f.path, f.name)) env
 
 -- the uses are those of the package, each with what it denotes
 pub record AreUses (p : Package) (env : Env) (uses : List (NodeRef × Object)) : Type 0 where

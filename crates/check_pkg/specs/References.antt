@@ -1,7 +1,8 @@
--- What nodes refer to, by what names denote and by the marks of those before colons (Go 1.17, "Composite literals": "The key is interpreted as a
--- field name for struct literals").
-use Rattle.std.specs.Prelude.{◌==◌, ◌&&◌, Bool, true, false, not, if◌then◌else◌, Option, None}
-use Rattle.std.specs.Option.{option_map_or}
+-- What nodes refer to: by what names denote, by the marks of those before colons (Go 1.17, "Composite literals": "The key is interpreted as a
+-- field name for struct literals"), and by the methods that selectors select.
+use Rattle.std.specs.Prelude.{◌≡◌, ◌⊎◌, ◌↔◌, ◌==◌, ◌&&◌, Bool, true, false, not, if◌then◌else◌, Option, Some, None}
+use Rattle.std.specs.Option.{option_map_or, option_or}
+use Rattle.go_tree.specs.declared.bindings.Object.{Object}
 use Rattle.go_tree.specs.declared.tree.Node.{Node}
 use Rattle.go_tree.specs.declared.tree.NodeKind.{NodeKind}
 use Rattle.go_tree.specs.declared.tree.NodeKind.TheVariants as k
@@ -13,9 +14,10 @@ use Rattle.typed_marks.specs.declared.item.Item.{Item}
 use Rattle.typed_marks.specs.declared.item.Stage.TheVariants as s
 use Rattle.typed_marks.specs.Meanings.{Meaning, Right, Wrong, Beyond, Quiet, Wishes, Declares}
 use Rattle.unit_read.specs.declared.place.Place.{Place}
-use Rattle.unit_read.specs.Units.{Unit, node_at, place_at}
+use Rattle.unit_read.specs.Units.{Unit, node_at, place_at, object_at}
 use Rattle.unit_rows.specs.Circular.{named_at}
 use Rattle.rule_words.specs.Asking.{item}
+use Rattle.selected_methods.specs.Selected.{IsSelectedMethod}
 use Rattle.check_pkg.specs.declared.references.Counted.{Counted}
 use Rattle.check_pkg.specs.declared.references.Counted.TheVariants as counts
 
@@ -69,7 +71,15 @@ refers u marks at = if is_key u at then is_operand (marks (judged_item at)) else
 abbrev pub reference_at : Unit → (Item → Meaning) → NodeRef → Option NodeRef
 reference_at u marks at = if refers u marks at then named_at u at else None
 
--- ---- uses of variables
+-- the node is a reference to the declared name: it denotes it, or it selects the method of that name
+abbrev pub IsReference : Unit → (Item → Meaning) → NodeRef → NodeRef → Type 0
+IsReference u marks at w = (reference_at u marks at ≡ Some w) ⊎ ((reference_at u marks at ≡ None) × IsSelectedMethod u marks at w)
+
+-- to what each node is a reference
+abbrev pub AreReferences : Unit → (Item → Meaning) → (NodeRef → Option NodeRef) → Type 0
+AreReferences u marks meant = (at w : NodeRef) → (meant at ≡ Some w) ↔ IsReference u marks at w
+
+-- ---- uses of variables and imports
 
 -- the node is the name of a field before a colon, and no use of what is spelled so
 abbrev pub names_field : Unit → (Item → Meaning) → NodeRef → Bool
@@ -79,7 +89,17 @@ names_field u marks at = if is_key u at then is_field (marks (judged_item at)) e
 abbrev pub reads_at : Unit → (Item → Meaning) → NodeRef → Option NodeRef
 reads_at u marks at = if names_field u marks at then None else named_at u at
 
--- either of them
-abbrev pub counted_at : Unit → (Item → Meaning) → Counted → NodeRef → Option NodeRef
-counted_at u marks counts.References at = reference_at u marks at
-counted_at u marks counts.Uses at = reads_at u marks at
+-- what a node denotes, unless it is the name of a field before a colon
+abbrev pub uses_at : Unit → (Item → Meaning) → NodeRef → Option Object
+uses_at u marks at = if names_field u marks at then None else object_at u at
+
+-- ---- either of them
+
+-- what a node denotes counts, and where it denotes nothing the method that it selects
+abbrev pub joined_at : Unit → (Item → Meaning) → (NodeRef → Option NodeRef) → NodeRef → Option NodeRef
+joined_at u marks methods at = option_or (reference_at u marks at) (methods at)
+
+-- beside what nodes denote, as references the methods that they select
+abbrev pub counted_at : Unit → (Item → Meaning) → (NodeRef → Option NodeRef) → Counted → NodeRef → Option NodeRef
+counted_at u marks methods counts.References at = joined_at u marks methods at
+counted_at u marks methods counts.Uses at = reads_at u marks at

@@ -19,7 +19,7 @@ IsAnnotation rule u marks = Annotates (says_of u) (item_rule rule u) marks
 
 -- All that refuses a unit: marks of its items, faults of its imports, and faults by late rules.
 abbrev pub IsRefused : Unit → (Item → Meaning) → Refusal → Type 0
-IsRefused u marks x = IsRefusedItem u marks x ⊎ (IsRefusedImport u x ⊎ IsRefusedLate u marks x)
+IsRefused u marks x = IsRefusedItem u marks x ⊎ (IsRefusedImport u marks x ⊎ IsRefusedLate u marks x)
 
 -- The list is that of all that refuses the unit by these rules, whatever annotation is read.
 pub record HasMarks (rule : Unit → Item → Rule) (u : Unit) (list : List Refusal) : Type 0 where

@@ -3,15 +3,15 @@ ghost use Rattle.std.specs.Prelude.{◌≡◌, ◌++◌, IfOk, OnOk, length, opt
 ghost use Rattle.bind.specs.Imports.{default_name, line_name, package_of};
 ghost use Rattle.bind.specs.Imported.{imported};
 ghost use Rattle.bind.specs.Package.{listed};
-ghost use Rattle.unit_read.specs.Environments.{IsEnvironment};
+ghost use Rattle.unit_read.specs.Environments.{IsEnvironment, faces_in};
 ghost use Rattle.unit_read.specs.Index.{found};
 ghost use Rattle.check_pkg.specs.Packages.{known_of};
 ghost use Rattle.check_pkg.specs.ImportLists.{pairs};
 
 use bind::last_segment;
-use export_data::ConstInterface;
 use go_tree::{ImportLine, LocalName, NodeRef};
 use gv_base::NoMemory;
+use package_faces::Interface;
 use std::alloc::Global;
 use std::collections::HashMap;
 use unit_read::Environment;
@@ -30,7 +30,7 @@ fn place_of(paths: &HashMap<&[u8], usize>, path: &[u8]) -> Option<usize>
 }
 
 /// The name of the package of an interface.
-fn name_at(interfaces: &[ConstInterface], place: usize) -> Option<&[u8]>
+fn name_at(interfaces: &[Interface], place: usize) -> Option<&[u8]>
     ensures { option_map (λ n. n.now) result ≡ option_map (λ i. i.name) (slice_get interfaces.now place) }
 {
     if place < interfaces.len() {
@@ -43,7 +43,7 @@ fn name_at(interfaces: &[ConstInterface], place: usize) -> Option<&[u8]>
 /// The name of the package to which a path leads.
 fn package_of<'a>(env: &'a Environment<'_>, path: &[u8]) -> Option<&'a [u8]>
     requires { IsEnvironment env.now }
-    ensures { option_map (λ n. n.now) result ≡ package_of (known_of env.now.interfaces.now) path.now }
+    ensures { option_map (λ n. n.now) result ≡ package_of (known_of (faces_in env.now)) path.now }
 {
     match place_of(&env.paths, path) {
         Some(place) => name_at(env.interfaces, place),
@@ -54,7 +54,7 @@ fn package_of<'a>(env: &'a Environment<'_>, path: &[u8]) -> Option<&'a [u8]>
 /// The name of an import that has none of its own.
 fn default_name<'a>(env: &'a Environment<'_>, path: &'a [u8]) -> &'a [u8]
     requires { IsEnvironment env.now }
-    ensures { result.now ≡ default_name (known_of env.now.interfaces.now) path.now }
+    ensures { result.now ≡ default_name (known_of (faces_in env.now)) path.now }
 {
     match package_of(env, path) {
         Some(name) => name,
@@ -65,7 +65,7 @@ fn default_name<'a>(env: &'a Environment<'_>, path: &'a [u8]) -> &'a [u8]
 /// The name that an import declares.
 fn line_name<'a>(env: &'a Environment<'_>, line: &'a ImportLine) -> Option<&'a [u8]>
     requires { IsEnvironment env.now }
-    ensures { option_map (λ n. n.now) result ≡ line_name (known_of env.now.interfaces.now) line.now }
+    ensures { option_map (λ n. n.now) result ≡ line_name (known_of (faces_in env.now)) line.now }
 {
     match &line.local {
         LocalName::Default => Some(default_name(env, line.path.as_slice())),
@@ -83,7 +83,7 @@ fn push_import<'a>(
     out: &mut Vec<Declared<'a>>,
 ) -> Result<(), NoMemory>
     requires { IsEnvironment env.now }
-    ensures { OnOk result (pairs out.new.items ≡ pairs out.old.items ++ listed (line_name (known_of env.now.interfaces.now) line.now) at) }
+    ensures { OnOk result (pairs out.new.items ≡ pairs out.old.items ++ listed (line_name (known_of (faces_in env.now)) line.now) at) }
 {
     match line_name(env, line) {
         Some(name) => {
@@ -104,7 +104,7 @@ pub fn import_names<'a>(
 ) -> Result<Vec<Declared<'a>>, NoMemory>
     requires env { IsEnvironment env.now }
     requires lines { length lines.now ≡ length specs.now }
-    ensures { IfOk result (λ out. pairs out.items ≡ imported (known_of env.now.interfaces.now) file specs.now lines.now) }
+    ensures { IfOk result (λ out. pairs out.items ≡ imported (known_of (faces_in env.now)) file specs.now lines.now) }
 {
     let mut out = Vec::new(alloc);
     for place in 0..specs.len() {

@@ -1,5 +1,9 @@
 //! The faults of imports.
 ghost use Rattle.std.specs.Prelude.{◌≡◌, ◌<◌, ◌^◌, ◌↔◌, ℕ, List, IfOk, OnOk, Some, IsTrue, if◌then◌else◌, bytes_eq, codes, length};
+ghost use Rattle.mark_walk.specs.Asks.{filled};
+ghost use Rattle.package_objects.specs.Declares.{AreSmall};
+ghost use Rattle.typed_marks.specs.Meanings.{Quiet};
+ghost use Rattle.typed_marks.specs.States.{so_far, IsState};
 ghost use Rattle.unit_read.specs.Imports.{import_limit};
 ghost use Rattle.unit_read.specs.Index.{found};
 ghost use Rattle.unit_read.specs.Subjects.{unit_of, IsRead};
@@ -19,6 +23,7 @@ use go_tree::{FileTree, NodeRef};
 use gv_base::{NoMemory, Place};
 use std::alloc::Global;
 use std::collections::{HashMap, HashSet};
+use typed_marks::State;
 use typed_tree::{Limit, REDECLARED, Rule, UNUSED_IMPORT};
 use unit_read::{Subject, find};
 
@@ -158,11 +163,12 @@ fn limit_at(u: &Subject, at: NodeRef) -> Option<Limit>
 }
 
 /// Whether an import lies in the profile and isn't used, which is E7.
-fn is_unused(u: &Subject, used: &HashSet<u32>, at: NodeRef) -> bool
+fn is_unused(u: &Subject, s: &State, used: &HashSet<u32>, at: NodeRef) -> bool
     requires read { IsRead u.now }
-    requires used { AreUsed (unit_of u.now) at.file (length (nodes_at (unit_of u.now) at.file)) (is_noted used.now) }
-    ensures { IsTrue result ↔ IsUnused (unit_of u.now) at }
+    requires used { AreUsed (unit_of u.now) (filled Quiet (so_far s.now)) at.file (length (nodes_at (unit_of u.now) at.file)) (is_noted used.now) }
+    ensures { IsTrue result ↔ IsUnused (unit_of u.now) (filled Quiet (so_far s.now)) at }
 {
+    let _ = s;
     if limit_at(u, at).is_some() {
         return false;
     }
@@ -172,6 +178,7 @@ fn is_unused(u: &Subject, used: &HashSet<u32>, at: NodeRef) -> bool
 /// Adds the faults of an import: E1 where its name is taken, E7 where it isn't used.
 fn refuse_import(
     u: &Subject,
+    s: &State,
     block: &PackageBlock,
     firsts: &HashMap<&[u8], u32>,
     used: &HashSet<u32>,
@@ -182,13 +189,13 @@ fn refuse_import(
     requires read { IsRead u.now }
     requires block { IsBlock (unit_of u.now) block.now }
     requires firsts { (q : List ℕ) → IsFirst (unit_of u.now) at.file q (found firsts.now q) }
-    requires used { AreUsed (unit_of u.now) at.file (length (nodes_at (unit_of u.now) at.file)) (is_noted used.now) }
-    ensures { OnOk result (Gains (RefusesName (unit_of u.now) at name.now) list.old.items list.new.items) }
+    requires used { AreUsed (unit_of u.now) (filled Quiet (so_far s.now)) at.file (length (nodes_at (unit_of u.now) at.file)) (is_noted used.now) }
+    ensures { OnOk result (Gains (RefusesName (unit_of u.now) (filled Quiet (so_far s.now)) at name.now) list.old.items list.new.items) }
 {
     let place = place_of(u, at);
     let taken = is_taken(u, block, firsts, at, name);
     refuse_if(list, taken, place, REDECLARED)?;
-    let unused = is_unused(u, used, at);
+    let unused = is_unused(u, s, used, at);
     refuse_if(list, unused, place, UNUSED_IMPORT)?;
     Ok(())
 }
@@ -196,6 +203,7 @@ fn refuse_import(
 /// Adds the faults of a file's imports.
 fn refuse_names(
     u: &Subject,
+    s: &State,
     block: &PackageBlock,
     file: u32,
     firsts: &HashMap<&[u8], u32>,
@@ -207,11 +215,11 @@ fn refuse_names(
     requires block { IsBlock (unit_of u.now) block.now }
     requires names { AreNames (unit_of u.now) file names.now }
     requires firsts { (q : List ℕ) → IsFirst (unit_of u.now) file q (found firsts.now q) }
-    requires used { AreUsed (unit_of u.now) file (length (nodes_at (unit_of u.now) file)) (is_noted used.now) }
-    ensures { OnOk result (Gains (RefusesImports (unit_of u.now) file) list.old.items list.new.items) }
+    requires used { AreUsed (unit_of u.now) (filled Quiet (so_far s.now)) file (length (nodes_at (unit_of u.now) file)) (is_noted used.now) }
+    ensures { OnOk result (Gains (RefusesImports (unit_of u.now) (filled Quiet (so_far s.now)) file) list.old.items list.new.items) }
 {
     for declared in names {
-        refuse_import(u, block, firsts, used, declared.at, declared.name, list)?;
+        refuse_import(u, s, block, firsts, used, declared.at, declared.name, list)?;
     }
     Ok(())
 }
@@ -220,23 +228,26 @@ fn refuse_names(
 fn refuse_tree(
     alloc: Global,
     u: &Subject,
+    s: &State,
     block: &PackageBlock,
     file: u32,
     tree: &FileTree,
     list: &mut Vec<Refusal>,
 ) -> Result<(), NoMemory>
     requires read { IsRead u.now }
+    requires state { IsState s.now }
+    requires small { AreSmall u.now.trees.now }
     requires block { IsBlock (unit_of u.now) block.now }
     requires tree { tree_at (unit_of u.now) file ≡ Some tree.now }
-    ensures { OnOk result (Gains (RefusesImports (unit_of u.now) file) list.old.items list.new.items) }
+    ensures { OnOk result (Gains (RefusesImports (unit_of u.now) (filled Quiet (so_far s.now)) file) list.old.items list.new.items) }
 {
     let head = tree.head(alloc, text_in(u, file))?;
     let specs = specs_in(alloc, tree)?;
     let lines = head.imports.as_slice();
     let names = import_names(alloc, u.env, file, &specs, lines)?;
     let firsts = least_nodes(alloc, &names)?;
-    let used = used_in(alloc, u, file)?;
-    refuse_names(u, block, file, &firsts, &used, &names, list)?;
+    let used = used_in(alloc, u, s, file)?;
+    refuse_names(u, s, block, file, &firsts, &used, &names, list)?;
     Ok(())
 }
 
@@ -244,17 +255,20 @@ fn refuse_tree(
 fn refuse_file(
     alloc: Global,
     u: &Subject,
+    s: &State,
     block: &PackageBlock,
     file: u32,
     list: &mut Vec<Refusal>,
 ) -> Result<(), NoMemory>
     requires read { IsRead u.now }
+    requires state { IsState s.now }
+    requires small { AreSmall u.now.trees.now }
     requires block { IsBlock (unit_of u.now) block.now }
-    ensures { OnOk result (Gains (RefusesImports (unit_of u.now) file) list.old.items list.new.items) }
+    ensures { OnOk result (Gains (RefusesImports (unit_of u.now) (filled Quiet (so_far s.now)) file) list.old.items list.new.items) }
 {
     match u.tree_at(file) {
         Some(tree) => {
-            refuse_tree(alloc, u, block, file, tree, list)?;
+            refuse_tree(alloc, u, s, block, file, tree, list)?;
             Ok(())
         }
         None => Ok(()),
@@ -265,16 +279,19 @@ fn refuse_file(
 pub fn refuse_imports(
     alloc: Global,
     u: &Subject,
+    s: &State,
     block: &PackageBlock,
     list: &mut Vec<Refusal>,
 ) -> Result<(), NoMemory>
     requires read { IsRead u.now }
+    requires state { IsState s.now }
+    requires small { AreSmall u.now.trees.now }
     requires block { IsBlock (unit_of u.now) block.now }
     requires few { length u.now.trees.now < 2 ^ 32 }
-    ensures { OnOk result (Gains (RefusesAllImports (unit_of u.now)) list.old.items list.new.items) }
+    ensures { OnOk result (Gains (RefusesAllImports (unit_of u.now) (filled Quiet (so_far s.now))) list.old.items list.new.items) }
 {
     for file in 0..u.trees.len() {
-        refuse_file(alloc, u, block, file as u32, list)?;
+        refuse_file(alloc, u, s, block, file as u32, list)?;
     }
     Ok(())
 }

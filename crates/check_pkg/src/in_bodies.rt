@@ -58,7 +58,8 @@ pub fn refuse_bodies(
     requires bodies { AreBodies (texts_of u.now.texts.now) u.now.trees.now }
     ensures { OnOk result (Gains (IsRefusedInBody (unit_of u.now) (filled Quiet (so_far s.now))) list.old.items list.new.items) }
 {
-    let meant = counted_rows(alloc, u, s, Counted::Uses)?;
+    let methods = Vec::new(alloc);
+    let meant = counted_rows(alloc, u, s, &methods, Counted::Uses)?;
     let found = body_faults(alloc, u, &meant)?;
     refuse_faults(&found, list)?;
     Ok(())

@@ -1,20 +1,29 @@
 //! The check of a package by rules.
 ghost use Rattle.std.specs.Prelude.{◌≡◌, map, ◌<◌, ◌^◌, ◌↔◌, IfOk, IsTrue, true, Contains, [], length};
 ghost use Rattle.bind.specs.Answers.{AreSmall, AreSpelled};
-ghost use Rattle.export_data.specs.Order.{names_rise};
-ghost use Rattle.export_data.specs.declared.constants.ConstOut.{ConstOut as ExportedConst};
+ghost use Rattle.face_table.specs.Fitting.{given};
 ghost use Rattle.go_tree.specs.Bindings.{AreInOrder};
 ghost use Rattle.mark_walk.specs.Asks.{filled};
+ghost use Rattle.package_faces.specs.Faces.{ObjectOut};
+ghost use Rattle.package_faces.specs.Interfaces.{faces_of, AreInterfacesIn, AreObjectsIn};
+ghost use Rattle.package_faces.specs.Orders.{object_before, rises};
+ghost use Rattle.type_model.specs.GoTypes.{types_of};
+ghost use Rattle.type_model.specs.declared.term.TypeName.{TypeName as AName};
+ghost use Rattle.type_model.specs.Tables.{Extends, count, declarations_in, terms_in, types_in};
+ghost use Rattle.typed_tree.specs.Basics.{HasBasics};
 ghost use Rattle.typed_marks.specs.Meanings.{Quiet};
 ghost use Rattle.typed_marks.specs.States.{so_far, IsState};
 ghost use Rattle.unit_blocks.specs.Blocks.{HaveForests};
-ghost use Rattle.unit_read.specs.Environments.{IsEnvironment};
+ghost use Rattle.unit_read.specs.Environments.{IsEnvironment, faces_in};
 ghost use Rattle.unit_read.specs.Index.{texts_of};
 ghost use Rattle.unit_read.specs.Subjects.{unit_of, IsRead};
+ghost use Rattle.rule_words.specs.Scenes.{IsScene};
 ghost use Rattle.body_facts.specs.Bodies.{AreBodies};
+ghost use Rattle.unit_read.specs.Units.{base_of};
 ghost use Rattle.check_pkg.specs.declared.refusal.Refusal.{Refusal as OneRefusal};
 ghost use Rattle.check_pkg.specs.Checks.{IsOutcome, IsOutcomeBy, IsOutcomeOf};
 ghost use Rattle.check_pkg.specs.Faults.{IsOrdered};
+ghost use Rattle.check_pkg.specs.Exports.{outs_in};
 ghost use Rattle.check_pkg.specs.Interfaces.{IsExported};
 ghost use Rattle.check_pkg.specs.Names.{IsBlock};
 ghost use Rattle.check_pkg.specs.Packages.{package_of, text_of};
@@ -29,13 +38,13 @@ use crate::order::{distinct, sort};
 use crate::read::read;
 use crate::refusal::Refusal;
 use crate::sources::{known, texts};
-use crate::universe::first_table;
 use bind::bind;
 use elaborate::{Elaborated, Rules, Stretch, elaborate};
-use export_data::{ConstInterface, ConstOut};
 use go_tree::{Bindings, FileTree};
 use gv_base::{Bytes, NoMemory, Text};
+use package_faces::{Exported, Interface, copied_terms};
 use std::alloc::Global;
+use type_model::{Term, TypeTable};
 use typed_marks::State;
 use unit_read::{Environment, Subject};
 
@@ -45,8 +54,10 @@ pub struct Checked {
     /// The place and the fault of each mark, of each import and of each late rule that refuses the package, each once, by file, by
     /// offset in bytes, rules before limits and then by number. It is empty exactly where the package keeps all rules.
     pub refused: Vec<Refusal>,
-    /// The constants that the package exports, in byte order of the names. Nothing where the package is refused.
-    pub exports: Vec<ConstOut>,
+    /// The objects that the package exports, in byte order of the names. Nothing where the package is refused.
+    pub exports: Vec<Exported>,
+    /// The table by whose numbers they have their types, and in which the package's defined types are declared.
+    pub table: TypeTable,
 }
 
 /// What comes of a package.
@@ -64,17 +75,16 @@ fn unsorted(
     s: &State,
     block: &PackageBlock,
 ) -> Result<Vec<Refusal>, NoMemory>
-    requires read { IsRead u.now }
+    requires scene { IsScene u.now s.now }
     requires small { AreSmall u.now.trees.now }
     requires few { length u.now.trees.now < 2 ^ 32 }
     requires bodies { AreBodies (texts_of u.now.texts.now) u.now.trees.now }
-    requires state { IsState s.now }
     requires block { IsBlock (unit_of u.now) block.now }
     ensures { IfOk result (λ list. (x : OneRefusal) → Contains list.items x ↔ IsRefused (unit_of u.now) (filled Quiet (so_far s.now)) x) }
 {
     let mut list = Vec::new(alloc);
     refuse_items(alloc, u, s, &mut list)?;
-    refuse_imports(alloc, u, block, &mut list)?;
+    refuse_imports(alloc, u, s, block, &mut list)?;
     refuse_late(alloc, u, s, &mut list)?;
     Ok(list)
 }
@@ -86,11 +96,10 @@ fn refusals(
     s: &State,
     block: &PackageBlock,
 ) -> Result<Vec<Refusal>, NoMemory>
-    requires read { IsRead u.now }
+    requires scene { IsScene u.now s.now }
     requires small { AreSmall u.now.trees.now }
     requires few { length u.now.trees.now < 2 ^ 32 }
     requires bodies { AreBodies (texts_of u.now.texts.now) u.now.trees.now }
-    requires state { IsState s.now }
     requires block { IsBlock (unit_of u.now) block.now }
     ensures all { IfOk result (λ list. (x : OneRefusal) → Contains list.items x ↔ IsRefused (unit_of u.now) (filled Quiet (so_far s.now)) x) }
     ensures once { IfOk result (λ list. IsOrdered list.items) }
@@ -114,11 +123,12 @@ fn accepted(
     s: &State,
     block: &PackageBlock,
     refused: &Vec<Refusal>,
-) -> Result<Vec<ConstOut>, NoMemory>
+) -> Result<Vec<Exported>, NoMemory>
     requires state { IsState s.now }
     requires block { IsBlock (unit_of u.now) block.now }
-    ensures rise { IfOk result (λ list. refused.now.items ≡ [] → names_rise list.items ≡ true) }
-    ensures all { IfOk result (λ list. refused.now.items ≡ [] → (out : ExportedConst) → Contains list.items out ↔ IsExported (unit_of u.now) (filled Quiet (so_far s.now)) out) }
+    ensures rise { IfOk result (λ list. refused.now.items ≡ [] → rises object_before (outs_in s.now list.items) ≡ true) }
+    ensures all { IfOk result (λ list. refused.now.items ≡ [] → (out : ObjectOut) → Contains (outs_in s.now list.items) out ↔ IsExported (unit_of u.now) (filled Quiet (so_far s.now)) out) }
+    ensures within { IfOk result (λ list. refused.now.items ≡ [] → AreObjectsIn (unit_of u.now).path (count s.now.table) (types_in s.now.table) list.items) }
     ensures nothing { IfOk result (λ list. ¬ (refused.now.items ≡ []) → list.items ≡ []) }
 {
     if !is_empty(refused) {
@@ -128,23 +138,23 @@ fn accepted(
     Ok(list)
 }
 
-/// What is found of a package that has been read and whose items are marked.
-fn judge(alloc: Global, u: &Subject, s: &State) -> Result<Checked, NoMemory>
-    requires read { IsRead u.now }
+/// What is found of a package that has been read and whose items are marked: what refuses it, and what it exports.
+fn judge(alloc: Global, u: &Subject, s: &State) -> Result<(Vec<Refusal>, Vec<Exported>), NoMemory>
+    requires scene { IsScene u.now s.now }
     requires small { AreSmall u.now.trees.now }
     requires few { length u.now.trees.now < 2 ^ 32 }
     requires bodies { AreBodies (texts_of u.now.texts.now) u.now.trees.now }
-    requires state { IsState s.now }
-    ensures all { IfOk result (λ c. (x : OneRefusal) → Contains c.refused.items x ↔ IsRefused (unit_of u.now) (filled Quiet (so_far s.now)) x) }
-    ensures ordered { IfOk result (λ c. IsOrdered c.refused.items) }
-    ensures rise { IfOk result (λ c. c.refused.items ≡ [] → names_rise c.exports.items ≡ true) }
-    ensures exported { IfOk result (λ c. c.refused.items ≡ [] → (out : ExportedConst) → Contains c.exports.items out ↔ IsExported (unit_of u.now) (filled Quiet (so_far s.now)) out) }
-    ensures nothing { IfOk result (λ c. ¬ (c.refused.items ≡ []) → c.exports.items ≡ []) }
+    ensures all { IfOk result (λ c. (x : OneRefusal) → Contains c.0.items x ↔ IsRefused (unit_of u.now) (filled Quiet (so_far s.now)) x) }
+    ensures ordered { IfOk result (λ c. IsOrdered c.0.items) }
+    ensures rise { IfOk result (λ c. c.0.items ≡ [] → rises object_before (outs_in s.now c.1.items) ≡ true) }
+    ensures exported { IfOk result (λ c. c.0.items ≡ [] → (out : ObjectOut) → Contains (outs_in s.now c.1.items) out ↔ IsExported (unit_of u.now) (filled Quiet (so_far s.now)) out) }
+    ensures within { IfOk result (λ c. c.0.items ≡ [] → AreObjectsIn (unit_of u.now).path (count s.now.table) (types_in s.now.table) c.1.items) }
+    ensures nothing { IfOk result (λ c. ¬ (c.0.items ≡ []) → c.1.items ≡ []) }
 {
     let block = package_block(alloc, u)?;
     let refused = refusals(alloc, u, s, &block)?;
     let exports = accepted(alloc, u, s, &block, &refused)?;
-    Ok(Checked { refused, exports })
+    Ok((refused, exports))
 }
 
 /// Marks the items of a package that has been read, and judges it.
@@ -152,20 +162,27 @@ fn judge_unit<R: Rules>(
     alloc: Global,
     rules: &R,
     u: &Subject,
+    table: TypeTable,
     first: &[Stretch],
 ) -> Result<Outcome, NoMemory>
     requires read { IsRead u.now }
     requires small { AreSmall u.now.trees.now }
     requires few { length u.now.trees.now < 2 ^ 32 }
     requires bodies { AreBodies (texts_of u.now.texts.now) u.now.trees.now }
+    requires basics { HasBasics table }
+    requires env { Extends u.now.env.now.types.now (terms_in table) }
+    requires base { (name : AName) → declarations_in table name ≡ base_of (unit_of u.now) name }
     ensures { IfOk result (IsOutcome R.rule (unit_of u.now)) }
 {
-    let table = first_table(alloc)?;
     let elaborated = elaborate(alloc, rules, u, table, first)?;
     match elaborated {
         Elaborated::Marked(state) => {
-            let checked = judge(alloc, u, &state)?;
-            Ok(Outcome::Checked(checked))
+            let (refused, exports) = judge(alloc, u, &state)?;
+            Ok(Outcome::Checked(Checked {
+                refused,
+                exports,
+                table: state.table,
+            }))
         }
         Elaborated::Circle(_, _) => Ok(Outcome::Circle),
     }
@@ -179,6 +196,7 @@ fn judge_read<R: Rules>(
     sources: &[&[u8]],
     trees: &[FileTree],
     uses: &Bindings,
+    table: TypeTable,
     env: &Environment<'_>,
 ) -> Result<Outcome, NoMemory>
     requires forests { HaveForests trees.now }
@@ -187,10 +205,13 @@ fn judge_read<R: Rules>(
     requires bodies { AreBodies (texts_of sources.now) trees.now }
     requires uses { AreInOrder uses.now }
     requires env { IsEnvironment env.now }
-    ensures { IfOk result (IsOutcomeBy R.rule path.now (texts_of sources.now) trees.now uses.now env.now.interfaces.now) }
+    requires basics { HasBasics table }
+    requires types { env.now.types.now ≡ terms_in table }
+    requires base { (name : AName) → declarations_in table name ≡ given path.now (faces_in env.now) name }
+    ensures { IfOk result (IsOutcomeBy R.rule path.now (texts_of sources.now) trees.now uses.now (faces_in env.now)) }
 {
     let reading = read(alloc, path, sources, trees, uses, env)?;
-    let outcome = judge_unit(alloc, rules, &reading.subject, &reading.first)?;
+    let outcome = judge_unit(alloc, rules, &reading.subject, table, &reading.first)?;
     Ok(outcome)
 }
 
@@ -202,39 +223,60 @@ fn judge_files<R: Rules>(
     files: &[(Text, Bytes)],
     trees: &[FileTree],
     uses: &Bindings,
-    env: &[ConstInterface],
+    table: TypeTable,
+    types: &[Term],
+    env: &[Interface],
 ) -> Result<Outcome, NoMemory>
     requires forests { HaveForests trees.now }
     requires small { AreSmall trees.now }
     requires few { length trees.now < 2 ^ 32 }
     requires spelled { AreSpelled trees.now files.now }
     requires uses { AreInOrder uses.now }
-    ensures { IfOk result (IsOutcomeBy R.rule path.now (map text_of files.now) trees.now uses.now env.now) }
+    requires basics { HasBasics table }
+    requires types { types.now ≡ terms_in table }
+    requires within { AreInterfacesIn (count table) (types_in table) env.now }
+    requires base { (name : AName) → declarations_in table name ≡ given path.now (faces_of (types_in table) env.now) name }
+    ensures { IfOk result (IsOutcomeBy R.rule path.now (map text_of files.now) trees.now uses.now (faces_of (types_in table) env.now)) }
 {
-    let environment = Environment::new(alloc, env)?;
+    let environment = Environment::new(alloc, env, types)?;
     let sources = texts(alloc, files)?;
-    let outcome = judge_read(alloc, rules, path, &sources, trees, uses, &environment)?;
+    let outcome = judge_read(
+        alloc,
+        rules,
+        path,
+        &sources,
+        trees,
+        uses,
+        table,
+        &environment,
+    )?;
     Ok(outcome)
 }
 
 /// Checks a package by rules. It is given by its path, by the paths and the bytes of its files in order of their paths, and by their trees,
-/// over an environment: the interfaces of the packages to which its imports lead. Of two interfaces of one path the first counts; what an
-/// import that leads to none means is for the rules to say.
+/// over an environment: the interfaces of the packages to which its imports lead, and the table by whose numbers they have their types and in
+/// which these are declared (`face_table`). Of two interfaces of one path the first counts; what an import that leads to none means is for the
+/// rules to say.
 pub fn check<R: Rules>(
     alloc: Global,
     rules: &R,
     path: &[u8],
     files: &[(Text, Bytes)],
     trees: &[FileTree],
-    env: &[ConstInterface],
+    table: TypeTable,
+    env: &[Interface],
 ) -> Result<Outcome, NoMemory>
     requires spelled { AreSpelled trees.now files.now }
     requires small { AreSmall trees.now }
     requires few { length trees.now < 2 ^ 32 }
-    ensures { IfOk result (IsOutcomeOf R.rule (package_of path.now files.now trees.now) env.now) }
+    requires basics { HasBasics table }
+    requires within { AreInterfacesIn (count table) (types_in table) env.now }
+    requires base { (name : AName) → declarations_in table name ≡ given path.now (faces_of (types_in table) env.now) name }
+    ensures { IfOk result (IsOutcomeOf R.rule (package_of path.now files.now trees.now) (faces_of (types_in table) env.now)) }
 {
+    let types = copied_terms(alloc, table.terms())?;
     let named = known(alloc, env)?;
     let uses = bind(alloc, trees, files, &named)?;
-    let outcome = judge_files(alloc, rules, path, files, trees, &uses, env)?;
+    let outcome = judge_files(alloc, rules, path, files, trees, &uses, table, &types, env)?;
     Ok(outcome)
 }

@@ -4,9 +4,10 @@ ghost use Rattle.go_tree.specs.declared.tree.NodeRef.{NodeRef as OneNode};
 ghost use Rattle.mark_walk.specs.Asks.{filled};
 ghost use Rattle.package_objects.specs.Declares.{AreSmall};
 ghost use Rattle.typed_marks.specs.Meanings.{Quiet};
-ghost use Rattle.typed_marks.specs.States.{so_far, IsState};
+ghost use Rattle.typed_marks.specs.States.{so_far};
 ghost use Rattle.unit_read.specs.Index.{texts_of};
-ghost use Rattle.unit_read.specs.Subjects.{unit_of, IsRead};
+ghost use Rattle.unit_read.specs.Subjects.{unit_of};
+ghost use Rattle.rule_words.specs.Scenes.{IsScene};
 ghost use Rattle.body_facts.specs.Bodies.{AreBodies};
 ghost use Rattle.check_pkg.specs.Gains.{Gains, SomeBelow};
 ghost use Rattle.check_pkg.specs.Late.{lates, late_rule, late_token, RefusesLate, IsLateIn, IsLateAt, RefusedBy, IsRefusedByRow, IsRefusedLate, NthLateAt, NthRefusedBy};
@@ -64,8 +65,7 @@ fn late_token(late: Late, node: &Node) -> u32
 
 /// The nodes that a rule refuses.
 fn late_nodes(alloc: Global, u: &Subject, s: &State, late: Late) -> Result<Vec<NodeRef>, NoMemory>
-    requires read { IsRead u.now }
-    requires state { IsState s.now }
+    requires scene { IsScene u.now s.now }
     requires small { AreSmall u.now.trees.now }
     requires few { length u.now.trees.now ≤ 2 ^ 32 }
     ensures { IfOk result (λ list. (at : OneNode) → Contains list.items at ↔ RefusesLate (unit_of u.now) (filled Quiet (so_far s.now)) late at) }
@@ -138,8 +138,7 @@ fn refuse_by(
     late: Late,
     list: &mut Vec<Refusal>,
 ) -> Result<(), NoMemory>
-    requires read { IsRead u.now }
-    requires state { IsState s.now }
+    requires scene { IsScene u.now s.now }
     requires small { AreSmall u.now.trees.now }
     requires few { length u.now.trees.now ≤ 2 ^ 32 }
     ensures { OnOk result (Gains (RefusedBy (unit_of u.now) (filled Quiet (so_far s.now)) late) list.old.items list.new.items) }
@@ -157,8 +156,7 @@ fn refuse_each(
     rules: &[Late],
     list: &mut Vec<Refusal>,
 ) -> Result<(), NoMemory>
-    requires read { IsRead u.now }
-    requires state { IsState s.now }
+    requires scene { IsScene u.now s.now }
     requires small { AreSmall u.now.trees.now }
     requires few { length u.now.trees.now ≤ 2 ^ 32 }
     ensures { OnOk result (Gains (SomeBelow (length rules.now) (NthRefusedBy (unit_of u.now) (filled Quiet (so_far s.now)) rules.now)) list.old.items list.new.items) }
@@ -176,8 +174,7 @@ fn refuse_rows(
     s: &State,
     list: &mut Vec<Refusal>,
 ) -> Result<(), NoMemory>
-    requires read { IsRead u.now }
-    requires state { IsState s.now }
+    requires scene { IsScene u.now s.now }
     requires small { AreSmall u.now.trees.now }
     requires few { length u.now.trees.now ≤ 2 ^ 32 }
     ensures { OnOk result (Gains (IsRefusedByRow (unit_of u.now) (filled Quiet (so_far s.now))) list.old.items list.new.items) }
@@ -194,8 +191,7 @@ pub fn refuse_late(
     s: &State,
     list: &mut Vec<Refusal>,
 ) -> Result<(), NoMemory>
-    requires read { IsRead u.now }
-    requires state { IsState s.now }
+    requires scene { IsScene u.now s.now }
     requires bodies { AreBodies (texts_of u.now.texts.now) u.now.trees.now }
     ensures { OnOk result (Gains (IsRefusedLate (unit_of u.now) (filled Quiet (so_far s.now))) list.old.items list.new.items) }
 {

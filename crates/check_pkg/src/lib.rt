@@ -19,7 +19,6 @@ mod read;
 mod references;
 mod refusal;
 mod sources;
-mod universe;
 mod used;
 
 pub use judging::{Checked, Outcome, check};

@@ -1,7 +1,7 @@
 //! How a package is read, with its flags.
-ghost use Rattle.std.specs.Prelude.{◌≤◌, ◌^◌, IfOk, length};
+ghost use Rattle.std.specs.Prelude.{◌≡◌, ◌≤◌, ◌^◌, IfOk, length};
 ghost use Rattle.go_tree.specs.Bindings.{AreInOrder};
-ghost use Rattle.unit_read.specs.Environments.{IsEnvironment};
+ghost use Rattle.unit_read.specs.Environments.{IsEnvironment, faces_in};
 ghost use Rattle.unit_read.specs.Index.{texts_of};
 ghost use Rattle.unit_read.specs.Subjects.{unit_of, IsRead};
 ghost use Rattle.package_objects.specs.Declares.{AreSmall};
@@ -46,7 +46,8 @@ fn subject_of<'a>(
     requires env { IsEnvironment env.now }
     requires needs { AreNeedsOf uses.now trees.now order.now owners.items }
     ensures read { IfOk result (λ u. IsRead u) }
-    ensures of { IfOk result (λ u. IsUnitOf path.now (texts_of texts.now) trees.now uses.now env.now.interfaces.now (unit_of u)) }
+    ensures of { IfOk result (λ u. IsUnitOf path.now (texts_of texts.now) trees.now uses.now (faces_in env.now) (unit_of u)) }
+    ensures env { IfOk result (λ u. u.env.now ≡ env.now) }
 {
     let cyclic = cyclic_rows(alloc, trees, order)?;
     let bare = read_unit(
@@ -81,7 +82,8 @@ pub fn read<'a>(
     requires uses { AreInOrder uses.now }
     requires env { IsEnvironment env.now }
     ensures read { IfOk result (λ r. IsRead r.subject) }
-    ensures of { IfOk result (λ r. IsUnitOf path.now (texts_of texts.now) trees.now uses.now env.now.interfaces.now (unit_of r.subject)) }
+    ensures of { IfOk result (λ r. IsUnitOf path.now (texts_of texts.now) trees.now uses.now (faces_in env.now) (unit_of r.subject)) }
+    ensures env { IfOk result (λ r. r.subject.env.now ≡ env.now) }
 {
     let needs = needs_of(alloc, uses, trees)?;
     let Needs { order, owners } = needs;

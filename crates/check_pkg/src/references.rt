@@ -7,17 +7,17 @@ ghost use Rattle.package_objects.specs.Declares.{AreSmall};
 ghost use Rattle.typed_marks.specs.Meanings.{Quiet};
 ghost use Rattle.typed_marks.specs.States.{so_far, IsState};
 ghost use Rattle.unit_read.specs.Rows.{IsRow, AreRows};
-ghost use Rattle.unit_read.specs.Subjects.{unit_of, IsRead};
+ghost use Rattle.unit_read.specs.Subjects.{unit_of, IsRead, cell};
 ghost use Rattle.unit_rows.specs.Circular.{named_at};
 ghost use Rattle.rule_words.specs.Scenes.{said};
-ghost use Rattle.check_pkg.specs.References.{is_pair, is_key_of, is_key_in, is_key, has_no_value, is_operand, is_field, judged_item, refers, reference_at, names_field, reads_at, counted_at};
+ghost use Rattle.check_pkg.specs.References.{is_pair, is_key_of, is_key_in, is_key, has_no_value, is_operand, is_field, judged_item, refers, reference_at, names_field, reads_at, joined_at, counted_at};
 
 use go_tree::{FileTree, Node, NodeKind, NodeRef, Object};
 use gv_base::NoMemory;
 use std::alloc::Global;
 use typed_marks::{Item, Mark, Stage, State};
 use typed_tree::Mode;
-use unit_read::{Place, Subject};
+use unit_read::{Place, Subject, cell};
 
 /// Which nodes count: as references of what is initialised, or as uses of variables. They differ in names before colons.
 #[derive(Clone, Copy, Debug, PartialEq, Eq, Drop)]
@@ -179,7 +179,7 @@ fn reference_at(u: &Subject, s: &State, at: NodeRef) -> Option<NodeRef>
 }
 
 /// Whether a node names a field before a colon.
-fn names_field(u: &Subject, s: &State, at: NodeRef) -> bool
+pub fn names_field(u: &Subject, s: &State, at: NodeRef) -> bool
     requires read { IsRead u.now }
     requires state { IsState s.now }
     ensures { result ≡ names_field (unit_of u.now) (filled Quiet (so_far s.now)) at }
@@ -204,13 +204,36 @@ fn reads_at(u: &Subject, s: &State, at: NodeRef) -> Option<NodeRef>
     }
 }
 
-fn counted_at(u: &Subject, s: &State, counted: Counted, at: NodeRef) -> Option<NodeRef>
+/// The declared name to which a node is a reference, or the method that it selects.
+fn joined_at(
+    u: &Subject,
+    s: &State,
+    methods: &Vec<Vec<Option<NodeRef>>>,
+    at: NodeRef,
+) -> Option<NodeRef>
     requires read { IsRead u.now }
     requires state { IsState s.now }
-    ensures { result ≡ counted_at (unit_of u.now) (filled Quiet (so_far s.now)) counted at }
+    ensures { result ≡ joined_at (unit_of u.now) (filled Quiet (so_far s.now)) (cell methods.now.items) at }
+{
+    match reference_at(u, s, at) {
+        Some(name) => Some(name),
+        None => cell(methods, at),
+    }
+}
+
+fn counted_at(
+    u: &Subject,
+    s: &State,
+    methods: &Vec<Vec<Option<NodeRef>>>,
+    counted: Counted,
+    at: NodeRef,
+) -> Option<NodeRef>
+    requires read { IsRead u.now }
+    requires state { IsState s.now }
+    ensures { result ≡ counted_at (unit_of u.now) (filled Quiet (so_far s.now)) (cell methods.now.items) counted at }
 {
     match counted {
-        Counted::References => reference_at(u, s, at),
+        Counted::References => joined_at(u, s, methods, at),
         Counted::Uses => reads_at(u, s, at),
     }
 }
@@ -221,6 +244,7 @@ fn counted_row(
     alloc: Global,
     u: &Subject,
     s: &State,
+    methods: &Vec<Vec<Option<NodeRef>>>,
     counted: Counted,
     file: u32,
     end: usize,
@@ -228,7 +252,7 @@ fn counted_row(
     requires read { IsRead u.now }
     requires state { IsState s.now }
     requires few { end ≤ 2 ^ 32 }
-    ensures { IfOk result (λ row. IsRow (λ n. counted_at (unit_of u.now) (filled Quiet (so_far s.now)) counted (place file n)) row.items end) }
+    ensures { IfOk result (λ row. IsRow (λ n. counted_at (unit_of u.now) (filled Quiet (so_far s.now)) (cell methods.now.items) counted (place file n)) row.items end) }
 {
     let mut row = Vec::new(alloc);
     for node in 0..end {
@@ -236,7 +260,7 @@ fn counted_row(
             file,
             node: node as u32,
         };
-        let name = counted_at(u, s, counted, at);
+        let name = counted_at(u, s, methods, counted, at);
         row.push(name)?;
     }
     Ok(row)
@@ -246,6 +270,7 @@ fn tree_row(
     alloc: Global,
     u: &Subject,
     s: &State,
+    methods: &Vec<Vec<Option<NodeRef>>>,
     counted: Counted,
     file: u32,
     tree: &FileTree,
@@ -253,28 +278,37 @@ fn tree_row(
     requires read { IsRead u.now }
     requires state { IsState s.now }
     requires small { length tree.now.nodes ≤ 2 ^ 32 }
-    ensures { IfOk result (λ row. IsRow (λ n. counted_at (unit_of u.now) (filled Quiet (so_far s.now)) counted (place file n)) row.items (length tree.now.nodes)) }
+    ensures { IfOk result (λ row. IsRow (λ n. counted_at (unit_of u.now) (filled Quiet (so_far s.now)) (cell methods.now.items) counted (place file n)) row.items (length tree.now.nodes)) }
 {
-    let row = counted_row(alloc, u, s, counted, file, tree.nodes.as_slice().len())?;
+    let row = counted_row(
+        alloc,
+        u,
+        s,
+        methods,
+        counted,
+        file,
+        tree.nodes.as_slice().len(),
+    )?;
     Ok(row)
 }
 
-/// For each node of each file the declared name to which it leads, if it counts.
+/// For each node of each file the declared name to which it leads, if it counts. The methods that nodes select count as references.
 pub fn counted_rows(
     alloc: Global,
     u: &Subject,
     s: &State,
+    methods: &Vec<Vec<Option<NodeRef>>>,
     counted: Counted,
 ) -> Result<Vec<Vec<Option<NodeRef>>>, NoMemory>
     requires read { IsRead u.now }
     requires state { IsState s.now }
     requires small { AreSmall u.now.trees.now }
     requires few { length u.now.trees.now ≤ 2 ^ 32 }
-    ensures { IfOk result (λ rows. AreRows (λ f tree n. counted_at (unit_of u.now) (filled Quiet (so_far s.now)) counted (place f n)) u.now.trees.now rows.items (length u.now.trees.now)) }
+    ensures { IfOk result (λ rows. AreRows (λ f tree n. counted_at (unit_of u.now) (filled Quiet (so_far s.now)) (cell methods.now.items) counted (place f n)) u.now.trees.now rows.items (length u.now.trees.now)) }
 {
     let mut rows = Vec::new(alloc);
     for file in 0..u.trees.len() {
-        let row = tree_row(alloc, u, s, counted, file as u32, &u.trees[file])?;
+        let row = tree_row(alloc, u, s, methods, counted, file as u32, &u.trees[file])?;
         rows.push(row)?;
     }
     Ok(rows)

@@ -1,10 +1,11 @@
 //! A package, as it is given to those who read it.
 ghost use Rattle.std.specs.Prelude.{◌≡◌, IfOk, map};
 ghost use Rattle.unit_read.specs.Index.{texts_of};
-ghost use Rattle.check_pkg.specs.Packages.{known_of, text_of};
+ghost use Rattle.check_pkg.specs.ImportLists.{named_in};
+ghost use Rattle.check_pkg.specs.Packages.{text_of};
 
-use export_data::ConstInterface;
 use gv_base::{Bytes, NoMemory, Text};
+use package_faces::Interface;
 use std::alloc::Global;
 
 fn bytes_of(file: &(Text, Bytes)) -> &[u8]
@@ -24,7 +25,7 @@ pub fn texts<'a>(alloc: Global, files: &'a [(Text, Bytes)]) -> Result<Vec<&'a [u
     Ok(list)
 }
 
-fn pair_of(alloc: Global, interface: &ConstInterface) -> Result<(Text, Text), NoMemory>
+fn pair_of(alloc: Global, interface: &Interface) -> Result<(Text, Text), NoMemory>
     ensures { IfOk result (λ pair. pair ≡ (interface.now.path, interface.now.name)) }
 {
     let path = interface.path.copy(alloc)?;
@@ -33,8 +34,8 @@ fn pair_of(alloc: Global, interface: &ConstInterface) -> Result<(Text, Text), No
 }
 
 /// The paths and the names of the packages that are known.
-pub fn known(alloc: Global, env: &[ConstInterface]) -> Result<Vec<(Text, Text)>, NoMemory>
-    ensures { IfOk result (λ list. list.items ≡ known_of env.now) }
+pub fn known(alloc: Global, env: &[Interface]) -> Result<Vec<(Text, Text)>, NoMemory>
+    ensures { IfOk result (λ list. list.items ≡ named_in env.now) }
 {
     let mut list = Vec::new(alloc);
     for interface in env {

@@ -1,15 +1,22 @@
 //! Which imports of a file are used.
-ghost use Rattle.std.specs.Prelude.{◌≡◌, ℕ, IfOk, OnOk, Some, true, cond, nat_eq, length, option_and_then, slice_get};
+ghost use Rattle.std.specs.Prelude.{◌≡◌, ◌<◌, ◌^◌, ℕ, IfOk, OnOk, Some, None, true, cond, if◌then◌else◌, nat_eq, length, option_and_then, slice_get};
 ghost use Rattle.std.specs.Option.{option_copied};
+ghost use Rattle.mark_walk.specs.Asks.{filled};
 ghost use Rattle.object_order.specs.Spots.{place};
+ghost use Rattle.package_objects.specs.Declares.{AreSmall};
+ghost use Rattle.typed_marks.specs.Meanings.{Quiet};
+ghost use Rattle.typed_marks.specs.States.{so_far, IsState};
 ghost use Rattle.unit_read.specs.Subjects.{unit_of, IsRead};
 ghost use Rattle.unit_read.specs.Units.{nodes_at, object_at};
 ghost use Rattle.check_pkg.specs.ImportLists.{has, import_in, Notes, AreUsed};
+ghost use Rattle.check_pkg.specs.References.{uses_at};
 
+use crate::references::names_field;
 use go_tree::{NodeRef, Object};
 use gv_base::NoMemory;
 use std::alloc::Global;
 use std::collections::HashSet;
+use typed_marks::State;
 use unit_read::Subject;
 
 /// The node of an import, if it is of this file.
@@ -88,14 +95,39 @@ fn node_count(u: &Subject, file: u32) -> usize
     u.nodes_at(file).len()
 }
 
+fn unless_field(names: bool, object: Object) -> Option<Object>
+    ensures { result ≡ (if names then None else Some object) }
+{
+    if names { None } else { Some(object) }
+}
+
+/// What a node of a file denotes, unless it is the name of a field before a colon.
+fn uses_in(u: &Subject, s: &State, file: u32, node: usize) -> Option<Object>
+    requires read { IsRead u.now }
+    requires state { IsState s.now }
+    requires few { node < 2 ^ 32 }
+    ensures { result ≡ uses_at (unit_of u.now) (filled Quiet (so_far s.now)) (place file node) }
+{
+    let at = NodeRef {
+        file,
+        node: node as u32,
+    };
+    match object_in(u, file, node) {
+        Some(object) => unless_field(names_field(u, s, at), object),
+        None => None,
+    }
+}
+
 /// Which imports the nodes of a file use, by the nodes of the imports.
-pub fn used_in(alloc: Global, u: &Subject, file: u32) -> Result<HashSet<u32>, NoMemory>
-    requires { IsRead u.now }
-    ensures { IfOk result (λ used. AreUsed (unit_of u.now) file (length (nodes_at (unit_of u.now) file)) (has used)) }
+pub fn used_in(alloc: Global, u: &Subject, s: &State, file: u32) -> Result<HashSet<u32>, NoMemory>
+    requires read { IsRead u.now }
+    requires state { IsState s.now }
+    requires small { AreSmall u.now.trees.now }
+    ensures { IfOk result (λ used. AreUsed (unit_of u.now) (filled Quiet (so_far s.now)) file (length (nodes_at (unit_of u.now) file)) (has used)) }
 {
     let mut used = HashSet::new(alloc);
     for node in 0..node_count(u, file) {
-        let object = object_in(u, file, node);
+        let object = uses_in(u, s, file, node);
         note_import(&mut used, import_in(object, file))?;
     }
     Ok(used)

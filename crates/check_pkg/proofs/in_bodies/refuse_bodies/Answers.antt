@@ -13,5 +13,5 @@ counted_rows-requires-clause-few c = c.requires.bodies.few
 
 pub returns : goal.returns
 returns c =
-    faults_gain (unit_of c.args.u.now) (filled Quiet (so_far c.args.s.now)) c.in_ok-meant.meant.items c.in_ok-found.found.items c.deref.result.now c.args.list.now.items
-    c.refuse_faults.new.list.items c.in_ok-meant.ensures c.deref.ensures.value c.in_ok-found.ensures c.in_ok-refuse_faults.ensures
+    faults_gain (unit_of c.args.u.now) (filled Quiet (so_far c.args.s.now)) c.new-methods.result.items c.in_ok-meant.meant.items c.in_ok-found.found.items c.deref.result.now
+    c.args.list.now.items c.refuse_faults.new.list.items c.new-methods.ensures.items c.in_ok-meant.ensures c.deref.ensures.value c.in_ok-found.ensures c.in_ok-refuse_faults.ensures

@@ -1,8 +1,15 @@
-use Rattle.std.proofs.Common.{ℕ, List, sym, subst}
+use Rattle.std.proofs.Common.{ℕ, List, sym, ap, ◌∙◌, subst}
 use Rattle.go_tree.specs.declared.tree.FileTree.{FileTree}
 use Rattle.package_objects.specs.Declares.{AreSmall}
+use Rattle.type_model.specs.declared.term.Term.{Term}
+use Rattle.type_model.specs.Tables.{Extends, terms_in}
+use Rattle.type_model.proofs.TypeLaws.{extends-itself}
+use Rattle.unit_read.specs.declared.environment.Environment.{Environment}
+use Rattle.unit_read.specs.Environments.{faces_in}
 use Rattle.unit_read.specs.Index.{texts_of}
+use Rattle.unit_read.specs.Subjects.{unit_of}
 use Rattle.body_facts.specs.Bodies.{AreBodies}
+use Rattle.check_pkg.proofs.PackageLemmas.{given_base}
 use Rattle.check_pkg.proofs.judging.judge_read.Goals as goal
 
 pub judge_unit-requires-clause-small : goal.judge_unit-requires-clause-small
@@ -12,3 +19,11 @@ pub judge_unit-requires-clause-bodies : goal.judge_unit-requires-clause-bodies
 judge_unit-requires-clause-bodies g c =
     subst (λ (trees : List FileTree). AreBodies (texts_of c.in_ok-reading.reading.subject.texts.now) trees) (sym c.in_ok-reading.ensures.of.trees)
     (subst (λ (texts : List (List ℕ)). AreBodies texts c.args.trees.now) (sym c.in_ok-reading.ensures.of.texts) c.requires.bodies)
+
+pub judge_unit-requires-clause-env : goal.judge_unit-requires-clause-env
+judge_unit-requires-clause-env g c =
+    subst (λ (terms : List Term). Extends terms (terms_in c.args.table)) (sym (ap (λ (e : Environment). e.types.now) c.in_ok-reading.ensures.env ∙ c.requires.types)) (extends-itself (terms_in c.args.table))
+
+pub judge_unit-requires-clause-base : goal.judge_unit-requires-clause-base
+judge_unit-requires-clause-base g c = λ name.
+    c.requires.base name ∙ given_base (unit_of c.in_ok-reading.reading.subject) c.args.path.now (faces_in c.args.env.now) c.in_ok-reading.ensures.of.path c.in_ok-reading.ensures.of.env name

@@ -1,0 +1,5 @@
+pub mod Lists
+pub mod WayLemmas
+pub mod MethodLemmas
+pub mod ChosenLemmas
+pub mod RowLemmas

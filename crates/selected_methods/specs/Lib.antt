@@ -1,0 +1,4 @@
+pub mod Owners
+pub mod Ways
+pub mod Selected
+pub mod InCode

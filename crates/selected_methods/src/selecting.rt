@@ -1,0 +1,121 @@
+//! What a selector selects.
+ghost use Rattle.std.specs.Prelude.{◌≡◌, ◌<◌, IfOk};
+ghost use Rattle.mark_walk.specs.Asks.{filled};
+ghost use Rattle.type_model.specs.GoTypes.{type_at};
+ghost use Rattle.type_model.specs.Tables.{IsTable, types_in, count, declarations_in};
+ghost use Rattle.typed_marks.specs.Meanings.{Quiet};
+ghost use Rattle.typed_marks.specs.States.{so_far};
+ghost use Rattle.unit_read.specs.Subjects.{unit_of, IsRead};
+ghost use Rattle.rule_words.specs.Scenes.{IsScene, type_in, IsTypeOf};
+ghost use Rattle.selected_methods.specs.Selected.{method_led, IsMethodOf, IsSelectedMethod};
+ghost use Rattle.selected_methods.specs.InCode.{method_found, method_chosen, IsWhat};
+
+use crate::methods::method_of;
+use crate::owners::{owner_of, selected_name};
+use crate::ways::{base_of, led};
+use go_tree::NodeRef;
+use gv_base::NoMemory;
+use method_sets::{Selected, Selection, select, selection_lasts};
+use std::alloc::Global;
+use type_model::{TypeId, TypeTable};
+use typed_marks::State;
+use unit_read::Subject;
+
+fn method_led(u: &Subject, t: &TypeTable, name: &[u8], of: TypeId, path: &[u32]) -> Option<NodeRef>
+    requires read { IsRead u.now }
+    requires table { IsTable t.now }
+    requires within { of.0 < count t.now }
+    ensures { result ≡ method_led (unit_of u.now) (declarations_in t.now) name.now (type_at (types_in t.now) of) path.now }
+{
+    match led(t, base_of(t, of), path) {
+        Some(to) => method_of(u, t, name, to),
+        None => None,
+    }
+}
+
+fn method_found(
+    u: &Subject,
+    t: &TypeTable,
+    name: &[u8],
+    of: TypeId,
+    path: &[u32],
+    kind: Selected,
+) -> Option<NodeRef>
+    requires read { IsRead u.now }
+    requires table { IsTable t.now }
+    requires within { of.0 < count t.now }
+    ensures { result ≡ method_found (unit_of u.now) t.now name.now (type_at (types_in t.now) of) path.now kind }
+{
+    match kind {
+        Selected::Field(_) => None,
+        Selected::Method(_, _) => method_led(u, t, name, of, path),
+    }
+}
+
+/// The method of a selection from a type.
+fn method_chosen(
+    u: &Subject,
+    t: &TypeTable,
+    name: &[u8],
+    of: TypeId,
+    selection: Selection,
+) -> Option<NodeRef>
+    requires read { IsRead u.now }
+    requires table { IsTable t.now }
+    requires within { of.0 < count t.now }
+    ensures { result ≡ method_chosen (unit_of u.now) t.now name.now (type_at (types_in t.now) of) selection }
+{
+    match selection {
+        Selection::Found { path, kind } => method_found(u, t, name, of, path.as_slice(), kind),
+        Selection::Ambiguous { depth: _ } => None,
+        Selection::Absent => None,
+    }
+}
+
+fn utf8(bytes: &[u8]) -> Result<&str, NoMemory>
+    ensures { IfOk result (λ text. text.now ≡ bytes.now) }
+{
+    match std::str::from_utf8(bytes) {
+        Ok(text) => Ok(text),
+        Err(_) => Err(NoMemory),
+    }
+}
+
+/// The method that a name selects from a type.
+fn selected_from(
+    alloc: Global,
+    u: &Subject,
+    t: &TypeTable,
+    name: &[u8],
+    of: TypeId,
+) -> Result<Option<NodeRef>, NoMemory>
+    requires read { IsRead u.now }
+    requires table { IsTable t.now }
+    requires within { of.0 < count t.now }
+    ensures { IfOk result (IsWhat (IsMethodOf (unit_of u.now) (declarations_in t.now) name.now (type_at (types_in t.now) of))) }
+{
+    let text = utf8(name)?;
+    let from = utf8(u.path)?;
+    let selection = select(alloc, t, of, text, from)?;
+    selection_lasts();
+    Ok(method_chosen(u, t, name, of, selection))
+}
+
+/// The method that the selector at a node selects.
+pub(crate) fn selected_at(
+    alloc: Global,
+    u: &Subject,
+    s: &State,
+    at: NodeRef,
+) -> Result<Option<NodeRef>, NoMemory>
+    requires { IsScene u.now s.now }
+    ensures { IfOk result (IsWhat (IsSelectedMethod (unit_of u.now) (filled Quiet (so_far s.now)) at)) }
+{
+    match owner_of(u, s, at) {
+        Some(of) => {
+            let found = selected_from(alloc, u, &s.table, selected_name(u, at), of)?;
+            Ok(found)
+        }
+        None => Ok(None),
+    }
+}
