@@ -1,10 +1,10 @@
--- What a run may know of the rules: there is one finding, and an interface has the path of its package.
+-- What a run may know of the rules: there is one finding, and what is seen of a package has its path.
 use Rattle.std.proofs.Common.{◌≡◌, ℕ, ◌<◌, ◌⊎◌, inl, inr, List, [], ◌∷◌, get_or, refl, sym, ap, ◌∙◌, subst, arith}
 use Rattle.std.proofs.lemmas.Option.{same_Some}
 use Rattle.check_pkg.specs.Packages.{Package}
-use Rattle.export_data.specs.declared.constants.ConstInterface.{ConstInterface}
-use Rattle.export_data.specs.Spelling.{IsSpelled}
-use Rattle.export_data.proofs.Interfaces.{spelled_is_read}
+use Rattle.export_text.specs.Faces.{IsFaceText}
+use Rattle.export_text.proofs.FaceReading.{face_again}
+use Rattle.package_faces.specs.Faces.{Face}
 use Rattle.gv_bytes.proofs.Options.{some_is}
 use Rattle.action_graph.specs.declared.kit.LoadInput.{LoadInput}
 use Rattle.action_graph.specs.declared.marks.MarkLine.{MarkLine}
@@ -22,22 +22,22 @@ unfolding Judges
 judges_once path files env a b (p, (of, finds)) (q, (of2, finds2)) =
     finds-once q env a b (package-spelled path files q of2) (subst (λ (x : Package). Finds x env a) (one-package path files p q of of2) finds) finds2
 
-face_or : ConstInterface → Judged → ConstInterface
+face_or : Face → Judged → Face
 face_or d (Accepts i) = i
 face_or d (Refuses list) = d
 
-pub same_accepts : (i k : ConstInterface) → Accepts i ≡ Accepts k → i ≡ k
+pub same_accepts : (i k : Face) → Accepts i ≡ Accepts k → i ≡ k
 unfolding face_or
 same_accepts i k h = ap (face_or i) h
 
--- an interface has the path of its package
-pub accepts_path : (path : List ℕ) (files : List Named) (env : Env) (i : ConstInterface) → Judges path files env (Accepts i) → i.path ≡ path
+-- what is seen of a package has its path
+pub accepts_path : (path : List ℕ) (files : List Named) (env : Env) (i : Face) → Judges path files env (Accepts i) → i.path ≡ path
 unfolding Judges
-accepts_path path files env i (p, (of, (c, comes, none, is))) = ap (λ (k : ConstInterface). k.path) is ∙ of.path_is
+accepts_path path files env i (p, (of, (c, comes, none, exports, fit))) = fit.path_is ∙ of.path_is
 
--- a text spells one interface
-pub one_face : (i k : ConstInterface) (text : List ℕ) → IsSpelled i text → IsSpelled k text → i ≡ k
-one_face i k text a b = same_Some i k (sym (spelled_is_read text i a) ∙ spelled_is_read text k b)
+-- a text spells one face
+pub one_face : (i k : Face) (text : List ℕ) → IsFaceText i text → IsFaceText k text → i ≡ k
+one_face i k text a b = same_Some i k (sym (face_again text i a) ∙ face_again text k b)
 
 pub faces_once : (xs : List Named) (a b : Env) → AreInterfaces xs a → AreInterfaces xs b → a ≡ b
 faces_once [] [] [] h g = refl
@@ -46,7 +46,7 @@ faces_once [] (i ∷ a) b h g = absurd h
 faces_once (x ∷ xs) [] b h g = absurd h
 faces_once (x ∷ xs) (i ∷ a) [] h g = absurd g
 faces_once (x ∷ xs) (i ∷ a) (k ∷ b) h g =
-    ap (λ (y : ConstInterface). y ∷ a) (one_face i k x.1 h.0 g.0) ∙ ap (λ (l : Env). k ∷ l) (faces_once xs a b h.2 g.2)
+    ap (λ (y : Face). y ∷ a) (one_face i k x.1 h.0 g.0) ∙ ap (λ (l : Env). k ∷ l) (faces_once xs a b h.2 g.2)
 
 -- a finding has one text
 pub tells_once : (judged : Judged) (a b : List ℕ) → Tells judged a → Tells judged b → a ≡ b
@@ -58,10 +58,10 @@ other_digit a b e (inl l) = omega (arith, e, l)
 other_digit a b e (inr l) = omega (arith, e, l)
 
 -- what an outcome text tells
-pub tells_accepted : (judged : Judged) (export : List ℕ) → Tells judged (accepted_text export) → (i : ConstInterface) × (judged ≡ Accepts i) × IsSpelled i export
+pub tells_accepted : (judged : Judged) (export : List ℕ) → Tells judged (accepted_text export) → (i : Face) × (judged ≡ Accepts i) × IsFaceText i export
 tells_accepted (Accepts i) export (e, s, h) =
     let same : e ≡ export = cc in
-    (i, refl, subst (λ (l : List ℕ). IsSpelled i l) same s)
+    (i, refl, subst (λ (l : List ℕ). IsFaceText i l) same s)
 tells_accepted (Refuses list) export (e, s, h) = absurd (other_digit 49 48 (ap (λ (l : List ℕ). get_or l 0 0) h) (inr (omega arith)))
 
 pub tells_refused : (judged : Judged) (marks : List ℕ) → Tells judged (refused_text marks) → (list : List MarkLine) × (judged ≡ Refuses list) × AreSpelled list marks
@@ -73,6 +73,11 @@ tells_refused (Refuses list) marks (e, s, h) =
 -- a text spells one list of marks
 pub one_list : (a b : List MarkLine) (text : List ℕ) → AreSpelled a text → AreSpelled b text → a ≡ b
 one_list a b text h g = some_is a b (sym (marks_are_read text a h) ∙ marks_are_read text b g)
+
+-- an outcome text tells one finding
+pub told_once : (a b : Judged) (text : List ℕ) → Tells a text → Tells b text → a ≡ b
+told_once a (Accepts f) text h (e, s, is) = let x = tells_accepted a e (subst (λ (l : List ℕ). Tells a l) is h) in x.1 ∙ ap Accepts (one_face x.0 f e x.2 s)
+told_once a (Refuses list) text h (e, s, is) = let x = tells_refused a e (subst (λ (l : List ℕ). Tells a l) is h) in x.1 ∙ ap Refuses (one_list x.0 list e x.2 s)
 
 pub outcome_once : (load : LoadInput) (a b : List ℕ) → IsOutcome load a → IsOutcome load b → a ≡ b
 outcome_once load a b h g =

@@ -1,15 +1,17 @@
--- A package has one finding: its refusals and its exports are lists in a strict order.
-use Rattle.std.proofs.Common.{◌≡◌, ℕ, zero, suc, ◌+◌, ◌<◌, ◌↔◌, inl, inr, Bool, true, false, List, [], ◌∷◌, length, Some, slice_get, map, Contains, refl, sym, ap, ◌∙◌, subst, arith, if◌then◌else◌}
+-- A package has one finding: its refusals and what it exports are lists in a strict order.
+use Rattle.std.proofs.Common.{◌≡◌, ℕ, zero, suc, ◌+◌, ◌<◌, ◌↔◌, inl, inr, true, List, [], ◌∷◌, length, Some, slice_get, map, Contains, refl, sym, ap, ◌∙◌, subst, arith}
 use Rattle.std.specs.declared.cmp.Ordering.{Ordering}
 use Rattle.std.specs.declared.cmp.Ordering.TheVariants.{Less, Equal, Greater}
 use Rattle.std.specs.Ordering.{nat_cmp, is_lt}
 use Rattle.std.specs.Cmp.Lexicographic.{slice_cmp}
-use Rattle.std.proofs.lemmas.Bool.Decides.{nat_tests}
-use Rattle.std.proofs.lemmas.Cmp.{same_from_slice_cmp, nat_list_cmp_total, tied_itself}
+use Rattle.std.proofs.lemmas.Cmp.{nat_list_cmp_total, tied_itself}
 use Rattle.std.proofs.lemmas.Option.{same_Some, slice_get_within}
-use Rattle.export_data.specs.declared.constants.ConstOut.{ConstOut}
-use Rattle.export_data.specs.declared.constants.ConstInterface.{ConstInterface}
-use Rattle.export_data.specs.Order.{comes_before, rises_from, names_rise}
+use Rattle.export_text.proofs.ExportLaws.{in_turn, less_of, one_sorted}
+use Rattle.package_faces.specs.Faces.{ObjectOut, Face}
+use Rattle.package_faces.specs.Orders.{rises, object_before}
+use Rattle.package_faces.specs.Reaching.{IsExportOf}
+use Rattle.typed_marks.specs.declared.item.Item.{Item}
+use Rattle.typed_marks.specs.Meanings.{Meaning}
 use Rattle.go_tree.specs.declared.token.Token.{Token}
 use Rattle.go_tree.specs.declared.tree.FileTree.{FileTree}
 use Rattle.go_tree.specs.Pieces.{Spelled}
@@ -24,9 +26,9 @@ use Rattle.check_pkg.specs.declared.judging.Outcome.TheVariants as outcome
 use Rattle.check_pkg.specs.declared.refusal.Refusal.{Refusal}
 use Rattle.check_pkg.specs.Checks.{IsChecked, IsOutcomeOf as Comes}
 use Rattle.check_pkg.specs.Faults.{Precedes}
-use Rattle.check_pkg.specs.Interfaces.{IsExported}
-use Rattle.check_pkg.specs.Packages.{Package, package_name}
-use Rattle.check_pkg.specs.Refusals.{IsRefused}
+use Rattle.check_pkg.specs.Interfaces.{HasExports, HasObjects, IsExported, declarations_of, unit_name}
+use Rattle.check_pkg.specs.Packages.{Package}
+use Rattle.check_pkg.specs.Refusals.{IsAnnotation, IsRefused}
 use Rattle.check_pkg.proofs.OneUnit.{the_unit}
 use Rattle.action_graph.specs.Nodes.{Named}
 use Rattle.action_graph.specs.Judging.{Judged, Env, AreParsed, IsPackageOf, Finds, line_of, text_of}
@@ -60,61 +62,35 @@ one-refused u c d one other =
     same-list Precedes precedes (IsRefused u other.marks.marks) c.refused.items d.refused.items one.ordered other.ordered
     (one.marks.each other.marks.marks other.marks.annotated) (other.marks.each other.marks.marks other.marks.annotated)
 
--- byte order of names
-is-before : (xs ys : List ℕ) → is_lt (slice_cmp nat_cmp xs ys) ≡ comes_before xs ys
-is-before xs ys = same_from_slice_cmp nat_cmp is_lt comes_before refl (λ _ _. refl) (λ _ _. refl) (λ x y xs ys o h. grind (arith, nat_tests)) xs ys (slice_cmp nat_cmp xs ys) refl
+-- ---- what is seen of a unit
 
-less-is : (o : Ordering) → is_lt o ≡ true → o ≡ Less
-less-is Less h = refl
-less-is Equal h = absurd cc
-less-is Greater h = absurd cc
+abbrev NameBefore : ObjectOut → ObjectOut → Type 0
+NameBefore a b = object_before a b ≡ true
 
-less : (xs ys : List ℕ) → comes_before xs ys ≡ true → slice_cmp nat_cmp xs ys ≡ Less
-less xs ys h = less-is (slice_cmp nat_cmp xs ys) (is-before xs ys ∙ h)
-
-abbrev NameBefore : ConstOut → ConstOut → Type 0
-NameBefore a b = comes_before a.name b.name ≡ true
-
-name-trans : (a b c : ConstOut) → NameBefore a b → NameBefore b c → NameBefore a c
-name-trans a b c h g = sym (is-before a.name c.name) ∙ ap is_lt (nat_list_cmp_total.trans a.name b.name c.name (less a.name b.name h) (less b.name c.name g))
+name-trans : (a b c : ObjectOut) → NameBefore a b → NameBefore b c → NameBefore a c
+name-trans a b c h g = ap is_lt (nat_list_cmp_total.trans a.name b.name c.name (less_of (slice_cmp nat_cmp a.name b.name) h) (less_of (slice_cmp nat_cmp b.name c.name) g))
 
 not-less : (o : Ordering) → o ≡ Equal → o ≡ Less → ⊥
 not-less o e l = cc
 
-name-itself : (a : ConstOut) → NameBefore a a → ⊥
-name-itself a h = not-less (slice_cmp nat_cmp a.name a.name) (tied_itself nat_list_cmp_total a.name) (less a.name a.name h)
+name-itself : (a : ObjectOut) → NameBefore a a → ⊥
+name-itself a h = not-less (slice_cmp nat_cmp a.name a.name) (tied_itself nat_list_cmp_total a.name) (less_of (slice_cmp nat_cmp a.name a.name) h)
 
 names : IsStrict NameBefore
 names = record { trans = name-trans; itself = name-itself }
 
-both-hold : (b r : Bool) → (if b then r else false) ≡ true → (b ≡ true) × (r ≡ true)
-both-hold true r h = (refl, h)
-both-hold false r h = absurd cc
+module _ (u : Unit) (marks : Item → Meaning) (annotated : IsAnnotation rule u marks) where
+  -- a unit has one list of exported objects
+  pub one-objects : (os ps : List ObjectOut) → HasObjects rule u os → HasObjects rule u ps → os ≡ ps
+  one-objects os ps one other =
+      same-list NameBefore names (IsExported u marks) os ps (in_turn object_before os one.rise) (in_turn object_before ps other.rise) (one.each marks annotated) (other.each marks annotated)
 
-rises-in-order : (c : ConstOut) (rest : List ConstOut) → rises_from c.name rest ≡ true → InOrder NameBefore (c ∷ rest)
-rises-in-order c [] h k a b at next = absurd (let lt : k + 1 < 1 = slice_get_within (c ∷ []) (k + 1) b next in omega (arith, lt))
-rises-in-order c (d ∷ rest) h zero a b at next =
-    let before = (both-hold (comes_before c.name d.name) (rises_from d.name rest) h).0 in
-    let first : c ≡ a = some-is c a at in
-    let second : d ≡ b = some-is d b next in
-    subst (λ (x : ConstOut). comes_before x.name b.name ≡ true) first (subst (λ (x : ConstOut). comes_before c.name x.name ≡ true) second before) where
-      some-is : (x y : ConstOut) → Some x ≡ Some y → x ≡ y
-      some-is x y e = cc
-rises-in-order c (d ∷ rest) h (suc k) a b at next =
-    let e : suc k + 1 ≡ suc (k + 1) = omega arith in
-    rises-in-order d rest (both-hold (comes_before c.name d.name) (rises_from d.name rest) h).1 k a b at (ap (λ n. slice_get (c ∷ (d ∷ rest)) n) (sym e) ∙ next)
-
-rise-in-order : (list : List ConstOut) → names_rise list ≡ true → InOrder NameBefore list
-rise-in-order [] h k a b at next = absurd (let lt : k < 0 = slice_get_within [] k a at in omega (arith, lt))
-rise-in-order (c ∷ rest) h k a b at next = rises-in-order c rest h k a b at next
-
--- a unit has one list of exports
-one-exports : (u : Unit) (c d : Checked) → IsChecked rule u c → IsChecked rule u d → c.refused.items ≡ [] → d.refused.items ≡ [] → c.exports.items ≡ d.exports.items
-one-exports u c d one other none nothing =
-    let first = one.exports none in
-    let last = other.exports nothing in
-    same-list NameBefore names (IsExported u other.marks.marks) c.exports.items d.exports.items (rise-in-order c.exports.items first.rise) (rise-in-order d.exports.items last.rise)
-    (first.each other.marks.marks other.marks.annotated) (last.each other.marks.marks other.marks.annotated)
+  -- what is seen of a unit is one value
+  pub one-seen : (f g : Face) → HasExports rule u f → HasExports rule u g → f ≡ g
+  one-seen f g one other =
+      let objects : f.objects ≡ g.objects = one-objects f.objects g.objects one.objects other.objects in
+      let first : IsExportOf (declarations_of u marks) u.path (unit_name u) g.objects f = subst (λ (os : List ObjectOut). IsExportOf (declarations_of u marks) u.path (unit_name u) os f) objects (one.reached marks annotated) in
+      one_sorted (declarations_of u marks) u.path (unit_name u) g.objects f g first (other.reached marks annotated) one.types other.types one.methods other.methods
 
 module _ (p : Package) (env : Env) (spelled : AreSpelled p.trees p.files) (c d : Checked) (one : Comes rule p env (outcome.Checked c)) (other : Comes rule p env (outcome.Checked d)) where
   unit-is : one.unit ≡ other.unit
@@ -126,15 +102,16 @@ module _ (p : Package) (env : Env) (spelled : AreSpelled p.trees p.files) (c d :
   same-refused : c.refused.items ≡ d.refused.items
   same-refused = one-refused other.unit c d first other.comes
 
-  same-exports : c.refused.items ≡ [] → d.refused.items ≡ [] → c.exports.items ≡ d.exports.items
-  same-exports none nothing = one-exports other.unit c d first other.comes none nothing
+  same-seen : (f g : Face) → HasExports rule one.unit f → HasExports rule other.unit g → f ≡ g
+  same-seen f g h k =
+      one-seen other.unit other.comes.marks.marks other.comes.marks.annotated f g (subst (λ (u : Unit). HasExports rule u f) unit-is h) k
 
 -- there is one finding of a package
 pub finds-once : (p : Package) (env : Env) (a b : Judged) → AreSpelled p.trees p.files → Finds p env a → Finds p env b → a ≡ b
-finds-once p env (Accepts i) (Accepts k) spelled (c, comes, none, is) (d, comes2, none2, are) =
-    ap Accepts (is ∙ (ap (λ (list : List ConstOut). record { path = p.path; name = package_name p; list = list }) (same-exports p env spelled c d comes comes2 none none2) ∙ sym are))
-finds-once p env (Accepts i) (Refuses lines) spelled (c, comes, none, is) (d, comes2, some, are) = absurd (some (sym (same-refused p env spelled c d comes comes2) ∙ none))
-finds-once p env (Refuses lines) (Accepts k) spelled (c, comes, some, is) (d, comes2, none, are) = absurd (some (same-refused p env spelled c d comes comes2 ∙ none))
+finds-once p env (Accepts f) (Accepts g) spelled (c, comes, none, exports, fit) (d, comes2, none2, exports2, fit2) =
+    ap Accepts (same-seen p env spelled c d comes comes2 f g exports exports2)
+finds-once p env (Accepts f) (Refuses lines) spelled (c, comes, none, exports, fit) (d, comes2, some, are) = absurd (some (sym (same-refused p env spelled c d comes comes2) ∙ none))
+finds-once p env (Refuses lines) (Accepts g) spelled (c, comes, some, is) (d, comes2, none, exports, fit) = absurd (some (same-refused p env spelled c d comes comes2 ∙ none))
 finds-once p env (Refuses lines) (Refuses lines2) spelled (c, comes, some, is) (d, comes2, some2, are) =
     ap Refuses (is ∙ (ap (λ (list : List Refusal). map line_of list) (same-refused p env spelled c d comes comes2) ∙ sym are))
 

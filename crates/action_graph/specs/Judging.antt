@@ -1,15 +1,21 @@
--- What comes of a package, by its path, its files and the interfaces of the packages that it imports; and what
+-- What comes of a package, by its path, its files and what is seen of the packages of its environment; and what
 -- comes of a load, by its texts alone (Go 1.17, "Packages", "Import declarations"). Nothing here reads a cache.
-use Rattle.std.specs.Prelude.{◌≡◌, ℕ, ◌<◌, ◌≤◌, ◌^◌, ◌++◌, true, false, List, [], ◌∷◌, map, length, All, Contains, Some, slice_get, codes}
+use Rattle.std.specs.Prelude.{◌≡◌, ◌⊎◌, ℕ, ◌<◌, ◌≤◌, ◌^◌, ◌++◌, true, false, List, [], ◌∷◌, map, length, All, Contains, Option, Some, None, slice_get, codes}
 use Rattle.gv_base.specs.declared.place.Place.{Place}
 use Rattle.gv_base.specs.Files.{is_before, AreInOrder}
-use Rattle.export_data.specs.declared.constants.ConstInterface.{ConstInterface}
-use Rattle.export_data.specs.Spelling.{IsSpelled}
+use Rattle.export_text.specs.Faces.{IsFace, IsFaceText}
+use Rattle.export_text.specs.Mentions.{IsMentioned}
+use Rattle.face_table.specs.Fitting.{AreFit, given, paths_in}
 use Rattle.go_tree.specs.Head.{head_of}
+use Rattle.go_tree.specs.Lexeme.{place_of}
 use Rattle.go_tree.specs.declared.head.ImportLine.{ImportLine}
 use Rattle.go_tree.specs.declared.tree.FileTree.{FileTree}
 use Rattle.import_graph.specs.Packages.{counts}
+use Rattle.package_faces.specs.Faces.{DefinedOut, Face}
+use Rattle.package_faces.specs.Reaching.{own_name}
 use Rattle.parse_file.specs.Verdict.{IsParsed}
+use Rattle.type_model.specs.Declarations.{Meets}
+use Rattle.type_model.specs.GoTypes.{is_defined}
 use Rattle.bind.specs.Answers.{AreSmall}
 use Rattle.go_rules.specs.Stages.{rule}
 use Rattle.check_pkg.specs.declared.judging.Checked.{Checked}
@@ -19,7 +25,8 @@ use Rattle.check_pkg.specs.declared.refusal.Fault.TheVariants.{Rule as RuleFault
 use Rattle.check_pkg.specs.declared.refusal.Refusal.{Refusal}
 use Rattle.check_pkg.specs.Checks.{IsOutcomeOf as Comes}
 use Rattle.check_pkg.specs.Faults.{limit_number}
-use Rattle.check_pkg.specs.Packages.{Package, package_name}
+use Rattle.check_pkg.specs.Interfaces.{HasExports}
+use Rattle.check_pkg.specs.Packages.{Package}
 use Rattle.action_graph.specs.declared.kit.LoadInput.{LoadInput}
 use Rattle.action_graph.specs.declared.kit.Load.{Load}
 use Rattle.action_graph.specs.declared.kit.Load.TheVariants.{Accepted, Refused}
@@ -27,14 +34,14 @@ use Rattle.action_graph.specs.declared.marks.MarkLine.{MarkLine}
 use Rattle.action_graph.specs.Nodes.{Named, AreNamed, load_texts}
 use Rattle.action_graph.specs.Marks.{AreSpelled}
 
--- an accepted package has an interface, any other the marks that refuse it
+-- what other packages see of an accepted package, or the marks that refuse it
 pub data Judged : Type 0 where
-  Accepts : ConstInterface → Judged
+  Accepts : Face → Judged
   Refuses : List MarkLine → Judged
 
--- the interfaces of the packages that a package imports, in the order of their paths
+-- what is seen of the packages that a package imports and of those that these mention, in the order of their paths
 abbrev pub Env : Type 0
-Env = List ConstInterface
+Env = List Face
 
 -- the text of a file
 abbrev pub text_of : Named → List ℕ
@@ -62,24 +69,44 @@ fault_line at (LimitFault limit) = record { at = at; limit = true; number = limi
 abbrev pub line_of : Refusal → MarkLine
 line_of r = fault_line r.place r.fault
 
--- what an accepted package of this outcome is known by
-abbrev pub interface_of : Package → Checked → ConstInterface
-interface_of p c = record { path = p.path; name = package_name p; list = c.exports.items }
+-- each package that it mentions has a place
+abbrev pub AllKnown : (List ℕ → Option ℕ) → Face → Type 0
+AllKnown place f = (path : List ℕ) → IsMentioned f path → place path ≡ None → ⊥
 
--- What is found of a package by the typing rules over the interfaces of the packages that it imports: nothing refuses it, and this is its
--- interface; or these refuse it, in order and each once.
+-- What is seen of a package can be imported: it has the package's path; each package that it mentions is one of the environment; and of its
+-- own types none has a defined type as its underlying type or needs itself.
+pub record IsFit (p : Package) (env : Env) (f : Face) : Type 0 where
+  pub path_is : f.path ≡ p.path
+  pub known : AllKnown (place_of (paths_in env)) f
+  pub plain : (d : DefinedOut) → Contains f.types d → is_defined d.under ≡ false
+  pub ends : (d : DefinedOut) → Contains f.types d → Meets (given [] (f ∷ env)) (own_name f.path d.name) d.under → ⊥
+
+-- What is found of a package by the typing rules over what is seen of others: nothing refuses it, this is seen of it, and it can be imported;
+-- or these refuse it, in order and each once.
 abbrev pub Finds : Package → Env → Judged → Type 0
-Finds p env (Judged.Accepts i) = (c : Checked) × Comes rule p env (outcome.Checked c) × (c.refused.items ≡ []) × (i ≡ interface_of p c)
+Finds p env (Judged.Accepts f) = (c : Checked) × (comes : Comes rule p env (outcome.Checked c)) × (c.refused.items ≡ []) × HasExports rule comes.unit f × IsFit p env f
 Finds p env (Judged.Refuses lines) = (c : Checked) × Comes rule p env (outcome.Checked c) × (c.refused.items ≡ [] → ⊥) × (lines ≡ map line_of c.refused.items)
 
--- The rules: what is found of the package of this path, with these files and over these interfaces. A run knows of
--- this relation no more than that there is one finding, and that an interface has the path of its package.
+-- Nothing refuses the package, but what is seen of it can't be told to others: it has no text, since a type of it is local or has more than
+-- 10,000 nodes; or it can't be imported.
+pub record IsUntold (p : Package) (env : Env) : Type 0 where
+  pub checked : Checked
+  pub comes : Comes rule p env (outcome.Checked checked)
+  pub none : checked.refused.items ≡ []
+  pub untold : (f : Face) → HasExports rule comes.unit f → IsFace f → IsFit p env f → ⊥
+
+-- nothing is found of it: over its rules some item waits for itself, or what is seen of it can't be told
+abbrev pub HasNothing : Package → Env → Type 0
+HasNothing p env = Comes rule p env outcome.Circle ⊎ IsUntold p env
+
+-- The rules: what is found of the package of this path, with these files and over what is seen of these. A run knows of
+-- this relation no more than that there is one finding, and that what is seen of a package has its path.
 unfoldable pub Judges : List ℕ → List Named → Env → Judged → Type 0
 Judges path files env judged = (p : Package) × (IsPackageOf path files p × Finds p env judged)
 
--- Nothing is found of it: over its rules some item waits for itself.
+-- Nothing is found of the package of this path, with these files and over what is seen of these.
 unfoldable pub IsStuckOver : List ℕ → List Named → Env → Type 0
-IsStuckOver path files env = (p : Package) × (IsPackageOf path files p × Comes rule p env outcome.Circle)
+IsStuckOver path files env = (p : Package) × (IsPackageOf path files p × HasNothing p env)
 
 -- the tree and the text of a file of a package
 pub record IsFileAt (p : Package) (n : ℕ) (t : FileTree) (bytes : List ℕ) : Type 0 where
@@ -114,14 +141,15 @@ pub record IsSource (path : List ℕ) (files : List Named) : Type 0 where
   pub of : IsPackageOf path files pack
   pub agree : NamesAgree pack
 
--- each export text with the interface that it spells, of the package beside whose path it stands
+-- each export text with what is seen of a package as it spells it, the package beside whose path it stands
 abbrev pub AreInterfaces : List Named → Env → Type 0
 AreInterfaces [] [] = Unit {0}
 AreInterfaces [] (i ∷ env) = ⊥
 AreInterfaces (x ∷ xs) [] = ⊥
-AreInterfaces (x ∷ xs) (i ∷ env) = IsSpelled i x.1 × (i.path ≡ x.0) × AreInterfaces xs env
+AreInterfaces (x ∷ xs) (i ∷ env) = IsFaceText i x.1 × (i.path ≡ x.0) × AreInterfaces xs env
 
--- An input that can be read: files that parse, few enough and short enough to be counted, and export texts that spell interfaces.
+-- An input that can be read: files that parse, few enough and short enough to be counted, and export texts that spell what is seen of other
+-- packages, whose types can all be declared.
 pub record IsReadable (input : LoadInput) : Type 0 where
   pub few : length input.files < 2 ^ 32
   pub short : All (λ text. length text ≤ 2 ^ 24) (map text_of input.files)
@@ -129,6 +157,7 @@ pub record IsReadable (input : LoadInput) : Type 0 where
   pub of : IsPackageOf input.path input.files pack
   pub env : Env
   pub faces : AreInterfaces input.env env
+  pub fit : AreFit input.path env
 
 -- An input that a load may be asked for: it can be read, the texts of the package are fit, and the interfaces of others stand in the order of
 -- their paths, of which none is empty or the package's own; among these is each that the package imports.
@@ -147,7 +176,7 @@ abbrev pub refused_text : List ℕ → List ℕ
 refused_text marks = codes "0;" ++ marks
 
 abbrev pub Tells : Judged → List ℕ → Type 0
-Tells (Judged.Accepts i) text = (export : List ℕ) × IsSpelled i export × (text ≡ accepted_text export)
+Tells (Judged.Accepts f) text = (export : List ℕ) × IsFaceText f export × (text ≡ accepted_text export)
 Tells (Judged.Refuses list) text = (marks : List ℕ) × AreSpelled list marks × (text ≡ refused_text marks)
 
 -- What comes of a load, by its input alone.

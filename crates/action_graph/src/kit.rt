@@ -37,8 +37,8 @@ pub enum Load<L> {
 pub enum Unloaded {
     /// Want of memory.
     NoMemory,
-    /// The rule of an item of the package waits for that item's own mark.
-    Circle,
+    /// The rule of an item of the package waits for that item's own mark; or nothing refuses the package, and what is seen of it can't be told.
+    Stuck,
 }
 
 impl From<NoMemory> for Unloaded {
@@ -66,7 +66,7 @@ pub trait Kit {
     fn load(&mut self, input: &LoadInput) -> Result<Load<Self::Loaded>, Unloaded>
         requires { loads self.old < 2 ^ 63 }
         ensures right { IsLawful input.now → IfOk result (λ answer. IsOutcome input.now (load_text answer)) }
-        ensures circle { result ≡ Err Unloaded.Circle → IsStuck input.now }
+        ensures circle { result ≡ Err Unloaded.Stuck → IsStuck input.now }
         ensures counted { OnOk result (loads self.new ≡ loads self.old + 1) }
         ensures refused { OnErr result (loads self.new ≡ loads self.old) }
         ensures runs { runs self.new ≡ runs self.old };

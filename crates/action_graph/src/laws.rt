@@ -3,7 +3,7 @@ ghost use Rattle.std.specs.Prelude.{◌≡◌, ◌<◌, ◌≤◌, ℕ, List, []
 ghost use Rattle.gv_bytes.specs.Spelling.{items, AreItems};
 ghost use Rattle.action_graph.specs.Marks.{mark, IsMark};
 ghost use Rattle.action_graph.specs.Nodes.{Named, AreNamed, load_texts};
-ghost use Rattle.action_graph.specs.Judging.{Env, Judges, IsOutcomeOf, text_of};
+ghost use Rattle.action_graph.specs.Judging.{Env, Judged, Judges, IsOutcomeOf, Tells, text_of};
 ghost use Rattle.action_graph.specs.Judging.Judged.{Refuses};
 ghost use Rattle.action_graph.specs.declared.kit.LoadInput.{LoadInput};
 ghost use Rattle.action_graph.specs.declared.marks.MarkLine.{MarkLine};
@@ -26,4 +26,11 @@ pub fn one_outcome()
 /// Each mark that refuses a package stands in one of its files, at its end at most.
 pub fn marks_stand()
     ensures { (path : List ℕ) (files : List Named) (env : Env) (lines : List MarkLine) (m : MarkLine) → Judges path files env (Refuses lines) → Contains lines m → (m.at.file < length files) × (m.at.offset ≤ length (get_or (map text_of files) m.at.file [])) }
+{}
+
+/// A package has one finding, which has one text; and a text tells one finding.
+pub fn one_finding()
+    ensures finding { (path : List ℕ) (files : List Named) (env : Env) (a b : Judged) → Judges path files env a → Judges path files env b → a ≡ b }
+    ensures text { (judged : Judged) (a b : List ℕ) → Tells judged a → Tells judged b → a ≡ b }
+    ensures told { (a b : Judged) (text : List ℕ) → Tells a text → Tells b text → a ≡ b }
 {}

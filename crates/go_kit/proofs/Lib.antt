@@ -1,2 +1,6 @@
+mod BasicLemmas
 mod ReadLemmas
+mod GivenLemmas
+mod SeenLemmas
+mod TellLemmas
 mod LoadLemmas

@@ -1,19 +1,28 @@
--- What is read of a load's texts: the tree of each file, and the interface of each export text.
-use Rattle.std.specs.Prelude.{◌≡◌, ◌⊎◌, ℕ, ◌≤◌, ◌^◌, List, [], ◌∷◌, length, map}
-use Rattle.export_data.specs.declared.constants.ConstInterface.{ConstInterface}
-use Rattle.export_data.specs.Spelling.{IsSpelled}
+-- What is read of a load's texts: the tree of each file, and what each export text spells; and what is told of the package.
+use Rattle.std.specs.Prelude.{◌≡◌, ℕ, ◌≤◌, ◌^◌, List, [], ◌∷◌, length, map, Option}
+use Rattle.export_text.specs.Faces.{IsFace, IsFaceText}
 use Rattle.go_tree.specs.declared.tree.FileTree.{FileTree}
+use Rattle.package_faces.specs.Faces.{ObjectOut, Face}
+use Rattle.package_faces.specs.Interfaces.{object_in, AreObjectsIn}
+use Rattle.package_faces.specs.Reaching.{IsExportOf}
 use Rattle.parse_file.specs.Verdict.{IsParsed}
+use Rattle.type_model.specs.Tables.{IsTable, count, declarations_in, types_in}
+use Rattle.check_pkg.specs.declared.judging.Checked.{Checked}
 use Rattle.check_pkg.specs.Packages.{Package}
 use Rattle.action_graph.specs.Nodes.{Named}
 use Rattle.action_graph.specs.declared.kit.LoadInput.{LoadInput}
-use Rattle.action_graph.specs.Judging.{Env, Judged, Finds, Tells, AreInterfaces, text_of}
+use Rattle.action_graph.specs.Judging.{AllKnown, Env, Judged, Finds, IsReadable, Tells}
 use Rattle.action_graph.specs.Judging.Judged.{Refuses}
 
--- the tree is that of the text, and its nodes can be counted
+-- a text that is short enough to be counted
+abbrev pub IsShort : List ℕ → Type 0
+IsShort text = length text ≤ 2 ^ 24
+
+-- the tree is that of the text, which is short enough, and its nodes can be counted
 pub record IsFileOf (text : List ℕ) (tree : FileTree) : Type 0 where
   pub parsed : IsParsed text tree
   pub few : length tree.nodes ≤ 2 ^ 32
+  pub short : IsShort text
 
 -- so is each
 abbrev pub AreFilesOf : List (List ℕ) → List FileTree → Type 0
@@ -22,14 +31,29 @@ AreFilesOf [] (tree ∷ trees) = ⊥
 AreFilesOf (text ∷ texts) [] = ⊥
 AreFilesOf (text ∷ texts) (tree ∷ trees) = IsFileOf text tree × AreFilesOf texts trees
 
--- a text that is short enough to be counted
-abbrev pub IsShort : List ℕ → Type 0
-IsShort text = length text ≤ 2 ^ 24
+-- what an export text spells, of the package beside whose path it stands
+pub record IsFaceOf (pair : Named) (f : Face) : Type 0 where
+  pub spelled : IsFaceText f pair.1
+  pub path : f.path ≡ pair.0
 
--- the interface of an export text, of the package beside whose path it stands
-pub record IsFaceOf (pair : Named) (i : ConstInterface) : Type 0 where
-  pub spelled : IsSpelled i pair.1
-  pub path : i.path ≡ pair.0
+-- ---- what is seen of the package that is loaded
+
+-- the objects that it exports, over the table of what was found
+abbrev pub objects_of : Checked → List ObjectOut
+objects_of c = map (λ e. object_in (types_in c.table) e) c.exports.items
+
+-- their types are in this table
+pub record Stands (path : List ℕ) (c : Checked) : Type 0 where
+  pub table : IsTable c.table
+  pub within : AreObjectsIn path (count c.table) (types_in c.table) c.exports.items
+
+-- this is seen of it, as the table has its types declared; it has a text, and mentions packages that have a place
+pub record IsSeenOf (path name : List ℕ) (place : List ℕ → Option ℕ) (c : Checked) (f : Face) : Type 0 where
+  pub export : IsExportOf (declarations_in c.table) path name (objects_of c) f
+  pub value : IsFace f
+  pub known : AllKnown place f
+
+-- ---- answers
 
 -- the text tells what is found of a package
 pub record TellsOf (p : Package) (env : Env) (text : List ℕ) : Type 0 where
@@ -37,13 +61,10 @@ pub record TellsOf (p : Package) (env : Env) (text : List ℕ) : Type 0 where
   pub finds : Finds p env judged
   pub tells : Tells judged text
 
--- no interfaces are those of the export texts: one of them isn't spelled, or is of another path
-abbrev pub HasNoEnv : LoadInput → Type 0
-HasNoEnv input = (env : Env) → AreInterfaces input.env env → ⊥
-
--- A load can't be read: some file has no such tree, or some export text no interface. Such an input isn't lawful.
+-- A load can't be read: there are too many files, or one is too long or has no such tree; or some export text spells nothing of the package
+-- beside it; or the types of these packages can't all be declared. Such an input isn't lawful.
 abbrev pub IsUnread : LoadInput → Type 0
-IsUnread input = ((trees : List FileTree) → AreFilesOf (map text_of input.files) trees → ⊥) ⊎ HasNoEnv input
+IsUnread input = IsReadable input → ⊥
 
 -- refused, with no mark
 abbrev pub RefusesUnmarked : List ℕ → Type 0

@@ -1,49 +1,66 @@
-//! The interfaces of a load's export texts.
+//! What is seen of the packages of a load's environment, as its export texts spell it.
 ghost use Rattle.std.specs.Prelude.{◌≡◌, IfOk, IfSome, MatchOption, None};
-ghost use Rattle.export_data.specs.declared.constants.ConstInterface.{ConstInterface};
+ghost use Rattle.package_faces.specs.Faces.{Face};
+ghost use Rattle.package_faces.specs.Interfaces.{face_of, faces_of, IsInterfaceIn, AreInterfacesIn};
+ghost use Rattle.type_model.specs.Tables.{IsTable, Grown, types_in, count};
 ghost use Rattle.action_graph.specs.Judging.{Env, AreInterfaces};
 ghost use Rattle.go_kit.specs.Reading.{IsFaceOf};
 
-use export_data::{ConstInterface, read_consts};
+use export_text::read;
 use gv_base::{Bytes, NoMemory, Text};
+use package_faces::Interface;
 use std::alloc::Global;
+use type_model::TypeTable;
 
 /// The interface, if it is of this path.
-fn keep_path(path: &str, face: ConstInterface) -> Option<ConstInterface>
-    ensures kept { IfSome result (λ kept. (kept ≡ face) × (face.path ≡ path.now)) }
-    ensures none { result ≡ None → face.path ≡ path.now → ⊥ }
+fn keep_path(path: &str, interface: Interface) -> Option<Interface>
+    ensures kept { IfSome result (λ kept. (kept ≡ interface) × (interface.path ≡ path.now)) }
+    ensures none { result ≡ None → interface.path ≡ path.now → ⊥ }
 {
-    if face.path.as_str() == path {
-        return Some(face);
+    if interface.path.as_str() == path {
+        return Some(interface);
     }
     None
 }
 
-/// The interface of an export text; None where the text spells none, or one of another path.
-fn read_face(alloc: Global, pair: &(Text, Bytes)) -> Result<Option<ConstInterface>, NoMemory>
-    ensures { IfOk result (λ read. MatchOption read ((i : ConstInterface) → IsFaceOf pair.now i → ⊥) (λ i. IsFaceOf pair.now i)) }
+/// The interface of an export text; None where the text spells none, or one of another path. Its types are in the table.
+#[tactic(auto, using(type_texts::proofs::GrowLaws::grown_itself))]
+fn read_face(
+    alloc: Global,
+    table: &mut TypeTable,
+    pair: &(Text, Bytes),
+) -> Result<Option<Interface>, NoMemory>
+    requires table { IsTable table.old }
+    ensures grown { Grown table.old table.new }
+    ensures is { IfOk result (λ read. MatchOption read ((f : Face) → IsFaceOf pair.now f → ⊥) (λ i. IsFaceOf pair.now (face_of (types_in table.new) i))) }
+    ensures within { IfOk result (λ read. IfSome read (λ i. IsInterfaceIn (count table.new) (types_in table.new) i)) }
 {
-    let read = read_consts(alloc, pair.1.as_slice())?;
+    let read = read(alloc, table, pair.1.as_slice())?;
     match read {
-        Some(face) => Ok(keep_path(pair.0.as_str(), face)),
+        Some(interface) => Ok(keep_path(pair.0.as_str(), interface)),
         None => Ok(None),
     }
 }
 
-/// The interfaces of some export texts; None where one has none.
+/// The interfaces of some export texts, with their types in the table; None where one has none.
+#[tactic(auto, using(type_texts::proofs::GrowLaws::grown_itself))]
 pub(crate) fn read_env(
     alloc: Global,
+    table: &mut TypeTable,
     env: &[(Text, Bytes)],
-) -> Result<Option<Vec<ConstInterface>>, NoMemory>
-    ensures { IfOk result (λ read. MatchOption read ((faces : Env) → AreInterfaces env.now faces → ⊥) (λ faces. AreInterfaces env.now faces.items)) }
+) -> Result<Option<Vec<Interface>>, NoMemory>
+    requires table { IsTable table.old }
+    ensures grown { Grown table.old table.new }
+    ensures is { IfOk result (λ read. MatchOption read ((faces : Env) → AreInterfaces env.now faces → ⊥) (λ list. AreInterfaces env.now (faces_of (types_in table.new) list.items))) }
+    ensures within { IfOk result (λ read. IfSome read (λ list. AreInterfacesIn (count table.new) (types_in table.new) list.items)) }
 {
-    let mut faces = Vec::new(alloc);
+    let mut list = Vec::new(alloc);
     for pair in env {
-        let read = read_face(alloc, pair)?;
+        let read = read_face(alloc, table, pair)?;
         match read {
-            Some(face) => faces.push(face)?,
+            Some(interface) => list.push(interface)?,
             None => return Ok(None),
         }
     }
-    Ok(Some(faces))
+    Ok(Some(list))
 }

@@ -1,5 +1,5 @@
 //! The trees of a package's files.
-ghost use Rattle.std.specs.Prelude.{◌≡◌, ◌≤◌, ◌^◌, List, ℕ, All, length, map, IfOk, IfSome, MatchOption, Some, None};
+ghost use Rattle.std.specs.Prelude.{◌≡◌, ◌≤◌, ◌^◌, List, length, map, IfOk, IfSome, MatchOption, Some, None};
 ghost use Rattle.go_tree.specs.declared.tree.FileTree.{FileTree};
 ghost use Rattle.parse_file.specs.Verdict.{IsVerdict};
 ghost use Rattle.action_graph.specs.Judging.{text_of};
@@ -23,7 +23,8 @@ fn keep_small(tree: FileTree) -> Option<FileTree>
 
 /// The tree of a text with this verdict, if it has one.
 fn small_tree(text: &[u8], verdict: FileVerdict) -> Option<FileTree>
-    requires { IsVerdict text.now verdict }
+    requires verdict { IsVerdict text.now verdict }
+    requires short { IsShort text.now }
     ensures { MatchOption result ((tree : FileTree) → IsFileOf text.now tree → ⊥) (λ tree. IsFileOf text.now tree) }
 {
     match verdict {
@@ -36,7 +37,7 @@ fn small_tree(text: &[u8], verdict: FileVerdict) -> Option<FileTree>
 
 /// The tree of a text. None where it has more than 2^24 bytes, doesn't parse, or has too many nodes.
 fn read_file(alloc: Global, text: &[u8]) -> Result<Option<FileTree>, NoMemory>
-    ensures { IfOk result (λ read. MatchOption read ((tree : FileTree) → IsShort text.now → IsFileOf text.now tree → ⊥) (λ tree. IsFileOf text.now tree)) }
+    ensures { IfOk result (λ read. MatchOption read ((tree : FileTree) → IsFileOf text.now tree → ⊥) (λ tree. IsFileOf text.now tree)) }
 {
     if text.len() > 1 << 24 {
         return Ok(None);
@@ -51,7 +52,7 @@ pub(crate) fn read_files(
     files: &[(Text, Bytes)],
 ) -> Result<Option<Vec<FileTree>>, NoMemory>
     ensures { IfOk result (λ read. MatchOption read
-        ((trees : List FileTree) → All IsShort (map text_of files.now) → AreFilesOf (map text_of files.now) trees → ⊥)
+        ((trees : List FileTree) → AreFilesOf (map text_of files.now) trees → ⊥)
         (λ trees. AreFilesOf (map text_of files.now) trees.items)) }
 {
     let mut trees = Vec::new(alloc);

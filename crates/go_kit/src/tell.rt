@@ -1,23 +1,33 @@
 //! What a load answers of a package.
-ghost use Rattle.std.specs.Prelude.{◌≡◌, ◌<◌, ◌^◌, All, true, false, [], map, length, slice_index_or, Err, IfOk, IsTrue};
-ghost use Rattle.export_data.specs.Order.{names_rise};
-ghost use Rattle.export_data.specs.Spelling.{has_constants};
+ghost use Rattle.std.specs.Prelude.{◌≡◌, ◌<◌, ◌^◌, ℕ, List, true, false, [], map, length, slice_index_or, Contains, Err, IfOk, None};
 ghost use Rattle.bind.specs.Answers.{AreSpelled, AreSmall};
+ghost use Rattle.export_text.specs.Faces.{IsFace};
+ghost use Rattle.face_table.specs.Fitting.{given};
 ghost use Rattle.go_rules.specs.Stages.{rule};
+ghost use Rattle.package_faces.specs.Faces.{Face};
+ghost use Rattle.package_faces.specs.Interfaces.{face_of, faces_of, AreInterfacesIn, IsInterfaceIn};
+ghost use Rattle.type_model.specs.declared.term.TypeName.{TypeName as AName};
+ghost use Rattle.type_model.specs.Tables.{IsTable, count, declarations_in, types_in};
+ghost use Rattle.typed_tree.specs.Basics.{HasBasics};
+ghost use Rattle.unit_read.specs.Index.{found};
 ghost use Rattle.check_pkg.specs.declared.judging.Outcome.TheVariants as outcome;
-ghost use Rattle.check_pkg.specs.Checks.{IsOutcomeOf as Comes};
 ghost use Rattle.check_pkg.specs.Packages.{package_of, package_name, text_of};
-ghost use Rattle.action_graph.specs.Judging.{Tells, fault_line, interface_of, line_of, load_text};
+ghost use Rattle.action_graph.specs.Judging.{AllKnown, HasNothing, Tells, fault_line, line_of, load_text};
 ghost use Rattle.action_graph.specs.Judging.Judged.{Accepts, Refuses};
-ghost use Rattle.go_kit.specs.Reading.{TellsOf};
+ghost use Rattle.go_kit.specs.Reading.{IsSeenOf, Stands, TellsOf};
 
 use action_graph::{Load, MarkLine, Unloaded, write_marks};
 use check_pkg::{Checked, Fault, Outcome, Refusal, check, limit_number};
-use export_data::{ConstInterface, ConstOut, export_consts};
+use export_text::{gather, mentions, write};
 use go_rules::GoRules;
 use go_tree::{FileTree, token_text};
-use gv_base::{Bytes, NoMemory, Place, Text};
+use gv_base::{Bytes, NoMemory, Place, Row, Text};
+use gv_bytes::Unread;
+use package_faces::Interface;
 use std::alloc::Global;
+use std::collections::HashMap;
+use type_model::TypeTable;
+use unit_read::{find, path_index};
 
 /// The line of a fault at a place.
 fn fault_line(at: Place, fault: Fault) -> MarkLine
@@ -85,23 +95,6 @@ fn package_name<'a>(files: &'a [(Text, Bytes)], trees: &[FileTree]) -> &'a [u8]
     token_text(first_text(files), token)
 }
 
-/// The answer that accepts a package, with what it exports. A file that parses is UTF-8, and its name is a token
-/// of it, and so a text; a name that is none would be answered as want of memory.
-fn accept(alloc: Global, path: &str, name: &[u8], list: &[ConstOut]) -> Result<Load<()>, NoMemory>
-    requires rise { IsTrue (names_rise list.now) }
-    requires kinds { All (λ out. has_constants out.kind ≡ true) list.now }
-    ensures { IfOk result (λ load. Tells (Accepts (record { path = path.now; name = name.now; list = list.now })) (load_text load)) }
-{
-    let Ok(name) = std::str::from_utf8(name) else {
-        return Err(NoMemory);
-    };
-    let export = export_consts(alloc, path, name, list)?;
-    Ok(Load::Accepted {
-        loaded: (),
-        export: Bytes::new(export),
-    })
-}
-
 fn are_none(refused: &[Refusal]) -> bool
     ensures none { result ≡ true → refused.now ≡ [] }
     ensures some { result ≡ false → refused.now ≡ [] → ⊥ }
@@ -112,47 +105,124 @@ fn are_none(refused: &[Refusal]) -> bool
     }
 }
 
+/// Whether each of these paths has a place.
+fn are_known(places: &HashMap<&[u8], usize>, paths: &[Text]) -> bool
+    ensures known { result ≡ true → (path : List ℕ) → Contains paths.now path → found places.now path ≡ None → ⊥ }
+    ensures unknown { result ≡ false → (path : List ℕ) × Contains paths.now path × (found places.now path ≡ None) }
+{
+    for path in paths {
+        if find(places, path.as_str().as_bytes()).is_none() {
+            return false;
+        }
+    }
+    true
+}
+
+/// The answer that accepts a package, with what is seen of it. It can't be told where it has no text, or mentions a package that has no place.
+fn tell_seen(
+    alloc: Global,
+    table: &TypeTable,
+    seen: &Interface,
+    places: &HashMap<&[u8], usize>,
+) -> Result<Load<()>, Unloaded>
+    requires table { IsTable table.now }
+    requires within { IsInterfaceIn (count table.now) (types_in table.now) seen.now }
+    ensures told { IfOk result (λ load. IsFace (face_of (types_in table.now) seen.now) × AllKnown (λ q. found places.now q) (face_of (types_in table.now) seen.now) × Tells (Accepts (face_of (types_in table.now) seen.now)) (load_text load)) }
+    ensures untold { result ≡ Err Unloaded.Stuck → IsFace (face_of (types_in table.now) seen.now) → AllKnown (λ q. found places.now q) (face_of (types_in table.now) seen.now) → ⊥ }
+{
+    let paths = mentions(alloc, table, seen)?;
+    if !are_known(places, &paths) {
+        return Err(Unloaded::Stuck);
+    }
+    let text = write(alloc, table, seen)?;
+    match text {
+        Some(text) => Ok(Load::Accepted {
+            loaded: (),
+            export: Bytes::new(text),
+        }),
+        None => Err(Unloaded::Stuck),
+    }
+}
+
+/// The answer for a package that nothing refuses. A file that parses is UTF-8, and the package's name is a token of it, and so a text; a name
+/// that is none would be answered as want of memory.
+fn accept(
+    alloc: Global,
+    path: &str,
+    name: &[u8],
+    places: &HashMap<&[u8], usize>,
+    checked: Checked,
+) -> Result<Load<()>, Unloaded>
+    requires stands { Stands path.now checked }
+    ensures told { IfOk result (λ load. (f : Face) × IsSeenOf path.now name.now (λ q. found places.now q) checked f × Tells (Accepts f) (load_text load)) }
+    ensures untold { result ≡ Err Unloaded.Stuck → (f : Face) → IsSeenOf path.now name.now (λ q. found places.now q) checked f → ⊥ }
+{
+    let Ok(name) = std::str::from_utf8(name) else {
+        return Err(Unloaded::NoMemory);
+    };
+    let path = Text::of(alloc, path)?;
+    let name = Text::of(alloc, name)?;
+    let table = checked.table;
+    let objects = Row::new(checked.exports);
+    match gather(alloc, &table, path, name, objects) {
+        Ok(seen) => {
+            let load = tell_seen(alloc, &table, &seen, places)?;
+            Ok(load)
+        }
+        Err(Unread::Unspelled) => Err(Unloaded::Stuck),
+        Err(Unread::Memory) => Err(Unloaded::NoMemory),
+    }
+}
+
 /// The answer for a package of this path, of which this was found.
 fn told(
     alloc: Global,
     path: &str,
     files: &[(Text, Bytes)],
     trees: &[FileTree],
-    checked: &Checked,
-) -> Result<Load<()>, NoMemory>
-    requires rise { checked.now.refused.items ≡ [] → IsTrue (names_rise checked.now.exports.items) }
-    requires kinds { checked.now.refused.items ≡ [] → All (λ out. has_constants out.kind ≡ true) checked.now.exports.items }
-    ensures accepted { IfOk result (λ load. checked.now.refused.items ≡ [] → Tells (Accepts (interface_of (package_of path.now files.now trees.now) checked.now)) (load_text load)) }
-    ensures refused { IfOk result (λ load. (checked.now.refused.items ≡ [] → ⊥) → Tells (Refuses (map line_of checked.now.refused.items)) (load_text load)) }
+    places: &HashMap<&[u8], usize>,
+    checked: Checked,
+) -> Result<Load<()>, Unloaded>
+    requires stands { checked.refused.items ≡ [] → Stands path.now checked }
+    ensures accepted { IfOk result (λ load. checked.refused.items ≡ [] → (f : Face) × IsSeenOf path.now (package_name (package_of path.now files.now trees.now)) (λ q. found places.now q) checked f × Tells (Accepts f) (load_text load)) }
+    ensures refused { IfOk result (λ load. (checked.refused.items ≡ [] → ⊥) → Tells (Refuses (map line_of checked.refused.items)) (load_text load)) }
+    ensures none { result ≡ Err Unloaded.Stuck → checked.refused.items ≡ [] }
+    ensures untold { result ≡ Err Unloaded.Stuck → (f : Face) → IsSeenOf path.now (package_name (package_of path.now files.now trees.now)) (λ q. found places.now q) checked f → ⊥ }
 {
     if !are_none(&checked.refused) {
         let load = refuse(alloc, &checked.refused)?;
         return Ok(load);
     }
-    let load = accept(alloc, path, package_name(files, trees), &checked.exports)?;
+    let load = accept(alloc, path, package_name(files, trees), places, checked)?;
     Ok(load)
 }
 
-/// The answer for a package of this path, by its files, their trees and the interfaces of the packages that it imports.
+/// The answer for a package of this path, by its files and their trees, over the interfaces of other packages, whose types are declared in the
+/// table.
 pub(crate) fn judge(
     alloc: Global,
     path: &str,
     files: &[(Text, Bytes)],
     trees: &[FileTree],
-    env: &[ConstInterface],
+    table: TypeTable,
+    env: &[Interface],
 ) -> Result<Load<()>, Unloaded>
     requires spelled { AreSpelled trees.now files.now }
     requires small { AreSmall trees.now }
     requires few { length trees.now < 2 ^ 32 }
-    ensures told { IfOk result (λ load. TellsOf (package_of path.now files.now trees.now) env.now (load_text load)) }
-    ensures circle { result ≡ Err Unloaded.Circle → Comes rule (package_of path.now files.now trees.now) env.now outcome.Circle }
+    requires basics { HasBasics table }
+    requires within { AreInterfacesIn (count table) (types_in table) env.now }
+    requires base { (name : AName) → declarations_in table name ≡ given path.now (faces_of (types_in table) env.now) name }
+    ensures told { IfOk result (λ load. TellsOf (package_of path.now files.now trees.now) (faces_of (types_in table) env.now) (load_text load)) }
+    ensures circle { result ≡ Err Unloaded.Stuck → HasNothing (package_of path.now files.now trees.now) (faces_of (types_in table) env.now) }
 {
-    let outcome = check(alloc, &GoRules, path.as_bytes(), files, trees, env)?;
+    let places = path_index(alloc, env)?;
+    let outcome = check(alloc, &GoRules, path.as_bytes(), files, trees, table, env)?;
     match outcome {
         Outcome::Checked(checked) => {
-            let load = told(alloc, path, files, trees, &checked)?;
+            let load = told(alloc, path, files, trees, &places, checked)?;
             Ok(load)
         }
-        Outcome::Circle => Err(Unloaded::Circle),
+        Outcome::Circle => Err(Unloaded::Stuck),
     }
 }

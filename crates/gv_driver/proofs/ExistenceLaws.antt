@@ -2,9 +2,9 @@
 use Rattle.std.proofs.Common.{◌≡◌, ℕ, zero, suc, ◌+◌, ◌<◌, ◌≤◌, ◌⊎◌, inl, inr, Bool, true, false, if◌then◌else◌, Option, Some, None, List, [], ◌∷◌, ◌++◌, length, map, slice_get, refl, sym, ap, ◌∙◌, subst, arith}
 use Rattle.std.specs.List.{Contains}
 use Rattle.std.proofs.lemmas.List.{length-append, length-map}
+use Rattle.std.proofs.lemmas.List.Elements.{Contains-append_left, Contains-push, Contains-push_cases}
 use Rattle.std.proofs.lemmas.Option.{same_Some, slice_get_within}
-use Rattle.export_data.specs.declared.constants.ConstInterface.{ConstInterface}
-use Rattle.export_data.specs.Spelling.{IsSpelled}
+use Rattle.package_faces.specs.Faces.{Face}
 use Rattle.action_graph.specs.declared.kit.LoadInput.{LoadInput}
 use Rattle.action_graph.specs.Nodes.{Named}
 use Rattle.action_graph.specs.Judging.{Judged, Env, Judges, IsOutcomeOf, Tells}
@@ -16,14 +16,17 @@ use Rattle.gv_driver.specs.declared.tree.PackageTexts.{PackageTexts}
 use Rattle.gv_driver.specs.declared.reply.Verdict.{Verdict}
 use Rattle.gv_driver.specs.declared.reply.Verdict.TheVariants as verdict
 use Rattle.gv_driver.specs.Trees.{IsTree}
-use Rattle.gv_driver.specs.Whole.{Checked}
+use Rattle.gv_driver.specs.Whole.{AreRising, IsEnv, Checked}
 use Rattle.gv_driver.specs.Whole.Checked.{checked}
 use Rattle.gv_driver.specs.Loads.{AreExports, IsExport, IsLoadOf, IsInput, IsPlan, load_input}
 use Rattle.gv_driver.specs.Caches.{IsHonest, IsRight, IsCacheAfter, missing_of, is_cached, input_of}
 use Rattle.gv_driver.specs.Reports.{HasVerdict, IsReport}
 use Rattle.gv_driver.specs.Existence.{AllHaveOutcomes, HasRun}
-use Rattle.gv_driver.proofs.Places.{element, at-contained, contains-head, contains-tail, get-push_cases, get-unmapped, get-mapped}
-use Rattle.gv_driver.proofs.WholeLaws.{same_pack, unique, judged-of, load-lawful, unique-input}
+use Rattle.gv_driver.proofs.Places.{element, at-contained, contains-head, contains-tail, cons-cases, nothing-contained, get-push_cases, get-unmapped, get-mapped}
+use Rattle.gv_driver.proofs.RowLemmas.{less-or-last, rising-push}
+use Rattle.gv_driver.proofs.AroundLaws.{IsNearby, reach-low, row-env}
+use Rattle.gv_driver.proofs.LawfulLaws.{load-lawful}
+use Rattle.gv_driver.proofs.WholeLaws.{same_pack, opened, shown, unique, judged-of, unique-input}
 
 -- what holds or doesn't can't be denied
 either : {A : Type 0} → ((A ⊎ (A → ⊥)) → ⊥) → ⊥
@@ -33,68 +36,113 @@ either k = k (inr (λ a. k (inl a)))
 
 -- a package is accepted
 abbrev IsAccepted : List PackageTexts → ℕ → Type 0
-IsAccepted tree q = (i : ConstInterface) × Checked tree q (Accepts i)
+IsAccepted tree q = (i : Face) × Checked tree q (Accepts i)
 
 -- these aren't without export texts
-abbrev HaveTexts : List PackageTexts → List ℕ → Type 0
-HaveTexts tree ns = ((pairs : List Named) → AreExports tree ns pairs → ⊥) → ⊥
+abbrev HaveTexts : List PackageTexts → List ℕ → Env → Type 0
+HaveTexts tree ns faces = ((pairs : List Named) → AreExports tree ns faces pairs → ⊥) → ⊥
 
-no-texts : (tree : List PackageTexts) → AreExports tree [] []
-no-texts tree = record { size = refl; each = λ k q x here there. absurd (let l : k < 0 = slice_get_within [] k q here in omega (arith, l)) }
+no-texts : (tree : List PackageTexts) → AreExports tree [] [] []
+no-texts tree = record { size = refl; each = λ k q f x here seen there. absurd (let l : k < 0 = slice_get_within [] k q here in omega (arith, l)) }
 
-text-more : (tree : List PackageTexts) (n : ℕ) (x : Named) (ns : List ℕ) (pairs : List Named) → IsExport tree n x → AreExports tree ns pairs → AreExports tree (n ∷ ns) (x ∷ pairs)
-text-more tree n x ns pairs one more = record { size = ap suc more.size; each = λ k q y here there. at k q y here there }
+text-more : (tree : List PackageTexts) (n : ℕ) (g : Face) (x : Named) (ns : List ℕ) (faces : Env) (pairs : List Named) → IsExport tree n g x → AreExports tree ns faces pairs → AreExports tree (n ∷ ns) (g ∷ faces) (x ∷ pairs)
+text-more tree n g x ns faces pairs one more = record { size = ap suc more.size; each = λ k q f y here seen there. at k q f y here seen there }
   where
-    at : (k q : ℕ) (y : Named) → slice_get (n ∷ ns) k ≡ Some q → slice_get (x ∷ pairs) k ≡ Some y → IsExport tree q y
-    at zero q y here there = subst (λ (m : ℕ). IsExport tree m y) (same_Some n q here) (subst (IsExport tree n) (same_Some x y there) one)
-    at (suc k) q y here there = more.each k q y here there
+    at : (k q : ℕ) (f : Face) (y : Named) → slice_get (n ∷ ns) k ≡ Some q → slice_get (g ∷ faces) k ≡ Some f → slice_get (x ∷ pairs) k ≡ Some y → IsExport tree q f y
+    at zero q f y here seen there =
+        subst (λ (m : ℕ). IsExport tree m f y) (same_Some n q here) (subst (λ (h : Face). IsExport tree n h y) (same_Some g f seen) (subst (IsExport tree n g) (same_Some x y there) one))
+    at (suc k) q f y here seen there = more.each k q f y here seen there
 
-texts-of : (tree : List PackageTexts) (ns : List ℕ) → ((k q : ℕ) → slice_get ns k ≡ Some q → ((x : Named) → IsExport tree q x → ⊥) → ⊥) → HaveTexts tree ns
-texts-of tree [] each none = none [] (no-texts tree)
-texts-of tree (n ∷ ns) each none =
-    each 0 n refl (λ x one. texts-of tree ns (λ k q at. each (suc k) q at) (λ pairs more. none (x ∷ pairs) (text-more tree n x ns pairs one more)))
+texts-of : (tree : List PackageTexts) (ns : List ℕ) (faces : Env) → length faces ≡ length ns
+    → ((k q : ℕ) (f : Face) → slice_get ns k ≡ Some q → slice_get faces k ≡ Some f → ((x : Named) → IsExport tree q f x → ⊥) → ⊥) → HaveTexts tree ns faces
+texts-of tree [] [] size each none = none [] (no-texts tree)
+texts-of tree [] (g ∷ faces) size each none = absurd (omega (arith, size))
+texts-of tree (n ∷ ns) [] size each none = absurd (omega (arith, size))
+texts-of tree (n ∷ ns) (g ∷ faces) size each none =
+    each 0 n g refl refl (λ x one. texts-of tree ns faces (omega (arith, size)) (λ k q f at seen. each (suc k) q f at seen) (λ pairs more. none (x ∷ pairs) (text-more tree n g x ns faces pairs one more)))
+
+-- the numbers below one that have a property aren't without a row
+filtered : (P : ℕ → Type 0) (n : ℕ) → ((row : List ℕ) → AreRising row → ((q : ℕ) → Contains row q → (q < n) × P q) → ((q : ℕ) → q < n → P q → Contains row q) → ⊥) → ⊥
+filtered P zero k = k [] (λ i j q r less at there. cc) (λ q c. absurd (nothing-contained q c)) (λ q low has. absurd (omega (arith, low)))
+filtered P (suc n) k = filtered P n (λ row rising from to. either (λ (cases : P n ⊎ (P n → ⊥)). elim cases [
+  | inl has ↦ k (row ++ n ∷ []) (rising-push row n rising (λ q c. (from q c).0)) (λ q c. elim (Contains-push_cases row n q c) [
+    | inl was ↦ (let low = (from q was).0 in omega (arith, low), (from q was).1)
+    | inr e ↦ (omega (arith, e), subst P e has)
+  ]) (λ q low mine. elim (less-or-last q n low) [
+    | inl l ↦ Contains-append_left row (n ∷ []) q (to q l mine)
+    | inr e ↦ subst (λ (m : ℕ). Contains (row ++ n ∷ []) m) (sym e) (Contains-push row n)
+  ])
+  | inr never ↦ k row rising (λ q c. (let low = (from q c).0 in omega (arith, low), (from q c).1)) (λ q low mine. elim (less-or-last q n low) [
+    | inl l ↦ to q l mine
+    | inr e ↦ absurd (never (subst P e mine))
+  ])
+]))
 
 abbrev load-with : PackageTexts → List Named → LoadInput
 load-with pack pairs = record { path = pack.path; files = pack.files; env = pairs }
 
-is-load : (tree : List PackageTexts) (p : ℕ) (pack : PackageTexts) (pairs : List Named) → slice_get tree p ≡ Some pack → pack.sound ≡ true → AreExports tree pack.imports pairs → IsLoadOf tree p (load-with pack pairs)
-is-load tree p pack pairs at sound are = record { pack = pack; at = at; sound = sound; path = refl; files = refl; env = are }
+is-load : (tree : List PackageTexts) (p : ℕ) (pack : PackageTexts) (numbers : List ℕ) (faces : Env) (pairs : List Named) → slice_get tree p ≡ Some pack → pack.sound ≡ true → IsEnv tree p numbers faces
+    → AreExports tree numbers faces pairs → IsLoadOf tree p (load-with pack pairs)
+is-load tree p pack numbers faces pairs at sound are texts = record { pack = pack; at = at; sound = sound; path = refl; files = refl; numbers = numbers; faces = faces; are = are; env = texts }
 
 module _ (outcomes : AllHaveOutcomes) (tree : List PackageTexts) (formed : IsTree tree) where
-  told-text : (p : ℕ) (pack : PackageTexts) (i : ConstInterface) (v : Judged) (text : List ℕ) → slice_get tree p ≡ Some pack → Checked tree p (Accepts i) → Accepts i ≡ v → Tells v text → (x : Named) × IsExport tree p x
-  told-text p pack i v text at good same told =
+  told-text : (p : ℕ) (pack : PackageTexts) (i : Face) (v : Judged) (text : List ℕ) → slice_get tree p ≡ Some pack → Accepts i ≡ v → Tells v text → (x : Named) × IsExport tree p i x
+  told-text p pack i v text at same told =
       let export = subst (λ (w : Judged). Tells w text) (sym same) told in
-      ((pack.path, export.0), record { other = pack; face = i; at = at; path = refl; good = good; spelled = export.1 })
+      ((pack.path, export.0), record { other = pack; at = at; path = refl; spelled = export.1 })
 
-  abbrev HasText : ℕ → Type 0
-  HasText q = ((x : Named) → IsExport tree q x → ⊥) → ⊥
+  abbrev HasText : ℕ → Face → Type 0
+  HasText q f = ((x : Named) → IsExport tree q f x → ⊥) → ⊥
 
-  text-with : (p : ℕ) (pack : PackageTexts) (i : ConstInterface) → slice_get tree p ≡ Some pack → pack.sound ≡ true → Checked tree p (Accepts i) → ((k q : ℕ) → slice_get pack.imports k ≡ Some q → HasText q) → HasText p
-  text-with p pack i at sound good texts none =
-      texts-of tree pack.imports texts (λ pairs are.
-      let of = is-load tree p pack pairs at sound are in
+  text-with : (p : ℕ) (pack : PackageTexts) (i : Face) (numbers : List ℕ) (faces : Env) → slice_get tree p ≡ Some pack → pack.sound ≡ true → IsEnv tree p numbers faces → Checked tree p (Accepts i)
+      → ((k q : ℕ) (f : Face) → slice_get numbers k ≡ Some q → slice_get faces k ≡ Some f → HasText q f) → HasText p i
+  text-with p pack i numbers faces at sound is good texts none =
+      texts-of tree numbers faces is.around.size texts (λ pairs are.
+      let of = is-load tree p pack numbers faces pairs at sound is are in
       outcomes (load-with pack pairs) (load-lawful tree p (load-with pack pairs) formed of) (λ text outcome.
       let judged = judged-of tree p (load-with pack pairs) text of outcome in
-      let x = told-text p pack i judged.0 text at good (unique tree p (Accepts i) judged.0 good judged.1) judged.2 in
+      let x = told-text p pack i judged.0 text at (unique tree p (Accepts i) judged.0 good judged.1) judged.2 in
       none x.0 x.1))
 
   -- an accepted package isn't without an export text
-  has-text : (p : ℕ) (v : Judged) → Checked tree p v → (i : ConstInterface) → v ≡ Accepts i → HasText p
-  has-text _ _ (checked p pack env v at sound size each judges) i is =
-      text-with p pack i at sound (subst (Checked tree p) is (checked p pack env v at sound size each judges)) (λ k q here.
-      let face = element env k (let l : k < length pack.imports = slice_get_within pack.imports k q here in omega (arith, l, size)) in
-      has-text q (Accepts face.0) (each k q face.0 here face.1) face.0 refl)
+  has-text : (p : ℕ) (v : Judged) → Checked tree p v → (i : Face) → v ≡ Accepts i → HasText p i
+  has-text _ _ (checked p pack numbers env v at sound around good judges) i is =
+      text-with p pack i numbers env at sound (record { around = around; good = good }) (subst (Checked tree p) is (checked p pack numbers env v at sound around good judges))
+      (λ k q f here seen. has-text q (Accepts f) (good q f (k, here, seen)) f refl)
 
-  -- a package is blocked by one that isn't accepted, or all of them have export texts
-  blocked-or : (ns : List ℕ) → ((((q : ℕ) × Contains ns q × ((i : ConstInterface) → Checked tree q (Accepts i) → ⊥)) ⊎ ((pairs : List Named) × AreExports tree ns pairs)) → ⊥) → ⊥
-  blocked-or [] k = k (inr ([], no-texts tree))
-  blocked-or (n ∷ ns) k = blocked-or ns (λ (cases : ((q : ℕ) × Contains ns q × ((i : ConstInterface) → Checked tree q (Accepts i) → ⊥)) ⊎ ((pairs : List Named) × AreExports tree ns pairs)). elim cases [
+  abbrev AreAccepted : List ℕ → Type 0
+  AreAccepted ns = (q : ℕ) → Contains ns q → IsAccepted tree q
+
+  abbrev HasBlocked : List ℕ → Type 0
+  HasBlocked ns = (q : ℕ) × Contains ns q × ((i : Face) → Checked tree q (Accepts i) → ⊥)
+
+  -- one of them isn't accepted, or all of them are
+  blocked-or : (ns : List ℕ) → ((HasBlocked ns ⊎ AreAccepted ns) → ⊥) → ⊥
+  blocked-or [] k = k (inr (λ q c. absurd (nothing-contained q c)))
+  blocked-or (n ∷ ns) k = blocked-or ns (λ (cases : HasBlocked ns ⊎ AreAccepted ns). elim cases [
     | inl b ↦ k (inl (b.0, contains-tail n b.0 ns b.1, b.2))
-    | inr ps ↦ either (λ (known : IsAccepted tree n ⊎ (IsAccepted tree n → ⊥)). elim known [
-      | inl good ↦ has-text n (Accepts good.0) good.1 good.0 refl (λ x one. k (inr (x ∷ ps.0, text-more tree n x ns ps.0 one ps.1)))
+    | inr all ↦ either (λ (known : IsAccepted tree n ⊎ (IsAccepted tree n → ⊥)). elim known [
+      | inl good ↦ k (inr (λ q c. elim (cons-cases n q ns c) [
+        | inl e ↦ subst (IsAccepted tree) e good
+        | inr there ↦ all q there
+      ]))
       | inr never ↦ k (inl (n, contains-head n ns, λ i c. never (i, c)))
     ])
   ])
+
+  near-low : (imports : List ℕ) (q : ℕ) → IsNearby tree imports q → q < length tree
+  near-low imports q n = elim n.4 [
+    | inl e ↦ (let o = opened tree n.0 (Accepts n.1) n.3 in subst (λ (m : ℕ). m < length tree) e (slice_get_within tree n.0 o.pack o.at))
+    | inr r ↦ reach-low tree q n.1 r
+  ]
+
+  -- a package whose imports are accepted isn't without a load
+  loads : (p : ℕ) (pack : PackageTexts) → slice_get tree p ≡ Some pack → pack.sound ≡ true → AreAccepted pack.imports → ((load : LoadInput) → IsLoadOf tree p load → ⊥) → ⊥
+  loads p pack at sound good none =
+      filtered (IsNearby tree pack.imports) (length tree) (λ row rising from to.
+      let env = row-env tree formed p pack at good row rising (λ q c. (from q c).1) (λ q n. to q (near-low pack.imports q n) n) in
+      texts-of tree row env.0 env.1.around.size (λ k q f here seen. has-text q (Accepts f) (env.1.good q f (k, here, seen)) f refl) (λ pairs are.
+      none (load-with pack pairs) (is-load tree p pack row env.0 pairs at sound env.1 are)))
 
   -- ---- one package
 
@@ -145,26 +193,21 @@ module _ (outcomes : AllHaveOutcomes) (tree : List PackageTexts) (formed : IsTre
           cc
 
       -- a blocked package has no load
-      stopped : (q : ℕ) → Contains pack.imports q → ((i : ConstInterface) → Checked tree q (Accepts i) → ⊥) → (t : Input) → IsInput tree p t → ⊥
+      stopped : (q : ℕ) → Contains pack.imports q → ((i : Face) → Checked tree q (Accepts i) → ⊥) → (t : Input) → IsInput tree p t → ⊥
       stopped q has never t is =
-          let same : is.of.pack ≡ pack = same_pack tree p is.of.pack pack is.of.at at in
-          let c : Contains is.of.pack.imports q = subst (λ (x : PackageTexts). Contains x.imports q) (sym same) has in
-          let size : length is.load.env ≡ length is.of.pack.imports = is.of.env.size in
-          let low : c.0 < length is.of.pack.imports = c.1 in
-          let x = element is.load.env c.0 (omega (arith, size, low)) in
-          let ex = is.of.env.each c.0 q x.0 (at-contained is.of.pack.imports q c) x.1 in
-          never ex.face ex.good
+          let i = shown is.of.numbers is.of.faces q is.of.are.around.size (is.of.are.around.imports q (pack, at, has)) in
+          never i.0 (is.of.are.good q i.0 i.1)
 
       by : (b : Bool) → pack.sound ≡ b → ⊥
       by false never = k (unloaded p verdict.Faulty (pack, at, never) (unsound never))
       by true sound =
-          blocked-or pack.imports (λ (cases : ((q : ℕ) × Contains pack.imports q × ((i : ConstInterface) → Checked tree q (Accepts i) → ⊥)) ⊎ ((pairs : List Named) × AreExports tree pack.imports pairs)). elim cases [
+          blocked-or pack.imports (λ (cases : HasBlocked pack.imports ⊎ AreAccepted pack.imports). elim cases [
             | inl b ↦ k (unloaded p verdict.Blocked (pack, at, sound, (b.0, b.1, b.2)) (stopped b.0 b.1 b.2))
-            | inr ps ↦ (let of = is-load tree p pack ps.0 at sound ps.1 in
-                let lawful = load-lawful tree p (load-with pack ps.0) formed of in
-                outcomes (load-with pack ps.0) lawful (λ text outcome.
-                let judged = judged-of tree p (load-with pack ps.0) text of outcome in
-                k (loaded p (load-with pack ps.0) text of judged.0 judged.1 (record { load = load-with pack ps.0; is = refl; lawful = lawful; outcome = outcome }))))
+            | inr good ↦ loads p pack at sound good (λ load of.
+                let lawful = load-lawful tree p load formed of in
+                outcomes load lawful (λ text outcome.
+                let judged = judged-of tree p load text of outcome in
+                k (loaded p load text of judged.0 judged.1 (record { load = load; is = refl; lawful = lawful; outcome = outcome }))))
           ])
 
   -- ---- all packages

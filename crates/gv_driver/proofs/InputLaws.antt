@@ -24,7 +24,7 @@ choose-at : {X Y : Type 0} (P : ℕ → X → Y → Type 0) (x : X) (y : Y) (xs 
 choose-at P x y xs ys first rest zero a b h g = subst (λ z. P 0 z b) (same_Some x a h) (subst (λ z. P 0 x z) (same_Some y b g) first)
 choose-at P x y xs ys first rest (suc p) a b h g = rest p a b h g
 
-choose : {X Y : Type 0} (P : ℕ → X → Y → Type 0) (xs : List X) → ((p : ℕ) (x : X) → slice_get xs p ≡ Some x → (y : Y) × P p x y)
+pub choose : {X Y : Type 0} (P : ℕ → X → Y → Type 0) (xs : List X) → ((p : ℕ) (x : X) → slice_get xs p ≡ Some x → (y : Y) × P p x y)
     → (ys : List Y) × (length ys ≡ length xs) × ((p : ℕ) (x : X) (y : Y) → slice_get xs p ≡ Some x → slice_get ys p ≡ Some y → P p x y)
 choose P [] f = ([], refl, λ p x y h g. cc)
 choose P (x ∷ xs) f =

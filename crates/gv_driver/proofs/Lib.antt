@@ -1,5 +1,12 @@
 pub mod Places
+mod RowLemmas
 pub mod WholeLaws
+mod MeetLaws
+mod FitLaws
+pub mod LawfulLaws
+mod EnvLaws
+mod AroundLaws
+mod ReachLaws
 mod CacheLaws
 mod TableLaws
 mod StepLaws
@@ -11,3 +18,4 @@ pub mod RunLaws
 pub mod OnceLaws
 mod PerformLaws
 pub mod ExistenceLaws
+mod BelowLaws

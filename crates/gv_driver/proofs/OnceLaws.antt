@@ -1,7 +1,7 @@
 -- A tree has one report, and a run leaves one cache.
 use Rattle.std.proofs.Common.{◌≡◌, ℕ, ◌<◌, true, Option, Some, List, [], ◌∷◌, ◌++◌, length, slice_get, map, refl, sym, ap, ◌∙◌, subst, arith}
 use Rattle.std.specs.List.{Contains}
-use Rattle.export_data.specs.declared.constants.ConstInterface.{ConstInterface}
+use Rattle.package_faces.specs.Faces.{Face}
 use Rattle.action_graph.specs.declared.marks.MarkLine.{MarkLine}
 use Rattle.action_graph.specs.Judging.{Judged, IsOutcomeOf}
 use Rattle.action_graph.specs.Judging.Judged.{Accepts, Refuses}
@@ -16,26 +16,23 @@ use Rattle.gv_driver.specs.Whole.{Checked}
 use Rattle.gv_driver.specs.Whole.Checked.{checked}
 use Rattle.gv_driver.specs.Caches.{IsHonest, IsCacheAfter, input_of}
 use Rattle.gv_driver.specs.Reports.{HasVerdict, IsReport}
-use Rattle.gv_driver.proofs.Places.{element, same-list, at-contained}
+use Rattle.gv_driver.proofs.Places.{element, same-list}
 use Rattle.gv_driver.proofs.CacheLaws.{honest-append, honest_trimmed, trimmed_is_within}
-use Rattle.gv_driver.proofs.WholeLaws.{same_pack, unique}
+use Rattle.gv_driver.proofs.WholeLaws.{same_pack, shown, unique}
 
 -- what a finding tells of the package
 record Found (tree : List PackageTexts) (p : ℕ) : Type 0 where
   pack : PackageTexts
   at : slice_get tree p ≡ Some pack
   sound : pack.sound ≡ true
-  accepted : (q : ℕ) → Contains pack.imports q → (i : ConstInterface) × Checked tree q (Accepts i)
+  accepted : (q : ℕ) → Contains pack.imports q → (i : Face) × Checked tree q (Accepts i)
 
 found-of : (tree : List PackageTexts) (p : ℕ) (v : Judged) → Checked tree p v → Found tree p
-found-of tree _ _ (checked p pack env v at sound size each judges) = record {
+found-of tree _ _ (checked p pack numbers env v at sound around good judges) = record {
   pack = pack;
   at = at;
   sound = sound;
-  accepted = λ q c.
-      let l : c.0 < length pack.imports = c.1 in
-      let i = element env c.0 (omega (arith, l, size)) in
-      (i.0, each c.0 q i.0 (at-contained pack.imports q c) i.1);
+  accepted = λ q c. (let i = shown numbers env q around.size (around.imports q (pack, at, c)) in (i.0, good q i.0 i.1));
 }
 
 faulty-found : (tree : List PackageTexts) (p : ℕ) (v : Judged) → HasVerdict tree p verdict.Faulty → Checked tree p v → ⊥

@@ -3,7 +3,7 @@ use Rattle.std.proofs.Common.{◌≡◌, ℕ, ◌<◌, ◌+◌, ◌⊎◌, inl, 
 use Rattle.std.specs.List.{Contains}
 use Rattle.std.proofs.lemmas.Option.{same_Some, slice_get_within}
 use Rattle.std.proofs.lemmas.List.Elements.{Contains-get_or}
-use Rattle.export_data.specs.declared.constants.ConstInterface.{ConstInterface}
+use Rattle.package_faces.specs.Faces.{Face}
 use Rattle.action_graph.specs.declared.marks.MarkLine.{MarkLine}
 use Rattle.action_graph.specs.Nodes.{Named}
 use Rattle.action_graph.specs.Judging.{Judged, Env, Judges, Tells}
@@ -49,7 +49,7 @@ refuses-stand path files env lines judges = λ k d l.
     record { file = s.0; offset = s.1 }
 
 stands-with : (tree : List PackageTexts) (p : ℕ) (j : Judged) (lines : List MarkLine) → Checked tree p j → j ≡ Refuses lines → (pack : PackageTexts) → slice_get tree p ≡ Some pack → AllStand pack.files lines
-stands-with tree _ _ lines (checked p own env judged at sound size each judges) e pack here =
+stands-with tree _ _ lines (checked p own numbers env judged at sound around good judges) e pack here =
     subst (λ (x : PackageTexts). AllStand x.files lines) (same_pack tree p own pack at here)
     (refuses-stand own.path own.files env lines (subst (λ (w : Judged). Judges own.path own.files env w) e judges))
 
@@ -65,7 +65,7 @@ answer-right tree p pack (answer.Refused text) j v at is tells shown =
     let good : Checked tree p (Refuses shown.0) = subst (λ (l : List MarkLine). Checked tree p (Refuses l)) (sym same) found in
     subst (λ (x : Verdict). HasVerdict tree p x) (sym shown.1) good
 
-not-good : (tree : List PackageTexts) (table : List (Option Node)) → AreRight tree table → ((p : ℕ) → IsReady tree table p → ⊥) → (q : ℕ) (i : ConstInterface) → accepted_in (slice_get table q) ≡ false → Checked tree q (Accepts i) → ⊥
+not-good : (tree : List PackageTexts) (table : List (Option Node)) → AreRight tree table → ((p : ℕ) → IsReady tree table p → ⊥) → (q : ℕ) (i : Face) → accepted_in (slice_get table q) ≡ false → Checked tree q (Accepts i) → ⊥
 not-good tree table right none q i h is = let good : accepted_in (slice_get table q) ≡ true = accepted-good tree table right none q i is in cc
 
 verdict-right : (tree : List PackageTexts) (table : List (Option Node)) (p : ℕ) (pack : PackageTexts) (b : Bool) (o : Option Node) (v : Verdict) → AreRight tree table → ((p : ℕ) → IsReady tree table p → ⊥)

@@ -11,10 +11,11 @@ use Rattle.gv_driver.specs.declared.tree.PackageTexts.{PackageTexts}
 use Rattle.gv_driver.specs.declared.node.Node.{Node}
 use Rattle.gv_driver.specs.Trees.{Imports}
 use Rattle.gv_driver.specs.Caches.{IsHonest}
-use Rattle.gv_driver.specs.Tables.{accepted_in, IsGood, IsRightNode, AreRight, IsLookedUp, IsTable, IsReady, executed, cost, waiting, weight, fresh_in}
+use Rattle.gv_driver.specs.Tables.{IsRightNode, AreRight, AreRows, IsLookedUp, IsTable, IsReady, executed, cost, waiting, weight, fresh_in}
 use Rattle.gv_driver.specs.Runs.{Performs, Goes}
-use Rattle.gv_driver.proofs.Places.{get-set_cases, get-set_other}
+use Rattle.gv_driver.proofs.Places.{get-set_cases}
 use Rattle.gv_driver.proofs.WholeLaws.{same_pack}
+use Rattle.gv_driver.proofs.ReachLaws.{good-kept}
 
 executed-set : (table : List (Option Node)) (p : ℕ) (n : Node) → slice_get table p ≡ Some None → executed (set table p (Some n)) ≡ executed table + cost n.fresh
 executed-set table p n h =
@@ -35,14 +36,6 @@ waiting-set table p n h =
 pub cost-le : (o : Option Input) → cost o ≤ 1
 cost-le None = omega arith
 cost-le (Some i) = omega arith
-
--- what is accepted isn't waiting
-good-other : (table : List (Option Node)) (p q : ℕ) → slice_get table p ≡ Some None → IsGood table q → q ≡ p → ⊥
-good-other table p q waits ok e =
-    let at : accepted_in (slice_get table q) ≡ false = ap accepted_in (ap (λ n. slice_get table n) e ∙ waits) in cc
-
-good-kept : (table : List (Option Node)) (p q : ℕ) (n : Node) → slice_get table p ≡ Some None → IsGood table q → IsGood (set table p (Some n)) q
-good-kept table p q n waits ok = ap accepted_in (get-set_other table p q (Some n) (good-other table p q waits ok)) ∙ ok
 
 imports-in : (tree : List PackageTexts) (p q : ℕ) (pack : PackageTexts) → slice_get tree p ≡ Some pack → Imports tree p q → Contains pack.imports q
 imports-in tree p q pack at (other, h, c) = subst (λ (x : PackageTexts). Contains x.imports q) (same_pack tree p other pack h at) c
@@ -121,6 +114,10 @@ table-none tree before table e = rw e (record {
   looked = λ p n h. absurd (no-node (length tree) p n h);
   right = λ honest. record { size = length-none (length tree); node = λ p n h. absurd (no-node (length tree) p n h) };
 })
+
+-- nor are there rows
+pub rows-none : (tree : List PackageTexts) (before : List Entry) (table : List (Option Node)) → table ≡ replicate (length tree) None → AreRows tree before table
+rows-none tree before table e = rw e (record { good = λ p n h. absurd (no-node (length tree) p n h); reached = λ honest p n f h. absurd (no-node (length tree) p n h) })
 
 waiting-replicate : (n : ℕ) → waiting (replicate n None) ≡ n
 waiting-replicate zero = refl

@@ -1,11 +1,10 @@
 -- What the table's nodes tell of the tree.
 use Rattle.std.proofs.Common.{◌≡◌, ℕ, ◌<◌, true, Option, Some, None, List, [], ◌∷◌, ◌++◌, length, slice_get, map, refl, sym, ap, ◌∙◌, subst, arith}
 use Rattle.std.specs.List.{Contains}
-use Rattle.std.proofs.lemmas.Option.{same_Some, slice_get_within}
-use Rattle.std.proofs.lemmas.List.{length-map}
-use Rattle.export_data.specs.declared.constants.ConstInterface.{ConstInterface}
-use Rattle.export_data.specs.Spelling.{IsSpelled}
-use Rattle.action_graph.specs.Nodes.{Named, pairs}
+use Rattle.std.proofs.lemmas.Option.{slice_get_within}
+use Rattle.package_faces.specs.Faces.{Face}
+use Rattle.export_text.specs.Faces.{IsFaceText}
+use Rattle.action_graph.specs.Nodes.{pairs}
 use Rattle.action_graph.specs.declared.kit.LoadInput.{LoadInput}
 use Rattle.action_graph.specs.Judging.{Judged, Tells}
 use Rattle.action_graph.specs.Judging.Judged.{Accepts, Refuses}
@@ -17,19 +16,20 @@ use Rattle.gv_driver.specs.declared.node.Answer.TheVariants.{Accepted, Refused}
 use Rattle.gv_driver.specs.declared.node.Node.{Node}
 use Rattle.gv_driver.specs.Whole.{Checked}
 use Rattle.gv_driver.specs.Whole.Checked.{checked}
-use Rattle.gv_driver.specs.Loads.{IsExport, IsInput, IsLoadOf, load_input}
+use Rattle.gv_driver.specs.Loads.{IsInput, IsLoadOf, load_input}
+use Rattle.gv_driver.specs.Rows.{merged}
 use Rattle.gv_driver.specs.Caches.{IsRight}
-use Rattle.gv_driver.specs.Tables.{answer_text, answer_in, is_good, export_part, accepted_in, IsGood, path_in, export_in, pair_at, load_from, IsRightNode, AreRight, IsKeyOf, IsReady}
+use Rattle.gv_driver.specs.Tables.{answer_text, answer_in, is_good, export_part, accepted_in, IsGood, pair_at, load_from, IsRightNode, AreRight, IsKeyOf, IsReady}
 use Rattle.gv_driver.specs.Runs.{entry_of}
-use Rattle.gv_driver.proofs.Places.{element, get-mapped, contains-at, at-contained}
-use Rattle.gv_driver.proofs.WholeLaws.{same_pack, unique, unique-input, judged-of}
+use Rattle.gv_driver.proofs.Places.{element}
+use Rattle.gv_driver.proofs.WholeLaws.{same_pack, shown, unique, unique-input, judged-of}
 
 -- the answer that is read from an outcome text has that text
 pub read-again : (judged : Judged) (text : List ℕ) → Tells judged text → answer_text (answer_in text) ≡ text
 read-again (Accepts i) text (e, s, h) = subst (λ (t : List ℕ). answer_text (answer_in t) ≡ t) (sym h) refl
 read-again (Refuses list) text (e, s, h) = subst (λ (t : List ℕ). answer_text (answer_in t) ≡ t) (sym h) refl
 
-pub answer-good : (a : Answer) (i : ConstInterface) → Tells (Accepts i) (answer_text a) → is_good a ≡ true
+pub answer-good : (a : Answer) (i : Face) → Tells (Accepts i) (answer_text a) → is_good a ≡ true
 answer-good (Accepted export) i t = refl
 answer-good (Refused marks) i t = let r = tells_refused (Accepts i) marks t in let e : Accepts i ≡ Refuses r.0 = r.1 in cc
 
@@ -43,11 +43,11 @@ node-tells tree table q n v right at is =
 pub record GoodNode (tree : List PackageTexts) (table : List (Option Node)) (q : ℕ) : Type 0 where
   pub node : Node
   pub other : PackageTexts
-  pub face : ConstInterface
+  pub face : Face
   pub at : slice_get table q ≡ Some (Some node)
   pub other_at : slice_get tree q ≡ Some other
   pub good : Checked tree q (Accepts face)
-  pub spelled : IsSpelled face (export_part node.answer)
+  pub spelled : IsFaceText face (export_part node.answer)
 
 good-case : (tree : List PackageTexts) (table : List (Option Node)) (q : ℕ) (n : Node) (other : PackageTexts) (a : Answer) (v : Judged) → n.answer ≡ a → slice_get table q ≡ Some (Some n) → slice_get tree q ≡ Some other
     → Checked tree q v → Tells v (answer_text a) → is_good a ≡ true → GoodNode tree table q
@@ -60,7 +60,7 @@ good-case tree table q n other (Accepted export) v is at other_at good tells yes
       at = at;
       other_at = other_at;
       good = subst (λ (w : Judged). Checked tree q w) t.1 good;
-      spelled = subst (λ (b : Answer). IsSpelled t.0 (export_part b)) (sym is) t.2;
+      spelled = subst (λ (b : Answer). IsFaceText t.0 (export_part b)) (sym is) t.2;
     }
 good-case tree table q n other (Refused marks) v is at other_at good tells yes_it = cc
 
@@ -75,39 +75,11 @@ good-at tree table q (Some (Some n)) right at a =
 pub good-node : (tree : List PackageTexts) (table : List (Option Node)) (q : ℕ) → AreRight tree table → IsGood table q → GoodNode tree table q
 good-node tree table q right a = good-at tree table q (slice_get table q) right refl a
 
--- what a ready package's load is made of is its load
-pub ready-load : (tree : List PackageTexts) (table : List (Option Node)) (p : ℕ) (pack : PackageTexts) → AreRight tree table → slice_get tree p ≡ Some pack → IsReady tree table p → IsLoadOf tree p (load_from tree table pack)
-ready-load tree table p pack right at ready =
-    let same : ready.pack ≡ pack = same_pack tree p ready.pack pack ready.at at in
-    record {
-      pack = pack;
-      at = at;
-      sound = ap (λ (k : PackageTexts). k.sound) (sym same) ∙ ready.sound;
-      path = refl;
-      files = refl;
-      env = record { size = length-map pack.imports (pair_at tree table); each = export-at };
-    }
-  where
-    export-at : (k q : ℕ) (x : Named) → slice_get pack.imports k ≡ Some q → slice_get (map (pair_at tree table) pack.imports) k ≡ Some x → IsExport tree q x
-    export-at k q x a b =
-        let same : ready.pack ≡ pack = same_pack tree p ready.pack pack ready.at at in
-        let c : Contains ready.pack.imports q = subst (λ (z : PackageTexts). Contains z.imports q) (sym same) (contains-at pack.imports k q a) in
-        let g = good-node tree table q right (ready.accepted q c) in
-        let is : pair_at tree table q ≡ x = same_Some (pair_at tree table q) x (sym (get-mapped (pair_at tree table) pack.imports k q a) ∙ b) in
-        subst (λ (y : Named). IsExport tree q y) is (record {
-          other = g.other;
-          face = g.face;
-          at = g.other_at;
-          path = ap path_in g.other_at;
-          good = g.good;
-          spelled = subst (λ (o : Option (Option Node)). IsSpelled g.face (export_in o)) (sym g.at) g.spelled;
-        })
-
 -- the key of a package's load begins with its path
 pub load-key : (tree : List PackageTexts) (table : List (Option Node)) (p : ℕ) (pack : PackageTexts) → slice_get tree p ≡ Some pack → IsKeyOf tree p (load_input (load_from tree table pack))
 load-key tree table p pack at = record {
   pack = pack;
-  rest = pairs pack.files ++ [] ∷ pairs (map (pair_at tree table) pack.imports);
+  rest = pairs pack.files ++ [] ∷ pairs (map (pair_at tree table) (merged table pack.imports));
   at = at;
   node = refl;
   texts = refl;
@@ -128,21 +100,19 @@ settled tree table size none p pack at sound all =
     done-case tree table p (slice_get table p) refl within
     (λ waits. none p (record { pack = pack; at = at; waits = waits; sound = sound; accepted = all }))
 
-good-is : (tree : List PackageTexts) (table : List (Option Node)) (q : ℕ) (n : Node) (i : ConstInterface) → AreRight tree table → slice_get table q ≡ Some (Some n) → Checked tree q (Accepts i) → IsGood table q
+good-is : (tree : List PackageTexts) (table : List (Option Node)) (q : ℕ) (n : Node) (i : Face) → AreRight tree table → slice_get table q ≡ Some (Some n) → Checked tree q (Accepts i) → IsGood table q
 good-is tree table q n i right at is = ap accepted_in at ∙ answer-good n.answer i (node-tells tree table q n (Accepts i) right at is)
 
 -- where nothing is ready, each package of which something comes is done
 pub complete : (tree : List PackageTexts) (table : List (Option Node)) → AreRight tree table → ((p : ℕ) → IsReady tree table p → ⊥) → (p : ℕ) (v : Judged) → Checked tree p v
     → (n : Node) × (slice_get table p ≡ Some (Some n))
-complete tree table right none _ _ (checked p pack env v at sound size each judges) =
-    let all : (q : ℕ) → Contains pack.imports q → IsGood table q = λ q c.
-    let within : c.0 < length env = (let l : c.0 < length pack.imports = c.1 in omega (arith, l, size)) in
-    let i = element env c.0 within in
-    let n = complete tree table right none q (Accepts i.0) (each c.0 q i.0 (at-contained pack.imports q c) i.1) in
-    good-is tree table q n.0 i.0 right n.1 (each c.0 q i.0 (at-contained pack.imports q c) i.1) in
-    settled tree table right.size none p pack at sound all
+complete tree table right none _ _ (checked p pack numbers env v at sound around good judges) =
+    settled tree table right.size none p pack at sound (λ q c.
+    let i = shown numbers env q around.size (around.imports q (pack, at, c)) in
+    let n = complete tree table right none q (Accepts i.0) (good q i.0 i.1) in
+    good-is tree table q n.0 i.0 right n.1 (good q i.0 i.1))
 
-pub accepted-good : (tree : List PackageTexts) (table : List (Option Node)) → AreRight tree table → ((p : ℕ) → IsReady tree table p → ⊥) → (q : ℕ) (i : ConstInterface) → Checked tree q (Accepts i) → IsGood table q
+pub accepted-good : (tree : List PackageTexts) (table : List (Option Node)) → AreRight tree table → ((p : ℕ) → IsReady tree table p → ⊥) → (q : ℕ) (i : Face) → Checked tree q (Accepts i) → IsGood table q
 accepted-good tree table right none q i is =
     let n = complete tree table right none q (Accepts i) is in
     good-is tree table q n.0 i right n.1 is
@@ -152,12 +122,8 @@ pub load-done : (tree : List PackageTexts) (table : List (Option Node)) → AreR
     → (n : Node) × (slice_get table p ≡ Some (Some n))
 load-done tree table right none p load is =
     settled tree table right.size none p is.pack is.at is.sound (λ q c.
-    let at = at-contained is.pack.imports q c in
-    let size : length load.env ≡ length is.pack.imports = is.env.size in
-    let l : c.0 < length is.pack.imports = c.1 in
-    let x = element load.env c.0 (omega (arith, l, size)) in
-    let ex = is.env.each c.0 q x.0 at x.1 in
-    accepted-good tree table right none q ex.face ex.good)
+    let i = shown is.numbers is.faces q is.are.around.size (is.are.around.imports q (is.pack, is.at, c)) in
+    accepted-good tree table right none q i.0 (is.are.good q i.0 i.1))
 
 -- the entry of a right node is right
 pub node-entry : (tree : List PackageTexts) (p : ℕ) (n : Node) (i : Input) → IsRightNode tree p n → IsInput tree p i → IsRight (entry_of i n.answer)

@@ -1,5 +1,6 @@
 pub mod Trees
 pub mod Whole
+pub mod Rows
 pub mod Loads
 pub mod Caches
 pub mod Tables
@@ -7,3 +8,4 @@ pub mod Standing
 pub mod Reports
 pub mod Runs
 pub mod Existence
+pub mod Below

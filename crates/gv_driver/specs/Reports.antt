@@ -1,7 +1,7 @@
 -- The verdict of each package of a tree, from its sources.
 use Rattle.std.specs.Prelude.{◌≡◌, ℕ, Bool, true, false, Option, Some, None, List, length, slice_get}
 use Rattle.std.specs.List.{Contains}
-use Rattle.export_data.specs.declared.constants.ConstInterface.{ConstInterface}
+use Rattle.package_faces.specs.Faces.{Face}
 use Rattle.action_graph.specs.declared.marks.MarkLine.{MarkLine}
 use Rattle.action_graph.specs.Marks.{AreSpelled}
 use Rattle.action_graph.specs.Nodes.{Named}
@@ -19,9 +19,9 @@ use Rattle.gv_driver.specs.Whole.{Checked}
 abbrev pub HasVerdict : List PackageTexts → ℕ → Verdict → Type 0
 HasVerdict tree p verdict.Faulty = (pack : PackageTexts) × (slice_get tree p ≡ Some pack) × (pack.sound ≡ false)
 HasVerdict tree p verdict.Blocked = (pack : PackageTexts) × (slice_get tree p ≡ Some pack) × (pack.sound ≡ true)
-    × ((q : ℕ) × Contains pack.imports q × ((i : ConstInterface) → Checked tree q (Accepts i) → ⊥))
+    × ((q : ℕ) × Contains pack.imports q × ((i : Face) → Checked tree q (Accepts i) → ⊥))
 HasVerdict tree p (verdict.Refused marks) = Checked tree p (Refuses marks)
-HasVerdict tree p verdict.Accepted = (i : ConstInterface) × Checked tree p (Accepts i)
+HasVerdict tree p verdict.Accepted = (i : Face) × Checked tree p (Accepts i)
 
 -- the verdicts of all packages
 pub record IsReport (tree : List PackageTexts) (verdicts : List Verdict) : Type 0 where

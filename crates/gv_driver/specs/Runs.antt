@@ -9,11 +9,17 @@ use Rattle.gv_driver.specs.declared.tree.PackageTexts.{PackageTexts}
 use Rattle.gv_driver.specs.declared.node.Answer.{Answer}
 use Rattle.gv_driver.specs.declared.node.Node.{Node}
 use Rattle.gv_driver.specs.declared.reply.Judgement.{Judgement}
-use Rattle.gv_driver.specs.Whole.{AreFaces}
+use Rattle.gv_driver.specs.Whole.{HasEnv}
 use Rattle.gv_driver.specs.Loads.{IsPlan}
 use Rattle.gv_driver.specs.Caches.{IsHonest, IsRight, IsCacheAfter, IsPartKept, missing_of, is_cached, input_of}
 use Rattle.gv_driver.specs.Tables.{IsTable, IsReady, IsLookedUp, IsRightNode, answer_text, cost, waiting, executed, fresh_inputs}
 use Rattle.gv_driver.specs.Reports.{IsReport}
+
+-- this node is put into the table, but for its row
+pub record IsPut (table next : List (Option Node)) (p : ℕ) (node : Node) (put : Node) : Type 0 where
+  pub is : next ≡ slice_set table p (Some put)
+  pub fresh : put.fresh ≡ node.fresh
+  pub answer : put.answer ≡ node.answer
 
 -- p's node is put into the table
 pub record Performs (tree : List PackageTexts) (before : List Entry) (p : ℕ) (table next : List (Option Node)) (count now : ℕ) : Type 0 where
@@ -86,7 +92,7 @@ pub record IsCutOff (tree : List PackageTexts) (before after : List Entry) (coun
   pub loads : (inputs : List (Option Input)) → IsPlan tree inputs → now ≤ count + length (missing_of before inputs)
   pub cache : (inputs : List (Option Input)) → IsPlan tree inputs → IsPartKept before after inputs
 
--- A circle: some sound package is stuck over what a run had of its imports. Over an honest cache that is their interfaces, as they come of the tree.
+-- A circle: some sound package is stuck over what a run had of its imports. Over an honest cache that is what is seen of its environment, as it comes of the tree.
 pub record MeetsCircle (tree : List PackageTexts) (before : List Entry) : Type 0 where
   pub p : ℕ
   pub pack : PackageTexts
@@ -94,4 +100,4 @@ pub record MeetsCircle (tree : List PackageTexts) (before : List Entry) : Type 0
   pub at : slice_get tree p ≡ Some pack
   pub sound : pack.sound ≡ true
   pub stuck : IsStuckOver pack.path pack.files env
-  pub faces : IsHonest before → AreFaces tree pack.imports env
+  pub faces : IsHonest before → HasEnv tree p env

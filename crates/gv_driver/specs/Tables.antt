@@ -1,9 +1,13 @@
 -- The table of what is done, and what can be done next.
-use Rattle.std.specs.Prelude.{◌≡◌, ℕ, ◌==◌, Bool, true, false, Option, Some, None, List, [], ◌∷◌, map, drop, length, slice_get, sum_by, if◌then◌else◌}
+use Rattle.std.specs.Prelude.{◌≡◌, ℕ, ◌==◌, Bool, true, false, Option, Some, None, List, [], ◌∷◌, map, drop, length, slice_get, sum_by, if◌then◌else◌, ◌↔◌}
 use Rattle.std.specs.List.{Contains}
+use Rattle.export_text.specs.Faces.{IsFaceText}
+use Rattle.export_text.specs.Mentions.{AreMentions}
+use Rattle.package_faces.specs.Faces.{Face}
 use Rattle.action_graph.specs.declared.kit.LoadInput.{LoadInput}
 use Rattle.action_graph.specs.Nodes.{Named}
 use Rattle.action_graph.specs.Judging.{IsLawful, IsOutcome, accepted_text, refused_text}
+use Rattle.action_graph.specs.Judging.Judged.{Accepts}
 use Rattle.fact_cache.specs.declared.texts.Input.{Input}
 use Rattle.fact_cache.specs.declared.list.Entry.{Entry}
 use Rattle.gv_driver.specs.declared.tree.PackageTexts.{PackageTexts}
@@ -11,6 +15,8 @@ use Rattle.gv_driver.specs.declared.node.Answer.{Answer}
 use Rattle.gv_driver.specs.declared.node.Answer.TheVariants.{Accepted, Refused}
 use Rattle.gv_driver.specs.declared.node.Node.{Node}
 use Rattle.gv_driver.specs.Trees.{Imports}
+use Rattle.gv_driver.specs.Rows.{merged, of_paths, path_in}
+use Rattle.gv_driver.specs.Whole.{Checked, Reaches}
 use Rattle.gv_driver.specs.Loads.{IsInput, IsLoadOf, load_input}
 use Rattle.gv_driver.specs.Caches.{IsHonest, left_of}
 
@@ -48,10 +54,6 @@ accepted_in (Some node) = accepted_one node
 abbrev pub IsGood : List (Option Node) → ℕ → Type 0
 IsGood table q = accepted_in (slice_get table q) ≡ true
 
-abbrev pub path_in : Option PackageTexts → List ℕ
-path_in None = []
-path_in (Some pack) = pack.path
-
 abbrev pub export_in : Option (Option Node) → List ℕ
 export_in None = []
 export_in (Some None) = []
@@ -61,9 +63,13 @@ export_in (Some (Some n)) = export_part n.answer
 abbrev pub pair_at : List PackageTexts → List (Option Node) → ℕ → Named
 pair_at tree table q = (path_in (slice_get tree q), export_in (slice_get table q))
 
+-- what a load over these packages reads, as far as it is known
+abbrev pub load_over : List PackageTexts → List (Option Node) → List ℕ → PackageTexts → LoadInput
+load_over tree table numbers pack = record { path = pack.path; files = pack.files; env = map (pair_at tree table) numbers }
+
 -- what a load reads, as far as it is known
 abbrev pub load_from : List PackageTexts → List (Option Node) → PackageTexts → LoadInput
-load_from tree table pack = record { path = pack.path; files = pack.files; env = map (pair_at tree table) pack.imports }
+load_from tree table pack = load_over tree table (merged table pack.imports) pack
 
 -- p's node, with what comes of its load
 pub record IsRightNode (tree : List PackageTexts) (p : ℕ) (n : Node) : Type 0 where
@@ -103,6 +109,19 @@ pub record IsTable (tree : List PackageTexts) (before : List Entry) (table : Lis
 -- each of these is done and accepted
 abbrev pub AreGood : List (Option Node) → List ℕ → Type 0
 AreGood table numbers = (q : ℕ) → Contains numbers q → IsGood table q
+
+-- The rows of a table, of what is reached from each accepted package: over any cache they hold packages that are done and accepted; over an
+-- honest one exactly those that are reached.
+pub record AreRows (tree : List PackageTexts) (before : List Entry) (table : List (Option Node)) : Type 0 where
+  pub good : (p : ℕ) (n : Node) → slice_get table p ≡ Some (Some n) → AreGood table n.reach
+  pub reached : IsHonest before → (p : ℕ) (n : Node) (f : Face) → slice_get table p ≡ Some (Some n) → Checked tree p (Accepts f) → (r : ℕ) → Contains n.reach r ↔ Reaches tree r f
+
+-- The row of a package with this export text: of those of its environment that the text mentions, and what is reached from these. A text
+-- that spells nothing mentions any.
+pub record IsRowOf (tree : List PackageTexts) (table : List (Option Node)) (env : List ℕ) (text : List ℕ) (row : List ℕ) : Type 0 where
+  pub paths : List (List ℕ)
+  pub told : (f : Face) → IsFaceText f text → AreMentions f paths
+  pub is : row ≡ merged table (of_paths tree paths env)
 
 -- p isn't done, and all that its load needs is
 pub record IsReady (tree : List PackageTexts) (table : List (Option Node)) (p : ℕ) : Type 0 where

@@ -44,7 +44,7 @@ fn run_with<K: Kit>(
     ensures stand { IfOk result (λ reply. AreVerdictsIn tree.now reply.verdicts) }
     ensures ran { IsHonest cache.old → IfOk result (λ reply. Ran tree.now cache.old (trimmed cache.new) (K.loads kit.old) (K.loads kit.new) reply) }
     ensures cut_off { IsHonest cache.old → OnErr result (IsCutOff tree.now cache.old (trimmed cache.new) (K.loads kit.old) (K.loads kit.new)) }
-    ensures circle { result ≡ Err Unloaded.Circle → MeetsCircle tree.now cache.old }
+    ensures circle { result ≡ Err Unloaded.Stuck → MeetsCircle tree.now cache.old }
     ensures honest { IsHonest cache.old → IsHonest cache.new }
 {
     let mut table = none_done(alloc, tree.len())?;
@@ -74,7 +74,7 @@ fn run_within<K: Kit>(
     ensures stand { IfOk result (λ reply. AreVerdictsIn tree.now reply.verdicts) }
     ensures ran { IsHonest cache.old → IfOk result (λ reply. Ran tree.now cache.old cache.new (K.loads kit.old) (K.loads kit.new) reply) }
     ensures cut_off { IsHonest cache.old → OnErr result (IsCutOff tree.now cache.old cache.new (K.loads kit.old) (K.loads kit.new)) }
-    ensures circle { result ≡ Err Unloaded.Circle → MeetsCircle tree.now cache.old }
+    ensures circle { result ≡ Err Unloaded.Stuck → MeetsCircle tree.now cache.old }
     ensures honest { IsHonest cache.old → IsHonest cache.new }
     ensures within { is_within cache.new ≡ true }
 {
@@ -104,7 +104,7 @@ pub fn run<K: Kit>(
     ensures stand { IfOk result (λ reply. AreVerdictsIn tree.now reply.verdicts) }
     ensures ran { IsHonest cache.old → IfOk result (λ reply. Ran tree.now cache.old cache.new (sum_by K.loads kits.old) (sum_by K.loads kits.new) reply) }
     ensures cut_off { IsHonest cache.old → OnErr result (IsCutOff tree.now cache.old cache.new (sum_by K.loads kits.old) (sum_by K.loads kits.new)) }
-    ensures circle { result ≡ Err Unloaded.Circle → MeetsCircle tree.now cache.old }
+    ensures circle { result ≡ Err Unloaded.Stuck → MeetsCircle tree.now cache.old }
     ensures honest { IsHonest cache.old → IsHonest cache.new }
     ensures within { is_within cache.new ≡ true }
 {

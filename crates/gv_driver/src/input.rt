@@ -1,7 +1,7 @@
 //! What a load reads.
 ghost use Rattle.std.specs.Prelude.{◌≡◌, IfOk, map};
 ghost use Rattle.gv_driver.specs.Loads.{load_input};
-ghost use Rattle.gv_driver.specs.Tables.{load_from, pair_at};
+ghost use Rattle.gv_driver.specs.Tables.{load_over, pair_at};
 
 use crate::node::Node;
 use crate::parts::{export_at, parts_of, path_at};
@@ -64,18 +64,19 @@ fn export_pairs(
     Ok(pairs)
 }
 
-/// What the load of a package reads: its path, its files, and the export texts of what it imports.
+/// What the load of a package reads: its path, its files, and the export texts of its environment.
 pub(crate) fn load_of(
     alloc: Global,
     tree: &[PackageTexts],
     table: &[Option<Node>],
+    env: &[u32],
     pack: &PackageTexts,
 ) -> Result<LoadInput, NoMemory>
-    ensures { IfOk result (λ load. load ≡ load_from tree.now table.now pack.now) }
+    ensures { IfOk result (λ load. load ≡ load_over tree.now table.now env.now pack.now) }
 {
     let path = Text::new(String::from_str(alloc, pack.path.as_str())?);
     let files = Row::new(copy_files(alloc, pack.files.as_slice())?);
-    let env = Row::new(export_pairs(alloc, tree, table, pack.imports.as_slice())?);
+    let env = Row::new(export_pairs(alloc, tree, table, env)?);
     Ok(LoadInput { path, files, env })
 }
 
@@ -94,11 +95,12 @@ pub(crate) fn key_of(
     alloc: Global,
     tree: &[PackageTexts],
     table: &[Option<Node>],
+    env: &[u32],
     pack: &PackageTexts,
 ) -> Result<Input, NoMemory>
-    ensures { IfOk result (λ key. key ≡ load_input (load_from tree.now table.now pack.now)) }
+    ensures { IfOk result (λ key. key ≡ load_input (load_over tree.now table.now env.now pack.now)) }
 {
-    let parts = parts_of(alloc, tree, table, pack)?;
+    let parts = parts_of(alloc, tree, table, env, pack)?;
     let texts = copies_of(alloc, &parts)?;
     Ok(Input {
         node: 0,

@@ -15,7 +15,7 @@ fn keep_node(alloc: Global, cache: &mut Cache, node: Node) -> Result<(), NoMemor
     ensures kept { OnOk result (cache.new ≡ kept cache.old node) }
     ensures unchanged { OnErr result (cache.new ≡ cache.old) }
 {
-    let Node { fresh, answer } = node;
+    let Node { fresh, answer, .. } = node;
     match fresh {
         None => Ok(()),
         Some(input) => {

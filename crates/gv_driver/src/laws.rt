@@ -5,11 +5,14 @@ ghost use Rattle.fact_cache.specs.declared.texts.Input.{Input};
 ghost use Rattle.fact_cache.specs.Caches.{is_within};
 ghost use Rattle.gv_driver.specs.declared.reply.Verdict.{Verdict};
 ghost use Rattle.gv_driver.specs.declared.tree.PackageTexts.{PackageTexts};
+ghost use Rattle.action_graph.specs.Judging.{Judged};
+ghost use Rattle.gv_driver.specs.Below.{FindingsStay, Typed};
 ghost use Rattle.gv_driver.specs.Caches.{IsCacheAfter, IsHonest};
 ghost use Rattle.gv_driver.specs.Existence.{AllHaveOutcomes, HasRun};
 ghost use Rattle.gv_driver.specs.Loads.{IsPlan};
 ghost use Rattle.gv_driver.specs.Reports.{IsReport};
 ghost use Rattle.gv_driver.specs.Trees.{IsTree};
+ghost use Rattle.gv_driver.specs.Whole.{Checked};
 
 /// A tree has one plan.
 pub fn one_plan()
@@ -31,4 +34,10 @@ pub fn one_cache()
 /// Where no lawful load is without an outcome, no tree is without verdicts, inputs of its loads, and a cache that a run leaves.
 pub fn a_tree_has_a_report()
     ensures { AllHaveOutcomes → (tree : List PackageTexts) → IsTree tree → (before : List Entry) → HasRun tree before }
+{}
+
+/// Where findings stay as more is seen of other packages, what is found of a package over its environment by mentions is what is found over all
+/// packages below it. That findings stay, where the package's imports and what is mentioned are known, is a law over all rules, which isn't proved.
+pub fn an_environment_is_enough()
+    ensures { FindingsStay → (tree : List PackageTexts) → IsTree tree → (p : ℕ) (judged : Judged) → Checked tree p judged → Typed tree p judged }
 {}

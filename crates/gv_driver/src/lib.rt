@@ -13,12 +13,13 @@ mod parts;
 mod ready;
 mod reply;
 mod report;
+mod rows;
 mod standing;
 mod step;
 mod tree;
 
 pub use analysis_core::Counts;
 pub use driver::run;
-pub use laws::{a_tree_has_a_report, one_cache, one_plan, one_report};
+pub use laws::{a_tree_has_a_report, an_environment_is_enough, one_cache, one_plan, one_report};
 pub use reply::{Judgement, Verdict};
 pub use tree::PackageTexts;

@@ -1,6 +1,6 @@
 //! What is known of a load in a run.
 use fact_cache::Input;
-use gv_base::Bytes;
+use gv_base::{Bytes, Row};
 
 /// What came of a load.
 #[derive(Drop)]
@@ -18,4 +18,6 @@ pub struct Node {
     pub fresh: Option<Input>,
     /// What came of it.
     pub answer: Answer,
+    /// The numbers of the packages that are reached from what is seen of it by mentions, in order.
+    pub reach: Row<u32>,
 }

@@ -3,7 +3,8 @@ ghost use Rattle.std.specs.Prelude.{◌≡◌, ◌++◌, ◌∷◌, [], IfOk, On
 ghost use Rattle.action_graph.specs.Nodes.{load_texts, pairs};
 ghost use Rattle.fact_cache.specs.Caches.{lookup};
 ghost use Rattle.gv_driver.specs.Loads.{load_input};
-ghost use Rattle.gv_driver.specs.Tables.{export_in, load_from, pair_at, path_in};
+ghost use Rattle.gv_driver.specs.Rows.{path_in};
+ghost use Rattle.gv_driver.specs.Tables.{export_in, load_over, pair_at};
 
 use crate::answer::export_of;
 use crate::node::Node;
@@ -94,15 +95,16 @@ pub(crate) fn parts_of<'a>(
     alloc: Global,
     tree: &'a [PackageTexts],
     table: &'a [Option<Node>],
+    env: &[u32],
     pack: &'a PackageTexts,
 ) -> Result<Vec<&'a [u8]>, NoMemory>
-    ensures { IfOk result (λ parts. map (λ t. t.now) parts.items ≡ load_texts (load_from tree.now table.now pack.now)) }
+    ensures { IfOk result (λ parts. map (λ t. t.now) parts.items ≡ load_texts (load_over tree.now table.now env.now pack.now)) }
 {
     let mut parts = Vec::new(alloc);
     push_part(&mut parts, pack.path.as_str().as_bytes())?;
     push_files(&mut parts, pack.files.as_slice())?;
     push_part(&mut parts, b"")?;
-    push_exports(&mut parts, tree, table, pack.imports.as_slice())?;
+    push_exports(&mut parts, tree, table, env)?;
     Ok(parts)
 }
 
@@ -118,11 +120,12 @@ pub(crate) fn cached<'a>(
     tree: &[PackageTexts],
     cache: &'a Cache,
     table: &[Option<Node>],
+    env: &[u32],
     pack: &PackageTexts,
 ) -> Result<Option<&'a [u8]>, NoMemory>
-    ensures { IfOk result (λ found. option_map (λ o. o.now) found ≡ lookup cache.now (load_input (load_from tree.now table.now pack.now))) }
+    ensures { IfOk result (λ found. option_map (λ o. o.now) found ≡ lookup cache.now (load_input (load_over tree.now table.now env.now pack.now))) }
 {
-    let parts = parts_of(alloc, tree, table, pack)?;
+    let parts = parts_of(alloc, tree, table, env, pack)?;
     let found = find(cache, &parts);
     Ok(found)
 }

@@ -4,7 +4,7 @@ use Rattle.gv_driver.specs.declared.node.Node.{Node}
 use Rattle.gv_driver.specs.declared.reply.Verdict.{Verdict}
 use Rattle.gv_driver.specs.Reports.{AreShown}
 use Rattle.gv_driver.specs.Tables.{waiting, done_in, fresh_in}
-use Rattle.gv_driver.proofs.StepLaws.{table-none, waiting-none}
+use Rattle.gv_driver.proofs.StepLaws.{rows-none, table-none, waiting-none}
 use Rattle.gv_driver.proofs.KeepLaws.{can-keep, keeping-honest}
 use Rattle.gv_driver.proofs.ReportLaws.{report-stands}
 use Rattle.gv_driver.proofs.RunLaws.{loads-bound, cut-first, cut-in_loads, cut-in_keep, ran-right}
@@ -23,6 +23,9 @@ run_loads-requires-clause-room g c =
 
 pub run_loads-requires-clause-table : goal.run_loads-requires-clause-table
 run_loads-requires-clause-table g c = table-none c.args.tree.now c.args.cache.now c.in_ok-table.table.items c.in_ok-table.ensures
+
+pub run_loads-requires-clause-rows : goal.run_loads-requires-clause-rows
+run_loads-requires-clause-rows g c = rows-none c.args.tree.now c.args.cache.now c.in_ok-table.table.items c.in_ok-table.ensures
 
 pub returns-in_err-run_loads-clause-bound : goal.returns-in_err-run_loads-clause-bound
 returns-in_err-run_loads-clause-bound g c =

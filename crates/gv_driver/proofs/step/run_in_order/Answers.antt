@@ -17,6 +17,7 @@ loop-next-preserved g c =
       goes = goes-on tree before c.args.table.now.items table next (g.K.Kit.loads c.args.kit.now) (g.K.Kit.loads c.loop-next.kit) (g.K.Kit.loads c.look.new.kit) c.loop-next.invariant.goes c.look.ensures.goes;
       passed = look-passed tree before order table next i _ c.requires.order c.look.ensures.goes.right at c.in_ok-look.ensures.looks c.loop-next.invariant.passed;
       runs = c.look.ensures.runs ∙ c.loop-next.invariant.runs;
+      rows = c.in_ok-look.ensures.rows;
     }
 
 pub returns-clause-done : goal.returns-clause-done

@@ -1,0 +1,49 @@
+-- What is told of an accepted package.
+use Rattle.std.proofs.Common.{◌≡◌, ℕ, List, Option, Some, None, slice_get, sym, ap, ◌∙◌, subst}
+use Rattle.std.specs.List.{Contains}
+use Rattle.std.proofs.lemmas.Option.{slice_get-get_or}
+use Rattle.export_text.specs.Faces.{IsFace}
+use Rattle.export_text.specs.Gathering.{CanBeExported, IsGathered}
+use Rattle.export_text.specs.Mentions.{AreMentions}
+use Rattle.export_text.proofs.GatherLaws.{exported_can, one_gathered}
+use Rattle.package_faces.specs.Faces.{ObjectOut, Face}
+use Rattle.type_model.specs.Tables.{declarations_in}
+use Rattle.check_pkg.specs.declared.judging.Checked.{Checked}
+use Rattle.action_graph.specs.Judging.{AllKnown}
+use Rattle.go_kit.specs.Reading.{IsSeenOf, objects_of}
+
+-- ---- what it mentions
+
+module _ (place : List ℕ → Option ℕ) (f : Face) (paths lent : List (List ℕ)) (are : AreMentions f paths) (same : lent ≡ paths) where
+  pub all-known : ((path : List ℕ) → Contains lent path → place path ≡ None → ⊥) → AllKnown place f
+  all-known known path mentioned none = known path (subst (λ (l : List (List ℕ)). Contains l path) (sym same) (are.all path mentioned)) none
+
+  pub not-known : (path : List ℕ) × Contains lent path × (place path ≡ None) → AllKnown place f → ⊥
+  not-known (path, has, none) known = known path (are.each path (subst (λ (l : List (List ℕ)). Contains l path) same has)) none
+
+-- no path of those that were looked up has no place
+pub known-at : (place : List ℕ → Option ℕ) (paths : List (List ℕ)) → ((k : ℕ) (path : List ℕ) → slice_get paths k ≡ Some path → place path ≡ None → ⊥)
+    → (path : List ℕ) → Contains paths path → place path ≡ None → ⊥
+known-at place paths known path has none = known has.0 path (slice_get-get_or paths has.0 path has.1 ∙ ap Some has.2) none
+
+-- ---- what is gathered
+
+module _ (path name its called : List ℕ) (outs : List ObjectOut) (place : List ℕ → Option ℕ) (c : Checked) (paths : its ≡ path) (names : called ≡ name) (objects : outs ≡ objects_of c) where
+  gathered-so : (g : Face) → IsGathered (declarations_in c.table) its called outs g → IsGathered (declarations_in c.table) path name (objects_of c) g
+  gathered-so g gathered =
+      subst (λ (os : List ObjectOut). IsGathered (declarations_in c.table) path name os g) objects
+      (subst (λ (q : List ℕ). IsGathered (declarations_in c.table) q name outs g) paths (subst (λ (n : List ℕ). IsGathered (declarations_in c.table) its n outs g) names gathered))
+
+  pub seen-of : (g : Face) → IsGathered (declarations_in c.table) its called outs g → IsFace g → AllKnown place g → IsSeenOf path name place c g
+  seen-of g gathered value known = record { export = (gathered-so g gathered).export; value = value; known = known }
+
+  -- what is gathered is seen, if anything is
+  pub none-seen : (g : Face) → IsGathered (declarations_in c.table) its called outs g → (IsFace g → AllKnown place g → ⊥) → (f : Face) → IsSeenOf path name place c f → ⊥
+  none-seen g gathered untold f seen =
+      let one : g ≡ f = one_gathered (declarations_in c.table) path name (objects_of c) g f (gathered-so g gathered) seen.export seen.value in
+      untold (subst IsFace (sym one) seen.value) (subst (λ (x : Face). AllKnown place x) (sym one) seen.known)
+
+  pub not-gathered : (CanBeExported (declarations_in c.table) its outs → ⊥) → (f : Face) → IsSeenOf path name place c f → ⊥
+  not-gathered denied f seen =
+      denied (subst (λ (os : List ObjectOut). CanBeExported (declarations_in c.table) its os) (sym objects)
+      (subst (λ (q : List ℕ). CanBeExported (declarations_in c.table) q (objects_of c)) (sym paths) (exported_can (declarations_in c.table) path name (objects_of c) f seen.export)))
