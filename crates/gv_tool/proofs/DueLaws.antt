@@ -2,11 +2,10 @@
 use Rattle.std.proofs.Common.{◌≡◌, ℕ, zero, suc, ◌-◌, List, [], ◌∷◌, ◌++◌, length, take, refl, sym, ap, ◌∙◌, arith, append_assoc, Some}
 use Rattle.std.proofs.lemmas.List.{append-nil, length-append}
 use Rattle.gv_tool.specs.declared.status.Status.{Status}
-use Rattle.gv_tool.specs.declared.status.Status.TheVariants.{Done, Found, Usage, SourceFault, SinkFault, NoMemory, Refused, TooLong, Stuck, NotBuilt, Circle}
+use Rattle.gv_tool.specs.declared.status.Status.TheVariants.{Done, Found, Usage, SourceFault, SinkFault, NoMemory, Refused, TooLong, Stuck, Circle}
 use Rattle.gv_tool.specs.Script.{ending, spelling, NoCommand}
-use Rattle.gv_tool.specs.Judging.{Tree}
 use Rattle.gv_tool.specs.Replies.{Standing}
-use Rattle.gv_tool.specs.Outcome.{limit, Reached, IsRefused, no_command, cut_short, IsUnbuilt, IsEnding, at_end, by_command, IsPastLimit, EndsBy, Outcome}
+use Rattle.gv_tool.specs.Outcome.{limit, Reached, IsRefused, no_command, cut_short, IsEnding, at_end, by_command, IsPastLimit, EndsBy, Outcome}
 use Rattle.gv_tool.specs.Headline.{IsAllDue}
 
 -- the first k bytes of two lists joined begin with the first k of the first
@@ -35,15 +34,11 @@ refused-whole n tail rest (cut_short b some w l) =
 past-whole : (n : ℕ) (tail rest : List ℕ) → IsPastLimit n tail → IsPastLimit n (tail ++ rest)
 past-whole n tail rest p = record { first = p.first; more = p.more ++ rest; parts = ap (λ z. z ++ rest) p.parts ∙ append_assoc p.first p.more rest; beginning = p.beginning; full = p.full; surplus = let s = p.surplus in simp length-append (omega arith) }
 
-pub unbuilt-whole : (tree : Tree) (n : ℕ) (tail rest : List ℕ) → IsUnbuilt tree n tail → IsUnbuilt tree n (tail ++ rest)
-unbuilt-whole tree n tail rest u = record { command = u.command; more = u.more ++ rest; lawful = u.lawful; run = u.run; spelled = ap (λ z. z ++ rest) u.spelled ∙ append_assoc (spelling u.command) u.more rest; within = u.within; unbuilt = u.unbuilt }
-
 ends-whole : (now : Standing) (n : ℕ) (tail said out rest : List ℕ) (status : Status) → IsAllDue status → EndsBy now n tail said out (Some rest) status → EndsBy now n (tail ++ rest) said out (Some []) status
 ends-whole now n tail said out rest Done a e = (e.0, ending-whole n tail rest e.1, e.2)
 ends-whole now n tail said out rest Found a e = (e.0, ending-whole n tail rest e.1, e.2)
 ends-whole now n tail said out rest Refused a e = (e.0, refused-whole n tail rest e.1)
 ends-whole now n tail said out rest TooLong a e = (e.0, past-whole n tail rest e.1)
-ends-whole now n tail said out rest NotBuilt a e = (e.0, unbuilt-whole now.tree n tail rest e.1)
 ends-whole now n tail said out rest Usage a e = absurd a
 ends-whole now n tail said out rest SourceFault a e = absurd a
 ends-whole now n tail said out rest SinkFault a e = absurd a

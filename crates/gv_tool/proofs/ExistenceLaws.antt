@@ -1,4 +1,4 @@
--- Where each tree that is built has a report, each script has a due output.
+-- Where each tree can be read and then has a report, each script has a due output.
 use Rattle.std.proofs.Common.{◌≡◌, ℕ, zero, suc, ◌+◌, ◌-◌, ◌<◌, ◌≤◌, ◌⊎◌, inl, inr, Bool, true, false, List, [], ◌∷◌, ◌++◌, length, take, drop, take-append-drop, length-take-le, length-drop, refl, sym, ap, ◌∙◌, subst, arith, append_assoc, Some}
 use Rattle.std.proofs.lemmas.Bool.{cases_lt}
 use Rattle.std.proofs.lemmas.List.{append-nil, length-append, take_all}
@@ -6,18 +6,17 @@ use Rattle.gv_base.specs.Files.{AreInOrder, put_file, del_file}
 use Rattle.gv_base.proofs.FileLemmas.{put_file-in_order, del_file-in_order}
 use Rattle.analysis_core.specs.Replies.{stats_text}
 use Rattle.gv_tool.specs.declared.status.Status.{Status}
-use Rattle.gv_tool.specs.declared.status.Status.TheVariants.{Done, Found, Refused, TooLong, NotBuilt}
+use Rattle.gv_tool.specs.declared.status.Status.TheVariants.{Done, Found, Refused, TooLong}
 use Rattle.gv_tool.specs.declared.word.Word.{Word}
 use Rattle.gv_tool.specs.declared.word.Word.TheVariants.{Put, Del, Check, Stats, End}
 use Rattle.gv_tool.specs.Words.{text_of, shape_of}
-use Rattle.gv_tool.specs.Script.{Fields, bare, at_path, with_file, Fit, field_text, Command, ending, spelling, IsLawful, IsBeginning, NoCommand}
-use Rattle.gv_tool.specs.Judging.{IsBuilt}
-use Rattle.gv_tool.specs.Replies.{Standing, at_start, with_tree, Does, Answered}
-use Rattle.gv_tool.specs.Outcome.{limit, refusal, not_built, Reached, IsRefused, no_command, cut_short, IsUnbuilt, IsEnding, at_end, by_command, IsPastLimit, EndsBy, Outcome}
-use Rattle.gv_tool.specs.Headline.{IsAllDue, Due}
-use Rattle.gv_tool.specs.Existence.{AllHaveReports, HasDue}
+use Rattle.gv_tool.specs.Script.{Fields, bare, at_path, with_file, Fit, field_text, Command, spelling, IsLawful, IsBeginning, NoCommand}
+use Rattle.gv_tool.specs.Replies.{Standing, at_start, with_tree, Does}
+use Rattle.gv_tool.specs.Outcome.{limit, refusal, Reached, IsRefused, no_command, cut_short, IsEnding, at_end, by_command, EndsBy, Outcome}
+use Rattle.gv_tool.specs.Headline.{IsAllDue}
+use Rattle.gv_tool.specs.Existence.{AllCanBeRead, AllHaveReports, HasDue}
 use Rattle.gv_tool.proofs.DueLaws.{take-joined}
-use Rattle.gv_tool.proofs.Steps.{Answered-next, Answered-none}
+use Rattle.gv_tool.proofs.Steps.{Answered-next}
 
 -- what holds or doesn't can't be denied
 either : {A : Type 0} → ((A ⊎ (A → ⊥)) → ⊥) → ⊥
@@ -79,7 +78,7 @@ record BeginsOne (rest : List ℕ) : Type 0 where
   lawful : IsLawful first
   spelled : rest ≡ spelling first ++ more
 
-module _ (given : List ℕ) (none : (out : List ℕ) (status : Status) → IsAllDue status → Outcome at_start given out (Some []) status → ⊥) (reports : AllHaveReports) where
+module _ (given : List ℕ) (none : (out : List ℕ) (status : Status) → IsAllDue status → Outcome at_start given out (Some []) status → ⊥) (reports : AllHaveReports) (readings : AllCanBeRead) where
   -- a session doesn't end here by itself
   module _ (now : Standing) (read rest said : List ℕ) (r : Reached at_start now given read rest said) where
     ends : (out : List ℕ) (status : Status) → IsAllDue status → EndsBy now (length read) rest said out (Some []) status → ⊥
@@ -178,13 +177,9 @@ module _ (given : List ℕ) (none : (out : List ℕ) (status : Status) → IsAll
         })
 
     runs : (more : List ℕ) → rest ≡ spelling (command Check bare) ++ more → length read + length (spelling (command Check bare)) ≤ limit → ⊥
-    runs more is within = either (λ (cases : IsBuilt now.tree ⊎ (IsBuilt now.tree → ⊥)). elim cases [
-      | inl built ↦ reports now.tree ordered now.cache built (λ after report told. on (command Check bare) more
-          (record { tree = now.tree; found = report.found; cache = after; counts = report.counts; loads = now.loads + report.counts.loads }) report.text tt is within
-          (record { report = report; reports = told; text = refl; found = refl; counts = refl; loads = refl; tree = refl }) ordered)
-      | inr never ↦ ends now read rest said r (said ++ not_built (length read)) NotBuilt tt
-          (refl, record { command = command Check bare; more = more; lawful = tt; run = refl; spelled = is; within = within; unbuilt = never })
-    ])
+    runs more is within = readings now.tree ordered (λ read-of. reports now.tree ordered now.cache read-of (λ after report told. on (command Check bare) more
+        (record { tree = now.tree; found = report.found; cache = after; counts = report.counts; loads = now.loads + report.counts.loads }) report.text tt is within
+        (record { report = report; reports = told; text = refl; found = refl; counts = refl; loads = refl; tree = refl }) ordered))
 
     step : (w : Word) (f : Fields) (more : List ℕ) → Fit (shape_of w) f → rest ≡ spelling (command w f) ++ more → length read + length (spelling (command w f)) ≤ limit → ⊥
     step Put bare more fit is within = absurd fit
@@ -219,7 +214,7 @@ module _ (given : List ℕ) (none : (out : List ℕ) (status : Status) → IsAll
   goes (suc m) now read rest said low ordered r = turn m (goes m) now read rest said low ordered r
 
 -- each script has a due output
-pub due-exists : AllHaveReports → (script : List ℕ) → HasDue script
-due-exists reports script none =
-    goes script (λ out status all ends. none out status (record { all = all; outcome = ends })) reports (suc (length script)) at_start [] script [] (omega arith) (λ i j d less within. absurd (let l : j < 0 = within in omega (arith, l)))
+pub due-exists : AllHaveReports → AllCanBeRead → (script : List ℕ) → HasDue script
+due-exists reports readings script none =
+    goes script (λ out status all ends. none out status (record { all = all; outcome = ends })) reports readings (suc (length script)) at_start [] script [] (omega arith) (λ i j d less within. absurd (let l : j < 0 = within in omega (arith, l)))
     (record { parts = refl; within = omega arith; answered = record { commands = []; spelled = refl; leads = (refl, refl) } })

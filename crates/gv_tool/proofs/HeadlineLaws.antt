@@ -3,7 +3,7 @@ use Rattle.std.proofs.Common.{◌≡◌, ◌⊎◌, inl, inr, ℕ, List, refl, s
 use Rattle.gv_base.specs.Sources.{SourceView}
 use Rattle.gv_base.specs.Sinks.{SinkView}
 use Rattle.gv_tool.specs.declared.status.Status.{Status}
-use Rattle.gv_tool.specs.declared.status.Status.TheVariants.{Done, Found, Usage, SourceFault, SinkFault, NoMemory, Refused, TooLong, Stuck, NotBuilt, Circle}
+use Rattle.gv_tool.specs.declared.status.Status.TheVariants.{Done, Found, Usage, SourceFault, SinkFault, NoMemory, Refused, TooLong, Stuck, Circle}
 use Rattle.gv_tool.specs.Replies.{at_start}
 use Rattle.gv_tool.specs.Turn.{Runs}
 use Rattle.gv_tool.specs.Headline.{Session, EndedBy, number_of, IsAllDue, IsDueOf, IsCutShort, Due}
@@ -30,21 +30,7 @@ only-refused NoMemory e = absurd (omega arith)
 only-refused Refused e = refl
 only-refused TooLong e = absurd (omega arith)
 only-refused Stuck e = absurd (omega arith)
-only-refused NotBuilt e = absurd (omega arith)
 only-refused Circle e = absurd (omega arith)
-
-pub only-not_built : (s : Status) → number_of s ≡ 11 → s ≡ NotBuilt
-only-not_built Done e = absurd (omega arith)
-only-not_built Found e = absurd (omega arith)
-only-not_built Usage e = absurd (omega arith)
-only-not_built SourceFault e = absurd (omega arith)
-only-not_built SinkFault e = absurd (omega arith)
-only-not_built NoMemory e = absurd (omega arith)
-only-not_built Refused e = absurd (omega arith)
-only-not_built TooLong e = absurd (omega arith)
-only-not_built Stuck e = absurd (omega arith)
-only-not_built NotBuilt e = refl
-only-not_built Circle e = absurd (omega arith)
 
 pub only-circle : (s : Status) → number_of s ≡ 12 → s ≡ Circle
 only-circle Done e = absurd (omega arith)
@@ -56,7 +42,6 @@ only-circle NoMemory e = absurd (omega arith)
 only-circle Refused e = absurd (omega arith)
 only-circle TooLong e = absurd (omega arith)
 only-circle Stuck e = absurd (omega arith)
-only-circle NotBuilt e = absurd (omega arith)
 only-circle Circle e = refl
 
 pub only-too_long : (s : Status) → number_of s ≡ 9 → s ≡ TooLong
@@ -69,7 +54,6 @@ only-too_long NoMemory e = absurd (omega arith)
 only-too_long Refused e = absurd (omega arith)
 only-too_long TooLong e = refl
 only-too_long Stuck e = absurd (omega arith)
-only-too_long NotBuilt e = absurd (omega arith)
 only-too_long Circle e = absurd (omega arith)
 
 -- the status is that of what is due, or that of an end before it
@@ -87,7 +71,6 @@ exact-of law a b x y status script whole due r e d = go status refl
     go Found k = inl (same (subst IsAllDue (sym k) tt))
     go Refused k = inl (same (subst IsAllDue (sym k) tt))
     go TooLong k = inl (same (subst IsAllDue (sym k) tt))
-    go NotBuilt k = inl (same (subst IsAllDue (sym k) tt))
     go NoMemory k = inr (inl (ap number_of k))
     go Usage k = absurd (never_usage at_start r.given r.out b.left status r.outcome k)
     go SourceFault k = inr (inr (inl (ap number_of k)))

@@ -2,20 +2,17 @@
 use Rattle.std.proofs.Common.{◌≡◌, inl, inr, ℕ, zero, suc, ◌+◌, ◌-◌, ◌<◌, ◌≤◌, List, [], ◌∷◌, ◌++◌, length, take, refl, sym, ap, ◌∙◌, arith, append_assoc, Option, None, Some, Bool, true, false, subst}
 use Rattle.std.proofs.lemmas.List.{append-nil, length-append, take_all}
 use Rattle.std.specs.Io.KnownBytes.{Consumes}
-use Rattle.gv_tool.specs.declared.word.Word.{Word}
-use Rattle.gv_tool.specs.declared.word.Word.TheVariants.{Put, Del, Check, Stats, End}
 use Rattle.gv_tool.specs.declared.status.Status.{Status}
-use Rattle.gv_tool.specs.declared.status.Status.TheVariants.{Done, Found, Usage, SourceFault, SinkFault, NoMemory, Refused, TooLong, Stuck, NotBuilt, Circle}
-use Rattle.gv_tool.specs.Script.{Fields, Command, ending, spelling, IsLawful, IsBeginning, NoCommand}
-use Rattle.gv_tool.specs.Judging.{Tree, IsBuilt}
-use Rattle.gv_tool.specs.Replies.{Standing, is_run, Carries, Does, at_start}
-use Rattle.gv_tool.specs.Outcome.{limit, refusal, not_built, IsPrefix, Reached, IsRefused, no_command, cut_short, IsUnbuilt, IsEnding, at_end, by_command, IsPastLimit, IsCutOff, of_replies, of_refusal, of_unbuilt, EndsBy, Outcome}
+use Rattle.gv_tool.specs.declared.status.Status.TheVariants.{Done, Found, Usage, SourceFault, SinkFault, NoMemory, Refused, TooLong, Stuck, Circle}
+use Rattle.gv_tool.specs.Script.{Command, ending, spelling, IsLawful, IsBeginning, NoCommand}
+use Rattle.gv_tool.specs.Replies.{Standing, Does, at_start}
+use Rattle.gv_tool.specs.Outcome.{limit, refusal, IsPrefix, Reached, IsRefused, no_command, cut_short, IsEnding, at_end, by_command, IsPastLimit, IsCutOff, of_replies, of_refusal, EndsBy, Outcome}
 use Rattle.gv_tool.specs.Headline.{IsAllDue, Due, IsDueOf}
 use Rattle.gv_tool.proofs.Grammar.{append-split}
 use Rattle.gv_tool.proofs.WordLaws.{nonempty}
 use Rattle.gv_tool.proofs.JudgingLaws.{OneReport}
 use Rattle.gv_tool.proofs.PrefixLaws.{prefix_free, Halted, said-begins, same-reading}
-use Rattle.gv_tool.proofs.DueLaws.{take-joined, Reached-more, refused-whole, unbuilt-whole, Outcome-whole}
+use Rattle.gv_tool.proofs.DueLaws.{take-joined, Reached-more, refused-whole, Outcome-whole}
 
 -- a beginning doesn't begin with a command
 beginning-halts : (b : List ℕ) → IsBeginning b → (c : Command) (z : List ℕ) → IsLawful c → b ≡ spelling c ++ z → ⊥
@@ -50,19 +47,6 @@ halted-ending now n rest (by_command m e x) c next reply more lawful does s w =
 halted-refused : (now : Standing) (n : ℕ) (rest : List ℕ) → IsRefused n rest (Some []) → Halted now n rest
 halted-refused now n rest (no_command h) c next reply more lawful does s w = no_command-halts (limit - n) rest h c more lawful s (omega arith)
 halted-refused now n rest (cut_short b some x l) c next reply more lawful does s w = beginning-halts rest b c more lawful s
-
-run-built : OneReport → (w : Word) (f : Fields) (s n : Standing) (r : List ℕ) → is_run w ≡ true → Carries w f s n r → IsBuilt s.tree
-run-built law Put f s n r e h = absurd (let x : ◌≡◌ {A = Bool} false true = e in cc)
-run-built law Del f s n r e h = absurd (let x : ◌≡◌ {A = Bool} false true = e in cc)
-run-built law Check f s n r e h = law.built s.tree s.cache n.cache h.report h.reports
-run-built law Stats f s n r e h = absurd (let x : ◌≡◌ {A = Bool} false true = e in cc)
-run-built law End f s n r e h = absurd (let x : ◌≡◌ {A = Bool} false true = e in cc)
-
-halted-unbuilt : OneReport → (now : Standing) (n : ℕ) (rest : List ℕ) → IsUnbuilt now.tree n rest → Halted now n rest
-halted-unbuilt law now n rest u c next reply more lawful does s w =
-    let f = prefix_free c u.command more u.more lawful u.lawful (sym s ∙ u.spelled) in
-    let run : is_run c.word ≡ true = ap (λ z. is_run z.word) f.command ∙ u.run in
-    u.unbuilt (run-built law c.word c.fields now next reply run does)
 
 past-none : (n : ℕ) (b more : List ℕ) → IsBeginning b → n + length b ≡ limit → (c : Command) (m : List ℕ) → IsLawful c → b ++ more ≡ spelling c ++ m → n + length (spelling c) ≤ limit → ⊥
 past-none n b more h full c m lawful s w = elim (append-split b (spelling c) more m s) [
@@ -107,20 +91,6 @@ ending-not-past : (n : ℕ) (rest : List ℕ) → IsEnding n rest (Some []) → 
 ending-not-past n rest (at_end e l) p = let z : length p.first + length p.more ≡ 0 = sym (length-append p.first p.more) ∙ ap length (sym p.parts ∙ e) in let s = p.surplus in omega arith
 ending-not-past n rest (by_command m e x) p = past-none n p.first p.more p.beginning p.full ending m tt (sym p.parts ∙ e) x
 
--- a run over a tree that isn't built is none of these
-unbuilt-not-refused : (tree : Tree) (n : ℕ) (rest : List ℕ) → IsUnbuilt tree n rest → IsRefused n rest (Some []) → ⊥
-unbuilt-not-refused tree n rest u (no_command h) = let w = u.within in no_command-halts (limit - n) rest h u.command u.more u.lawful u.spelled (omega arith)
-unbuilt-not-refused tree n rest u (cut_short b some x l) = beginning-halts rest b u.command u.more u.lawful u.spelled
-
-unbuilt-not-ending : (tree : Tree) (n : ℕ) (rest : List ℕ) → IsUnbuilt tree n rest → IsEnding n rest (Some []) → ⊥
-unbuilt-not-ending tree n rest u (at_end e l) = empty-halts rest e u.command u.more u.spelled
-unbuilt-not-ending tree n rest u (by_command m e x) =
-    let f = prefix_free u.command ending u.more m u.lawful tt (sym u.spelled ∙ e) in
-    let run : false ≡ true = sym (ap (λ z. is_run z.word) f.command) ∙ u.run in cc
-
-unbuilt-not-past : (tree : Tree) (n : ℕ) (rest : List ℕ) → IsUnbuilt tree n rest → IsPastLimit n rest → ⊥
-unbuilt-not-past tree n rest u p = past-none n p.first p.more p.beginning p.full u.command u.more u.lawful (sym p.parts ∙ u.spelled) u.within
-
 refused-is-not-past : (n : ℕ) (rest : List ℕ) → IsRefused n rest (Some []) → IsPastLimit n rest → ⊥
 refused-is-not-past n rest r p = refused-not-past n p.first p.more (subst (λ z. IsRefused n z (Some [])) p.parts r) p.beginning p.full p.surplus
 
@@ -129,22 +99,20 @@ record IsWhole (now : Standing) (n : ℕ) (rest said whole : List ℕ) : Type 0 
   halted : Halted now n rest
   begins : IsPrefix said whole
   refused : IsRefused n rest (Some []) → whole ≡ said ++ refusal n
-  unbuilt : IsUnbuilt now.tree n rest → whole ≡ said ++ not_built n
 
 same-prefix : (x whole : List ℕ) → x ≡ whole → IsPrefix x whole
 same-prefix x whole e = ([], append-nil x ∙ e)
 
 whole-ending : (now : Standing) (n : ℕ) (rest said whole : List ℕ) → whole ≡ said → IsEnding n rest (Some []) → IsWhole now n rest said whole
-whole-ending now n rest said whole e x = record { halted = halted-ending now n rest x; begins = same-prefix said whole (sym e); refused = λ r. absurd (refused-not-ending n rest r x); unbuilt = λ u. absurd (unbuilt-not-ending now.tree n rest u x) }
+whole-ending now n rest said whole e x = record { halted = halted-ending now n rest x; begins = same-prefix said whole (sym e); refused = λ r. absurd (refused-not-ending n rest r x) }
 
 whole-of : OneReport → (now : Standing) (n : ℕ) (rest said whole : List ℕ) (status : Status) → IsAllDue status → EndsBy now n rest said whole (Some []) status → IsWhole now n rest said whole
 whole-of law now n rest said whole Done a e = whole-ending now n rest said whole e.0 e.1
 whole-of law now n rest said whole Found a e = whole-ending now n rest said whole e.0 e.1
-whole-of law now n rest said whole Refused a e = record { halted = halted-refused now n rest e.1; begins = (refusal n, sym e.0); refused = λ r. e.0; unbuilt = λ u. absurd (unbuilt-not-refused now.tree n rest u e.1) }
-whole-of law now n rest said whole NotBuilt a e = record { halted = halted-unbuilt law now n rest e.1; begins = (not_built n, sym e.0); refused = λ r. absurd (unbuilt-not-refused now.tree n rest e.1 r); unbuilt = λ u. e.0 }
+whole-of law now n rest said whole Refused a e = record { halted = halted-refused now n rest e.1; begins = (refusal n, sym e.0); refused = λ r. e.0 }
 whole-of law now n rest said whole TooLong a e =
     let p = e.1 in
-    record { halted = subst (λ z. Halted now n z) (sym p.parts) (halted-past now n p.first p.more p.beginning p.full); begins = same-prefix said whole (sym e.0); refused = λ r. absurd (refused-is-not-past n rest r p); unbuilt = λ u. absurd (unbuilt-not-past now.tree n rest u p) }
+    record { halted = subst (λ z. Halted now n z) (sym p.parts) (halted-past now n p.first p.more p.beginning p.full); begins = same-prefix said whole (sym e.0); refused = λ r. absurd (refused-is-not-past n rest r p) }
 whole-of law now n rest said whole Usage a e = absurd a
 whole-of law now n rest said whole SourceFault a e = absurd a
 whole-of law now n rest said whole SinkFault a e = absurd a
@@ -165,7 +133,6 @@ ends-single now n rest said out out' Done Done a b e f = record { output = e.0 �
 ends-single now n rest said out out' Done Found a b e f = absurd (both-found now.found f.2 e.2)
 ends-single now n rest said out out' Done Refused a b e f = absurd (refused-not-ending n rest f.1 e.1)
 ends-single now n rest said out out' Done TooLong a b e f = absurd (ending-not-past n rest e.1 f.1)
-ends-single now n rest said out out' Done NotBuilt a b e f = absurd (unbuilt-not-ending now.tree n rest f.1 e.1)
 ends-single now n rest said out out' Done Usage a b e f = absurd b
 ends-single now n rest said out out' Done SourceFault a b e f = absurd b
 ends-single now n rest said out out' Done SinkFault a b e f = absurd b
@@ -176,7 +143,6 @@ ends-single now n rest said out out' Found Done a b e f = absurd (both-found now
 ends-single now n rest said out out' Found Found a b e f = record { output = e.0 ∙ sym f.0; status = refl }
 ends-single now n rest said out out' Found Refused a b e f = absurd (refused-not-ending n rest f.1 e.1)
 ends-single now n rest said out out' Found TooLong a b e f = absurd (ending-not-past n rest e.1 f.1)
-ends-single now n rest said out out' Found NotBuilt a b e f = absurd (unbuilt-not-ending now.tree n rest f.1 e.1)
 ends-single now n rest said out out' Found Usage a b e f = absurd b
 ends-single now n rest said out out' Found SourceFault a b e f = absurd b
 ends-single now n rest said out out' Found SinkFault a b e f = absurd b
@@ -187,7 +153,6 @@ ends-single now n rest said out out' Refused Done a b e f = absurd (refused-not-
 ends-single now n rest said out out' Refused Found a b e f = absurd (refused-not-ending n rest e.1 f.1)
 ends-single now n rest said out out' Refused Refused a b e f = record { output = e.0 ∙ sym f.0; status = refl }
 ends-single now n rest said out out' Refused TooLong a b e f = absurd (refused-is-not-past n rest e.1 f.1)
-ends-single now n rest said out out' Refused NotBuilt a b e f = absurd (unbuilt-not-refused now.tree n rest f.1 e.1)
 ends-single now n rest said out out' Refused Usage a b e f = absurd b
 ends-single now n rest said out out' Refused SourceFault a b e f = absurd b
 ends-single now n rest said out out' Refused SinkFault a b e f = absurd b
@@ -198,24 +163,12 @@ ends-single now n rest said out out' TooLong Done a b e f = absurd (ending-not-p
 ends-single now n rest said out out' TooLong Found a b e f = absurd (ending-not-past n rest f.1 e.1)
 ends-single now n rest said out out' TooLong Refused a b e f = absurd (refused-is-not-past n rest f.1 e.1)
 ends-single now n rest said out out' TooLong TooLong a b e f = record { output = e.0 ∙ sym f.0; status = refl }
-ends-single now n rest said out out' TooLong NotBuilt a b e f = absurd (unbuilt-not-past now.tree n rest f.1 e.1)
 ends-single now n rest said out out' TooLong Usage a b e f = absurd b
 ends-single now n rest said out out' TooLong SourceFault a b e f = absurd b
 ends-single now n rest said out out' TooLong SinkFault a b e f = absurd b
 ends-single now n rest said out out' TooLong NoMemory a b e f = absurd b
 ends-single now n rest said out out' TooLong Stuck a b e f = absurd b
 ends-single now n rest said out out' TooLong Circle a b e f = absurd b
-ends-single now n rest said out out' NotBuilt Done a b e f = absurd (unbuilt-not-ending now.tree n rest e.1 f.1)
-ends-single now n rest said out out' NotBuilt Found a b e f = absurd (unbuilt-not-ending now.tree n rest e.1 f.1)
-ends-single now n rest said out out' NotBuilt Refused a b e f = absurd (unbuilt-not-refused now.tree n rest e.1 f.1)
-ends-single now n rest said out out' NotBuilt TooLong a b e f = absurd (unbuilt-not-past now.tree n rest e.1 f.1)
-ends-single now n rest said out out' NotBuilt NotBuilt a b e f = record { output = e.0 ∙ sym f.0; status = refl }
-ends-single now n rest said out out' NotBuilt Usage a b e f = absurd b
-ends-single now n rest said out out' NotBuilt SourceFault a b e f = absurd b
-ends-single now n rest said out out' NotBuilt SinkFault a b e f = absurd b
-ends-single now n rest said out out' NotBuilt NoMemory a b e f = absurd b
-ends-single now n rest said out out' NotBuilt Stuck a b e f = absurd b
-ends-single now n rest said out out' NotBuilt Circle a b e f = absurd b
 ends-single now n rest said out out' Usage st' a b e f = absurd a
 ends-single now n rest said out out' SourceFault st' a b e f = absurd a
 ends-single now n rest said out out' SinkFault st' a b e f = absurd a
@@ -261,13 +214,6 @@ refusal-prefix law script whole now read rest said d r x =
     let y : IsRefused (length d.read) d.rest (Some []) = rw (s.reads, s.rests) at x in
     ap (λ z. said ++ refusal (length z)) s.reads ∙ ap (λ z. z ++ refusal (length d.read)) s.says ∙ sym (d.is_whole.refused y)
 
--- and so does the line for a tree that isn't built
-unbuilt-prefix : OneReport → (script whole : List ℕ) (now : Standing) (read rest said : List ℕ) → Reading script whole → Reached at_start now script read rest said → IsUnbuilt now.tree (length read) rest → said ++ not_built (length read) ≡ whole
-unbuilt-prefix law script whole now read rest said d r x =
-    let s = same-reading law r d.reached (halted-unbuilt law now (length read) rest x) d.is_whole.halted in
-    let y : IsUnbuilt d.now.tree (length d.read) d.rest = rw (s.nows, s.reads, s.rests) at x in
-    ap (λ z. said ++ not_built (length z)) s.reads ∙ ap (λ z. z ++ not_built (length d.read)) s.says ∙ sym (d.is_whole.unbuilt y)
-
 -- and so does what ends a session in any way
 ends-prefix : OneReport → (script whole : List ℕ) (now : Standing) (read tail rest said out : List ℕ) (status : Status) → Reading script whole → Reached at_start now script read (tail ++ rest) said → EndsBy now (length read) tail said out (Some rest) status → IsPrefix out whole
 ends-prefix law script whole now read tail rest said out status d r e = go status e
@@ -281,13 +227,9 @@ ends-prefix law script whole now read tail rest said out status d r e = go statu
     refused : IsRefused (length read) tail (Some rest) → said ++ refusal (length read) ≡ whole
     refused x = refusal-prefix law script whole now read (tail ++ rest) said d r (refused-whole (length read) tail rest x)
 
-    unbuilt : IsUnbuilt now.tree (length read) tail → said ++ not_built (length read) ≡ whole
-    unbuilt x = unbuilt-prefix law script whole now read (tail ++ rest) said d r (unbuilt-whole now.tree (length read) tail rest x)
-
-    cut_off : IsCutOff now.tree (length read) tail said out (Some rest) → IsPrefix out whole
+    cut_off : IsCutOff (length read) tail said out (Some rest) → IsPrefix out whole
     cut_off (of_replies p) = IsPrefix-trans out said whole p replies
     cut_off (of_refusal x p) = IsPrefix-trans out (said ++ refusal (length read)) whole p (same-prefix (said ++ refusal (length read)) whole (refused x))
-    cut_off (of_unbuilt x p) = IsPrefix-trans out (said ++ not_built (length read)) whole p (same-prefix (said ++ not_built (length read)) whole (unbuilt x))
 
     go : (status : Status) → EndsBy now (length read) tail said out (Some rest) status → IsPrefix out whole
     go Done e = equal e.0
@@ -300,7 +242,6 @@ ends-prefix law script whole now read tail rest said out status d r e = go statu
     go TooLong e = equal e.0
     go Circle e = equal e.0
     go Refused e = same-prefix out whole (e.0 ∙ refused e.1)
-    go NotBuilt e = same-prefix out whole (e.0 ∙ unbuilt e.1)
 
 outcome-prefix : OneReport → (given rest out whole : List ℕ) (status : Status) → Reading (given ++ rest) whole → Outcome at_start given out (Some rest) status → IsPrefix out whole
 outcome-prefix law given rest out whole status d o = ends-prefix law (given ++ rest) whole o.now o.read o.rest rest o.said out status d (Reached-more rest o.reached) o.ends

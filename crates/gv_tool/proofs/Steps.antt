@@ -12,13 +12,13 @@ use Rattle.gv_tool.specs.declared.word.Word.TheVariants.{End}
 use Rattle.gv_tool.specs.declared.word.Shape.TheVariants.{Bare}
 use Rattle.gv_tool.specs.Words.{shape_of}
 use Rattle.gv_tool.specs.declared.status.Status.{Status}
-use Rattle.gv_tool.specs.declared.status.Status.TheVariants.{Done, Found, Usage, SourceFault, SinkFault, NoMemory, Refused, TooLong, Stuck, NotBuilt, Circle}
+use Rattle.gv_tool.specs.declared.status.Status.TheVariants.{Done, Found, Usage, SourceFault, SinkFault, NoMemory, Refused, TooLong, Stuck, Circle}
 use Rattle.gv_tool.specs.Script.{Fields, bare, at_path, with_file, Fit, Command, ending, spelling, IsLawful, IsBeginning, NoCommand}
 use Rattle.gv_tool.specs.Next.{IsNext, command_of}
-use Rattle.gv_tool.specs.Judging.{HasCircle, IsBuilt, IsHonest}
+use Rattle.gv_tool.specs.Judging.{HasCircle, IsHonest}
 use Rattle.gv_tool.specs.Replies.{Standing, is_run, Does, Leads, Answered}
 use Rattle.gv_tool.specs.Desk.{standing_of}
-use Rattle.gv_tool.specs.Outcome.{limit, refusal, not_built, IsPrefix, Reached, IsRefused, no_command, cut_short, IsUnbuilt, IsCircular, IsEnding, by_command, IsCutOff, of_replies, of_refusal, of_unbuilt, EndsBy, Outcome}
+use Rattle.gv_tool.specs.Outcome.{limit, refusal, IsPrefix, Reached, IsRefused, no_command, cut_short, IsCircular, IsEnding, by_command, IsCutOff, of_replies, of_refusal, EndsBy, Outcome}
 use Rattle.gv_tool.specs.Turn.{Stands, StandsOrEnds, LeavesReply, IsLastLine, verdict_of}
 
 -- one more command
@@ -92,7 +92,7 @@ WentOut-full {start} {given} {out} session left more h =
     record { now = standing_of session.desk; read = h.read; rest = session.pending ++ more; said = out; reached = Reached-extended more h.reached; ends = of_replies (nothing-more out) }
 
 -- a part of a reply went out
-WentOut-within : {start : Standing} {given out : List ℕ} (old : Session) (now : Standing) (decoded : Decoded) (len : ℕ) (reply said : List ℕ) (left : Option (List ℕ)) (status : Status) → Stands start given out old → IsNext old.pending (Whole decoded len) → Does (command_of decoded) (standing_of old.desk) now reply → ((now : Standing) (offset : ℕ) (rest said out : List ℕ) → IsCutOff now.tree offset rest said out left → EndsBy now offset rest said out left status) → IsPrefix said reply → Outcome start given (out ++ said) left status
+WentOut-within : {start : Standing} {given out : List ℕ} (old : Session) (now : Standing) (decoded : Decoded) (len : ℕ) (reply said : List ℕ) (left : Option (List ℕ)) (status : Status) → Stands start given out old → IsNext old.pending (Whole decoded len) → Does (command_of decoded) (standing_of old.desk) now reply → ((now : Standing) (offset : ℕ) (rest said out : List ℕ) → IsCutOff offset rest said out left → EndsBy now offset rest said out left status) → IsPrefix said reply → Outcome start given (out ++ said) left status
 WentOut-within {start} {given} {out} old now decoded len reply said left status h next does cut p =
     let c = command_of decoded in
     record {
@@ -112,32 +112,10 @@ Outcome-refused session left said Usage h r e = absurd e
 Outcome-refused session left said SourceFault h r e = absurd e
 Outcome-refused session left said TooLong h r e = absurd e
 Outcome-refused session left said Circle h r e = absurd e
-Outcome-refused session left said NotBuilt h r e = absurd (let x : Refused ≡ NotBuilt = e.0 in cc)
 Outcome-refused {out = out} session left said SinkFault h r e = Outcome-here session (out ++ said) left SinkFault h (of_refusal r (more-said out said (refusal session.offset) e))
 Outcome-refused {out = out} session left said Stuck h r e = Outcome-here session (out ++ said) left Stuck h (of_refusal r (more-said out said (refusal session.offset) e))
 Outcome-refused session left said NoMemory h r e = rw e (WentOut-before session left h)
 Outcome-refused {out = out} session left said Refused h r e = Outcome-here session (out ++ said) left Refused h (ap (λ z. out ++ z) e.1, r)
-
--- the line of a run over a tree that isn't built, or a part of it
-pub Outcome-unbuilt : {start : Standing} {given out : List ℕ} (session : Session) (left : Option (List ℕ)) (said : List ℕ) (status : Status) → Stands start given out session → IsUnbuilt session.desk.files session.offset session.pending → IsLastLine (not_built session.offset) NotBuilt said status → Outcome start given (out ++ said) left status
-Outcome-unbuilt session left said Done h r e = absurd e
-Outcome-unbuilt session left said Found h r e = absurd e
-Outcome-unbuilt session left said Usage h r e = absurd e
-Outcome-unbuilt session left said SourceFault h r e = absurd e
-Outcome-unbuilt session left said TooLong h r e = absurd e
-Outcome-unbuilt session left said Circle h r e = absurd e
-Outcome-unbuilt session left said Refused h r e = absurd (let x : NotBuilt ≡ Refused = e.0 in cc)
-Outcome-unbuilt {out = out} session left said SinkFault h r e = Outcome-here session (out ++ said) left SinkFault h (of_unbuilt r (more-said out said (not_built session.offset) e))
-Outcome-unbuilt {out = out} session left said Stuck h r e = Outcome-here session (out ++ said) left Stuck h (of_unbuilt r (more-said out said (not_built session.offset) e))
-Outcome-unbuilt session left said NoMemory h r e = rw e (WentOut-before session left h)
-Outcome-unbuilt {out = out} session left said NotBuilt h r e = Outcome-here session (out ++ said) left NotBuilt h (ap (λ z. out ++ z) e.1, r)
-
--- a run over a tree that isn't built
-pub IsUnbuilt-of : (session : Session) (decoded : Decoded) (len : ℕ) → IsNext session.pending (Whole decoded len) → is_run decoded.word ≡ true → (IsBuilt session.desk.files → ⊥) → IsUnbuilt session.desk.files session.offset session.pending
-IsUnbuilt-of session decoded len next run never =
-    let w = within-limit session in
-    let l : length session.pending ≡ length (spelling (command_of decoded)) + length (drop len session.pending) = ap length next.0.spelled ∙ length-append (spelling (command_of decoded)) (drop len session.pending) in
-    record { command = command_of decoded; more = drop len session.pending; lawful = next.0.lawful; run = run; spelled = next.0.spelled; within = omega arith; unbuilt = never }
 
 -- a run at which the rules of a package go in a circle
 IsCircular-of : (session : Session) (decoded : Decoded) (len : ℕ) → IsNext session.pending (Whole decoded len) → is_run decoded.word ≡ true → HasCircle session.desk.files → IsCircular session.desk.files session.offset session.pending
@@ -224,7 +202,6 @@ StandsOrEnds-reply old mid new decoded len reply said left (Some SourceFault) h 
 StandsOrEnds-reply old mid new decoded len reply said left (Some NoMemory) h next does p o k l = absurd l.1
 StandsOrEnds-reply old mid new decoded len reply said left (Some Refused) h next does p o k l = absurd l.1
 StandsOrEnds-reply old mid new decoded len reply said left (Some TooLong) h next does p o k l = absurd l.1
-StandsOrEnds-reply old mid new decoded len reply said left (Some NotBuilt) h next does p o k l = absurd l.1
 StandsOrEnds-reply old mid new decoded len reply said left (Some Circle) h next does p o k l = absurd l.1
 
 pub empty-list : (xs : List ℕ) → length xs ≡ 0 → xs ≡ []

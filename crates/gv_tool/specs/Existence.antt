@@ -3,11 +3,15 @@ use Rattle.std.specs.Prelude.{ℕ, List}
 use Rattle.gv_base.specs.Files.{AreInOrder}
 use Rattle.gv_tool.specs.declared.status.Status.{Status}
 use Rattle.gv_tool.specs.Headline.{Due}
-use Rattle.gv_tool.specs.Judging.{Tree, Entries, HasReport}
+use Rattle.gv_tool.specs.Judging.{Tree, Entries, HasReading, HasReport}
 
--- no tree that is built is without a report
+-- no tree that can be read is without a report
 abbrev pub AllHaveReports : Type 0
 AllHaveReports = (tree : Tree) → AreInOrder tree → (before : Entries) → HasReport tree before
+
+-- no tree is without verdicts and heads of its files, and packages
+abbrev pub AllCanBeRead : Type 0
+AllCanBeRead = (tree : Tree) → AreInOrder tree → (HasReading tree → ⊥) → ⊥
 
 -- the script isn't without a due output and a status
 abbrev pub HasDue : List ℕ → Type 0

@@ -6,7 +6,7 @@ use Rattle.gv_base.specs.Counts.{Rose}
 use Rattle.gv_base.specs.Sources.{SourceView}
 use Rattle.gv_base.specs.Sinks.{SinkView}
 use Rattle.gv_tool.specs.declared.status.Status.{Status}
-use Rattle.gv_tool.specs.declared.status.Status.TheVariants.{Done, Found, Usage, SourceFault, SinkFault, NoMemory, Refused, TooLong, Stuck, NotBuilt, Circle}
+use Rattle.gv_tool.specs.declared.status.Status.TheVariants.{Done, Found, Usage, SourceFault, SinkFault, NoMemory, Refused, TooLong, Stuck, Circle}
 use Rattle.gv_tool.specs.Replies.{at_start}
 use Rattle.gv_tool.specs.Outcome.{IsPrefix, Outcome}
 use Rattle.gv_tool.specs.Turn.{Runs}
@@ -22,14 +22,13 @@ number_of NoMemory = 7
 number_of Refused = 8
 number_of TooLong = 9
 number_of Stuck = 10
-number_of NotBuilt = 11
 number_of Circle = 12
 
 -- the name of each status at the place of its number; the two of a session that was read and answered have none
 abbrev pub names : List (List ℕ)
 names =
     [] ∷ [] ∷ codes "usage" ∷ codes "source fault" ∷ [] ∷ [] ∷ codes "sink fault" ∷ codes "no memory"
-    ∷ codes "script refused" ∷ codes "input too long" ∷ codes "sink stuck" ∷ codes "not built" ∷ codes "rules in a circle" ∷ []
+    ∷ codes "script refused" ∷ codes "input too long" ∷ codes "sink stuck" ∷ [] ∷ codes "rules in a circle" ∷ []
 
 -- the name of the status of this number, empty where no status has it
 abbrev pub name_of : ℕ → List ℕ
@@ -46,7 +45,6 @@ IsAllDue NoMemory = ⊥
 IsAllDue Refused = Unit {0}
 IsAllDue TooLong = Unit {0}
 IsAllDue Stuck = ⊥
-IsAllDue NotBuilt = Unit {0}
 IsAllDue Circle = ⊥
 
 -- what is due for a script, and with which status: a session that is given all of it

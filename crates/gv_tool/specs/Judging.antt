@@ -1,9 +1,9 @@
--- The report of a tree over a cache, which trees have one, which have a circle, and which caches are honest.
+-- The report of a tree over a cache, which trees have a circle, and which caches are honest.
 use Rattle.std.specs.Prelude.{List}
 use Rattle.gv_base.specs.Files.{Entry}
 use Rattle.fact_cache.specs.declared.list.Entry.{Entry as Kept}
 pub use Rattle.tree_report.specs.declared.print.TreeReport.{TreeReport}
-pub use Rattle.tree_report.specs.Form.{IsBuilt}
+pub use Rattle.tree_report.specs.Form.{HasReading}
 pub use Rattle.tree_report.specs.Reports.{HasCircle, IsHonest, Reports}
 pub use Rattle.tree_report.specs.Existence.{AllHaveOutcomes, HasReport}
 

@@ -4,9 +4,9 @@ use Rattle.std.specs.Io.KnownBytes.{IsAtEnd}
 use Rattle.std.specs.Fmt.{decimal}
 use Rattle.gv_base.specs.Counts.{Rose}
 use Rattle.gv_tool.specs.declared.status.Status.{Status}
-use Rattle.gv_tool.specs.declared.status.Status.TheVariants.{Done, Found, Usage, SourceFault, SinkFault, NoMemory, Refused, TooLong, Stuck, NotBuilt, Circle}
+use Rattle.gv_tool.specs.declared.status.Status.TheVariants.{Done, Found, Usage, SourceFault, SinkFault, NoMemory, Refused, TooLong, Stuck, Circle}
 use Rattle.gv_tool.specs.Script.{Command, ending, spelling, IsLawful, IsBeginning, NoCommand}
-use Rattle.gv_tool.specs.Judging.{Tree, HasCircle, IsBuilt}
+use Rattle.gv_tool.specs.Judging.{Tree, HasCircle}
 use Rattle.gv_tool.specs.Replies.{Standing, is_run, Answered}
 
 -- the most bytes of a script
@@ -16,10 +16,6 @@ limit = 2 ^ 28
 -- the line for a command that isn't in the grammar
 abbrev pub refusal : ℕ → List ℕ
 refusal offset = codes "script refused at " ++ decimal offset ++ 10 ∷ []
-
--- the line for a run over a tree that isn't in the form that is built
-abbrev pub not_built : ℕ → List ℕ
-not_built offset = codes "not built at " ++ decimal offset ++ 10 ∷ []
 
 -- xs begins ys
 abbrev pub IsPrefix : List ℕ → List ℕ → Type 0
@@ -35,16 +31,6 @@ pub record Reached (start now : Standing) (bytes read rest said : List ℕ) : Ty
 pub data IsRefused (offset : ℕ) (rest : List ℕ) (left : Option (List ℕ)) : Type 0 where
   no_command : NoCommand (take (limit - offset) rest) → IsRefused offset rest left
   cut_short : IsBeginning rest → 0 < length rest → offset + length rest ≤ limit → IsAtEnd left → IsRefused offset rest left
-
--- the rest from the offset on begins with a run, and the tree isn't in the form that is built
-pub record IsUnbuilt (tree : Tree) (offset : ℕ) (rest : List ℕ) : Type 0 where
-  pub command : Command
-  pub more : List ℕ
-  pub lawful : IsLawful command
-  pub run : is_run command.word ≡ true
-  pub spelled : rest ≡ spelling command ++ more
-  pub within : offset + length (spelling command) ≤ limit
-  pub unbuilt : IsBuilt tree → ⊥
 
 -- the rest from the offset on begins with a run, and the rules of a package of the tree go in a circle
 pub record IsCircular (tree : Tree) (offset : ℕ) (rest : List ℕ) : Type 0 where
@@ -71,10 +57,9 @@ pub record IsPastLimit (offset : ℕ) (rest : List ℕ) : Type 0 where
   pub surplus : 0 < length more
 
 -- what went out is the beginning of what was said, or of that and the line that ends the session
-pub data IsCutOff (tree : Tree) (offset : ℕ) (rest said out : List ℕ) (left : Option (List ℕ)) : Type 0 where
-  of_replies : IsPrefix out said → IsCutOff tree offset rest said out left
-  of_refusal : IsRefused offset rest left → IsPrefix out (said ++ refusal offset) → IsCutOff tree offset rest said out left
-  of_unbuilt : IsUnbuilt tree offset rest → IsPrefix out (said ++ not_built offset) → IsCutOff tree offset rest said out left
+pub data IsCutOff (offset : ℕ) (rest said out : List ℕ) (left : Option (List ℕ)) : Type 0 where
+  of_replies : IsPrefix out said → IsCutOff offset rest said out left
+  of_refusal : IsRefused offset rest left → IsPrefix out (said ++ refusal offset) → IsCutOff offset rest said out left
 
 -- how a session ends that stands here at an offset, with the rest not answered, after it was to say these replies
 abbrev pub EndsBy : Standing → ℕ → List ℕ → List ℕ → List ℕ → Option (List ℕ) → Status → Type 0
@@ -82,12 +67,11 @@ EndsBy now offset rest said out left Done = (out ≡ said) × IsEnding offset re
 EndsBy now offset rest said out left Found = (out ≡ said) × IsEnding offset rest left × (now.found ≡ true)
 EndsBy now offset rest said out left Usage = ⊥
 EndsBy now offset rest said out left SourceFault = (out ≡ said) × IsBeginning rest
-EndsBy now offset rest said out left SinkFault = IsCutOff now.tree offset rest said out left
-EndsBy now offset rest said out left NoMemory = IsCutOff now.tree offset rest said out left
+EndsBy now offset rest said out left SinkFault = IsCutOff offset rest said out left
+EndsBy now offset rest said out left NoMemory = IsCutOff offset rest said out left
 EndsBy now offset rest said out left Refused = (out ≡ said ++ refusal offset) × IsRefused offset rest left
 EndsBy now offset rest said out left TooLong = (out ≡ said) × IsPastLimit offset rest
-EndsBy now offset rest said out left Stuck = IsCutOff now.tree offset rest said out left
-EndsBy now offset rest said out left NotBuilt = (out ≡ said ++ not_built offset) × IsUnbuilt now.tree offset rest
+EndsBy now offset rest said out left Stuck = IsCutOff offset rest said out left
 EndsBy now offset rest said out left Circle = (out ≡ said) × IsCircular now.tree offset rest
 
 -- A session that was given these bytes and let these out: where it stands, and how it ends there.

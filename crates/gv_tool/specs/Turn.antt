@@ -5,7 +5,7 @@ use Rattle.gv_base.specs.Counts.{RoseBy}
 use Rattle.gv_base.specs.Sources.{SourceView}
 use Rattle.gv_base.specs.Sinks.{SinkView}
 use Rattle.gv_tool.specs.declared.status.Status.{Status}
-use Rattle.gv_tool.specs.declared.status.Status.TheVariants.{Done, Found, Usage, SourceFault, SinkFault, NoMemory, Refused, TooLong, Stuck, NotBuilt, Circle}
+use Rattle.gv_tool.specs.declared.status.Status.TheVariants.{Done, Found, Usage, SourceFault, SinkFault, NoMemory, Refused, TooLong, Stuck, Circle}
 use Rattle.gv_tool.specs.declared.session.Session.{Session}
 use Rattle.gv_tool.specs.declared.pieces.Taken.{Taken}
 use Rattle.gv_tool.specs.declared.pieces.Taken.TheVariants.{More, AtEnd, Over, Fault, Full}
@@ -68,7 +68,6 @@ IsOfSink SourceFault = ⊥
 IsOfSink NoMemory = ⊥
 IsOfSink Refused = ⊥
 IsOfSink TooLong = ⊥
-IsOfSink NotBuilt = ⊥
 IsOfSink Circle = ⊥
 
 -- A reply to the command of the first len pending bytes: it went out whole, and they are passed over; or a part of it did.
@@ -84,7 +83,6 @@ pub record Tells (sink sink' : SinkView) (len : ℕ) (reply : List ℕ) (old new
 -- what the line that ends a session with this status leaves: it stands whole, or a beginning of it
 abbrev pub IsLastLine : List ℕ → Status → List ℕ → Status → Type 0
 IsLastLine line wanted said Refused = (wanted ≡ Refused) × (said ≡ line)
-IsLastLine line wanted said NotBuilt = (wanted ≡ NotBuilt) × (said ≡ line)
 IsLastLine line wanted said SinkFault = IsPrefix said line
 IsLastLine line wanted said Stuck = IsPrefix said line
 IsLastLine line wanted said NoMemory = said ≡ []
@@ -132,7 +130,6 @@ work_left session = 2 * (limit - (session.offset + length session.pending)) + le
 -- a status that comes with a line of its own
 abbrev pub IsLast : Status → Type 0
 IsLast Refused = Unit {0}
-IsLast NotBuilt = Unit {0}
 IsLast Done = ⊥
 IsLast Found = ⊥
 IsLast Usage = ⊥

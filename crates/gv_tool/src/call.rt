@@ -38,7 +38,6 @@ pub fn session<R: Threads + Sync + RandomSource, K: Keeper, I: Source, O: Sink>(
     ensures stuck { result ≡ 10 → Rose (O.view output.old).stalls (O.view output.new).stalls }
     ensures too_long { result ≡ 9 → RoseBy (limit + 1) (I.view input.old).given (I.view input.new).given }
     ensures refused { result ≡ 8 → EndedBy (I.view input.old) (I.view input.new) (O.view output.old) (O.view output.new) Status.Refused }
-    ensures not_built { result ≡ 11 → EndedBy (I.view input.old) (I.view input.new) (O.view output.old) (O.view output.new) Status.NotBuilt }
     ensures circle { result ≡ 12 → EndedBy (I.view input.old) (I.view input.new) (O.view output.old) (O.view output.new) Status.Circle }
     ensures not_usage { result ≢ 2 }
     ensures complete { NothingRose (I.view input.old) (I.view input.new) (O.view output.old) (O.view output.new) → IsComplete result }
@@ -79,7 +78,6 @@ pub fn gvet<R: Threads + Sync + RandomSource, T: Tree, K: Keeper, I: Source, O: 
     ensures stuck { result ≡ 10 → Rose (O.view output.old).stalls (O.view output.new).stalls }
     ensures too_long { result ≡ 9 → RoseBy (limit + 1) (I.view input.old).given (I.view input.new).given }
     ensures refused { result ≡ 8 → EndedBy (I.view input.old) (I.view input.new) (O.view output.old) (O.view output.new) Status.Refused }
-    ensures not_built { result ≡ 11 → EndedBy (I.view input.old) (I.view input.new) (O.view output.old) (O.view output.new) Status.NotBuilt }
     ensures circle { result ≡ 12 → EndedBy (I.view input.old) (I.view input.new) (O.view output.old) (O.view output.new) Status.Circle }
     ensures complete { IsSession words.now → NothingRose (I.view input.old) (I.view input.new) (O.view output.old) (O.view output.new) → IsComplete result }
     ensures exact { IsSession words.now → (script whole : List ℕ) (due : Status) → (I.view input.old).left ≡ Some script → Due script whole due → (result ≡ number_of due) ⊎ IsCutShort result }

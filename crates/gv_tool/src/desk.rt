@@ -14,16 +14,7 @@ use go_kit::GoKit;
 use gv_base::{Bytes, Files, NoMemory};
 use report_text::stats;
 use std::alloc::Global;
-use tree_report::{Answer as Reported, one_report_of_a_tree, report_on};
-
-/// What is answered to a command.
-#[derive(Drop)]
-pub enum Answer {
-    /// It is carried out, and this is its reply.
-    Reply(Bytes),
-    /// It is a run, and the tree isn't in the form that is built.
-    NotBuilt,
-}
+use tree_report::{one_report_of_a_tree, report_on};
 
 /// The files so far, what the last run found and how much work it was, and what earlier loads gave.
 #[derive(Drop)]
@@ -55,18 +46,18 @@ fn path_text(path: &[u8]) -> &str
 }
 
 /// A reply that says nothing.
-fn silence(alloc: Global) -> Answer
-    ensures { result ≡ Answer.Reply [] }
+fn silence(alloc: Global) -> Bytes
+    ensures { result ≡ [] }
 {
-    Answer::Reply(Bytes::new(Vec::new(alloc)))
+    Bytes::new(Vec::new(alloc))
 }
 
 impl Desk {
     ghost use Rattle.gv_base.specs.Files.{put_file, del_file};
-    ghost use Rattle.gv_tool.specs.Desk.{standing_of, loads_of, IsAnswer, IsReport, IsStuckRun};
+    ghost use Rattle.gv_tool.specs.Desk.{standing_of, loads_of, IsStuckRun};
     ghost use Rattle.gv_tool.specs.Next.{command_of};
     ghost use Rattle.gv_tool.specs.Script.{IsLawful};
-    ghost use Rattle.gv_tool.specs.Replies.{at_start, with_tree};
+    ghost use Rattle.gv_tool.specs.Replies.{at_start, with_tree, Does, Runs};
 
     /// An empty tree, and an empty cache of this key.
     pub fn new(alloc: Global, key: Key) -> Self
@@ -85,9 +76,9 @@ impl Desk {
     }
 
     /// Sets a file.
-    fn put(&mut self, alloc: Global, path: &[u8], bytes: &[u8]) -> Result<Answer, NoMemory>
+    fn put(&mut self, alloc: Global, path: &[u8], bytes: &[u8]) -> Result<Bytes, NoMemory>
         requires { IsPath path.now }
-        ensures put { IfOk result (λ answer. (answer ≡ Answer.Reply []) × (standing_of self.new ≡ with_tree (standing_of self.old) (put_file self.old.files path.now bytes.now))) }
+        ensures put { IfOk result (λ reply. (reply ≡ []) × (standing_of self.new ≡ with_tree (standing_of self.old) (put_file self.old.files path.now bytes.now))) }
         ensures cache { self.new.cache ≡ self.old.cache }
         ensures kits { self.new.kits ≡ self.old.kits }
     {
@@ -96,9 +87,9 @@ impl Desk {
     }
 
     /// Removes a file.
-    fn del(&mut self, alloc: Global, path: &[u8]) -> Answer
+    fn del(&mut self, alloc: Global, path: &[u8]) -> Bytes
         requires { IsPath path.now }
-        ensures answer { result ≡ Answer.Reply [] }
+        ensures answer { result ≡ [] }
         ensures del { standing_of self.new ≡ with_tree (standing_of self.old) (del_file self.old.files path.now) }
         ensures kits { self.new.kits ≡ self.old.kits }
     {
@@ -107,47 +98,42 @@ impl Desk {
     }
 
     /// Reports on the tree. The kit does at most 1,024 loads.
-    fn check(&mut self, alloc: Global) -> Result<Answer, Unloaded>
+    fn check(&mut self, alloc: Global) -> Result<Bytes, Unloaded>
         requires room { loads_of self.old.kits ≤ 2 ^ 62 }
         ensures bound { loads_of self.new.kits ≤ loads_of self.old.kits + 1024 }
         ensures honest { IsHonest self.old.cache → IsHonest self.new.cache }
-        ensures report { IsHonest self.old.cache → IfOk result (λ answer. IsReport (standing_of self.old) (standing_of self.new) answer) }
-        ensures circle { IsHonest self.old.cache → result ≡ Err Unloaded.Circle → HasCircle self.old.files }
+        ensures report { IsHonest self.old.cache → IfOk result (λ reply. Runs (standing_of self.old) (standing_of self.new) reply) }
+        ensures circle { IsHonest self.old.cache → result ≡ Err Unloaded.Stuck → HasCircle self.old.files }
     {
-        let answer = report_on(alloc, &self.files, &mut self.cache, &mut self.kits)?;
-        match answer {
-            Reported::NotBuilt => Ok(Answer::NotBuilt),
-            Reported::Told(report) => {
-                self.found = report.found;
-                self.counts = report.counts;
-                Ok(Answer::Reply(report.text))
-            }
-        }
+        let report = report_on(alloc, &self.files, &mut self.cache, &mut self.kits)?;
+        self.found = report.found;
+        self.counts = report.counts;
+        Ok(report.text)
     }
 
     /// Tells the numbers of the last run.
-    fn stats(&self, alloc: Global) -> Result<Answer, NoMemory>
-        ensures { IfOk result (λ answer. answer ≡ Answer.Reply (stats_text self.now.counts)) }
+    fn stats(&self, alloc: Global) -> Result<Bytes, NoMemory>
+        ensures { IfOk result (λ reply. reply ≡ stats_text self.now.counts) }
     {
         let text = stats(alloc, &self.counts)?;
-        Ok(Answer::Reply(text))
+        Ok(text)
     }
 
-    /// Carries a command out, and gives the answer to it.
-    pub(crate) fn apply(&mut self, alloc: Global, command: Command<'_>) -> Result<Answer, Unloaded>
+    /// Carries a command out, and gives the reply to it.
+    pub(crate) fn apply(&mut self, alloc: Global, command: Command<'_>) -> Result<Bytes, Unloaded>
         requires lawful { IsLawful (command_of command) }
         requires goes { command.word ≢ Word.End }
         requires room { loads_of self.old.kits ≤ 2 ^ 62 }
         ensures bound { loads_of self.new.kits ≤ loads_of self.old.kits + 1024 }
         ensures honest { IsHonest self.old.cache → IsHonest self.new.cache }
-        ensures answer { IsHonest self.old.cache → IfOk result (λ answer. IsAnswer (command_of command.entry) (standing_of self.old) (standing_of self.new) answer) }
-        ensures circle { IsHonest self.old.cache → result ≡ Err Unloaded.Circle → IsStuckRun (command_of command.entry) (standing_of self.old) }
+        ensures answer { IsHonest self.old.cache → IfOk result (λ reply. Does (command_of command.entry) (standing_of self.old) (standing_of self.new) reply) }
+        ensures circle { IsHonest self.old.cache → result ≡ Err Unloaded.Stuck → IsStuckRun (command_of command.entry) (standing_of self.old) }
     {
         match command.word {
             Word::Put => match command.fields {
                 Fields::With(path, bytes) => {
-                    let answer = self.put(alloc, path, bytes)?;
-                    Ok(answer)
+                    let reply = self.put(alloc, path, bytes)?;
+                    Ok(reply)
                 }
                 Fields::Plain => unreachable!(),
                 Fields::At(_) => unreachable!(),
@@ -159,8 +145,8 @@ impl Desk {
             },
             Word::Check => self.check(alloc),
             Word::Stats => {
-                let answer = self.stats(alloc)?;
-                Ok(answer)
+                let reply = self.stats(alloc)?;
+                Ok(reply)
             }
             Word::End => unreachable!(),
         }

@@ -1,6 +1,6 @@
 //! The replies and last lines of a session, as they go out.
 ghost use Rattle.std.specs.Prelude.{◌≡◌, ◌≢◌, ◌≤◌, Some, length};
-ghost use Rattle.gv_tool.specs.Outcome.{OnlyWhereRose, refusal, not_built};
+ghost use Rattle.gv_tool.specs.Outcome.{OnlyWhereRose, refusal};
 ghost use Rattle.gv_tool.specs.Turn.{Tells, SaysLast, IsLast};
 
 use crate::session::Session;
@@ -53,19 +53,6 @@ pub(crate) fn refuse<O: Sink>(alloc: Global, session: &Session, output: &mut O) 
     let offset = session.offset;
     match format!(in alloc; "script refused at {offset}\n") {
         Ok(line) => say_last(line.as_bytes(), Status::Refused, output),
-        Err(_) => Status::NoMemory,
-    }
-}
-
-/// Ends at the run that the pending bytes begin with.
-pub(crate) fn stop<O: Sink>(alloc: Global, session: &Session, output: &mut O) -> Status
-    ensures says { SaysLast (O.view output.old) (O.view output.new) (not_built session.now.offset) Status.NotBuilt result }
-    ensures sink_fault { OnlyWhereRose (O.view output.old).faults (O.view output.new).faults (result ≡ Status.SinkFault) }
-    ensures stuck { OnlyWhereRose (O.view output.old).stalls (O.view output.new).stalls (result ≡ Status.Stuck) }
-{
-    let offset = session.offset;
-    match format!(in alloc; "not built at {offset}\n") {
-        Ok(line) => say_last(line.as_bytes(), Status::NotBuilt, output),
         Err(_) => Status::NoMemory,
     }
 }

@@ -23,8 +23,6 @@ pub enum Status {
     TooLong = 9,
     /// The sink took nothing.
     Stuck = 10,
-    /// The tree at a run isn't in the form that is built.
-    NotBuilt = 11,
     /// The rules of a package of the tree at a run go in a circle.
     Circle = 12,
 }
@@ -41,7 +39,6 @@ pub fn status_name(number: u8) -> &'static str
         8 => "script refused",
         9 => "input too long",
         10 => "sink stuck",
-        11 => "not built",
         12 => "rules in a circle",
         _ => "",
     }

@@ -6,8 +6,7 @@ ghost use Rattle.gv_tool.specs.Script.{IsBeginning};
 ghost use Rattle.gv_tool.specs.Outcome.{OnlyWhereRose, limit};
 ghost use Rattle.gv_tool.specs.Turn.{Turns, Ends, Runs, verdict_of, work_left};
 
-use crate::desk::Answer;
-use crate::lines::{refuse, stop, tell};
+use crate::lines::{refuse, tell};
 use crate::pieces::{Taken, take_piece};
 use crate::script::{Next, next_command};
 use crate::session::Session;
@@ -64,10 +63,9 @@ fn turn<I: Source, O: Sink>(
                 return Some(verdict(session));
             }
             match session.desk.apply(alloc, command) {
-                Ok(Answer::Reply(reply)) => tell(session, len, reply.as_slice(), output),
-                Ok(Answer::NotBuilt) => Some(stop(alloc, session, output)),
+                Ok(reply) => tell(session, len, reply.as_slice(), output),
                 Err(Unloaded::NoMemory) => Some(Status::NoMemory),
-                Err(Unloaded::Circle) => Some(Status::Circle),
+                Err(Unloaded::Stuck) => Some(Status::Circle),
             }
         }
         Next::Refused => Some(refuse(alloc, session, output)),

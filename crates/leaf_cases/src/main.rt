@@ -4,6 +4,7 @@
 
 mod base;
 mod caches;
+mod exports;
 mod facts;
 mod fields;
 mod findings;

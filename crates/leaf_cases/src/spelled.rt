@@ -1,8 +1,7 @@
-//! Texts that spell interfaces, facts, findings and caches: what is read of them, which is written as the same bytes.
-use crate::told::{add, add_value, said};
-use crate::{caches, facts, findings};
+//! Texts that spell what packages export, facts, findings and caches: what is read of them, which is written as the same bytes.
+use crate::told::said;
+use crate::{caches, exports, facts, findings};
 use bundles::bytes_of;
-use export_data::{ConstOut, export_consts, read_consts};
 use fact_codec::{Never, Wraps};
 use gv_base::NoMemory;
 use std::alloc::Global;
@@ -14,36 +13,12 @@ pub struct Reading {
     pub again: Vec<u8>,
 }
 
-/// Adds a constant: its name, its type and its value.
-fn add_constant(alloc: Global, out: &mut Vec<u8>, constant: &ConstOut) -> Result<(), NoMemory> {
-    let text = format!(in alloc; ", {} {:?} ", constant.name.as_str(), constant.kind)?;
-    add(out, text.as_str())?;
-    add_value(alloc, out, &constant.value)
-}
-
-/// An interface: its path and its name, and its constants.
-fn interface(alloc: Global, bytes: &[u8]) -> Result<Option<Reading>, NoMemory> {
-    let found = read_consts(alloc, bytes)?;
-    let Some(read) = found else {
-        return Ok(None);
-    };
-    let list = read.list.as_slice();
-    let again = export_consts(alloc, read.path.as_str(), read.name.as_str(), list)?;
-    let mut says = said(alloc, read.path.as_str())?;
-    says.push(b' ')?;
-    add(&mut says, read.name.as_str())?;
-    for constant in list {
-        add_constant(alloc, &mut says, constant)?;
-    }
-    Ok(Some(Reading { says, again }))
-}
-
 /// What is read of bytes that are to spell a thing of this file.
 fn read(alloc: Global, name: &str, bytes: &[u8]) -> Result<Option<Reading>, NoMemory> {
     match name {
         "caches" => caches::read(alloc, bytes),
+        "exports" => exports::read(alloc, bytes),
         "findings" => findings::read(alloc, bytes),
-        "interfaces" => interface(alloc, bytes),
         "never" => facts::table::<Never>(alloc, bytes),
         "wraps" => facts::table::<Wraps>(alloc, bytes),
         _ => Ok(None),
@@ -109,5 +84,8 @@ pub fn answer(alloc: Global, name: &str, input: &str) -> Result<Vec<u8>, NoMemor
         return changed(alloc, of, &bytes);
     }
     let bytes = bytes_of(alloc, input)?;
+    if name == "exported" {
+        return exports::exported(alloc, &bytes);
+    }
     told(alloc, name, &bytes)
 }

@@ -70,7 +70,7 @@ fn loaded(alloc: Global, kit: &mut GoKit, input: &LoadInput) -> Result<Vec<u8>, 
     match kit.load(input) {
         Ok(load) => shown(alloc, &load),
         Err(Unloaded::NoMemory) => Err(NoMemory),
-        Err(Unloaded::Circle) => said(alloc, "circle"),
+        Err(Unloaded::Stuck) => said(alloc, "circle"),
     }
 }
 

@@ -20,7 +20,7 @@ fn answer(alloc: Global, folder: &str, name: &str, input: &str) -> Result<Vec<u8
     match folder {
         "loads" => loads::answer(alloc, name, input),
         "replies" => replies::answer(alloc, name, input),
-        "trees" => trees::answer(alloc, name, input),
+        "trees" => trees::answer(alloc, input),
         "work" => work::answer(alloc, name, input),
         _ => told::unread(alloc),
     }

@@ -1,4 +1,4 @@
-//! Small trees: the reply and the work of a run, twice, and whether a tree is built.
+//! Small trees: the reply and the work of a run, twice.
 use crate::told::{add, said};
 use action_graph::Unloaded;
 use bundles::bytes_of;
@@ -6,15 +6,19 @@ use fact_cache::Cache;
 use go_kit::GoKit;
 use gv_base::{Files, NoMemory};
 use std::alloc::Global;
-use tree_report::{Answer, TreeReport, report_on};
+use tree_report::{TreeReport, report_on};
 
-/// Puts a file of one of four paths.
+/// Puts a file of one of eight paths.
 fn put(files: &mut Files, path: &str, bytes: &[u8]) -> Result<(), NoMemory> {
     match path {
         "a.go" => files.put("a.go", bytes),
+        "a/a.go" => files.put("a/a.go", bytes),
         "b.go" => files.put("b.go", bytes),
         "b/b.go" => files.put("b/b.go", bytes),
         "b/c.go" => files.put("b/c.go", bytes),
+        "c/c.go" => files.put("c/c.go", bytes),
+        "go.mod" => files.put("go.mod", bytes),
+        "std/b/b.go" => files.put("std/b/b.go", bytes),
         _ => Ok(()),
     }
 }
@@ -42,10 +46,9 @@ fn report_says(alloc: Global, report: &TreeReport) -> Result<Vec<u8>, NoMemory> 
 fn told(alloc: Global, files: &Files, cache: &mut Cache) -> Result<Vec<u8>, NoMemory> {
     let mut kits = [GoKit::new(alloc)];
     match report_on(alloc, files, cache, &mut kits) {
-        Ok(Answer::NotBuilt) => said(alloc, "not built"),
-        Ok(Answer::Told(report)) => report_says(alloc, &report),
+        Ok(report) => report_says(alloc, &report),
         Err(Unloaded::NoMemory) => Err(NoMemory),
-        Err(Unloaded::Circle) => said(alloc, "circle"),
+        Err(Unloaded::Stuck) => said(alloc, "circle"),
     }
 }
 
@@ -58,23 +61,8 @@ fn told_twice(alloc: Global, files: &Files) -> Result<Vec<u8>, NoMemory> {
     Ok(out)
 }
 
-/// Whether a tree is built.
-fn is_built(alloc: Global, files: &Files) -> Result<Vec<u8>, NoMemory> {
-    let mut cache = Cache::new(alloc);
-    let mut kits = [GoKit::new(alloc)];
-    match report_on(alloc, files, &mut cache, &mut kits) {
-        Ok(Answer::NotBuilt) => said(alloc, "not built"),
-        Ok(Answer::Told(_)) => said(alloc, "built"),
-        Err(Unloaded::NoMemory) => Err(NoMemory),
-        Err(Unloaded::Circle) => said(alloc, "circle"),
-    }
-}
-
 /// The answer to the input of a case of this file.
-pub fn answer(alloc: Global, name: &str, input: &str) -> Result<Vec<u8>, NoMemory> {
+pub fn answer(alloc: Global, input: &str) -> Result<Vec<u8>, NoMemory> {
     let files = tree_of(alloc, input)?;
-    if name == "built" {
-        return is_built(alloc, &files);
-    }
     told_twice(alloc, &files)
 }

@@ -1,6 +1,8 @@
 //! Whole sessions over devices in memory. What no clause says is looked at here: that a call with
 //! ample memory answers, and the printed lines.
 mod keys;
+mod limits;
+mod types;
 
 use gv_base::{MemSink, MemSource, SureKeeper, SureTree};
 use gv_tool::adapters::{StdSink, StdSource};
@@ -33,7 +35,7 @@ type Case = (&'static [u8], &'static [u8], u8);
 
 /// Scripts, and the output and the status of each.
 #[rattlefmt::skip]
-const SCRIPTS: [Case; 25] = [
+const SCRIPTS: [Case; 23] = [
     (b"", b"", 0),
     (b"end\nrubbish", b"", 0),
     (b"check\nput a.go 100\npackage a\n", b"packages 0, errors 0\nscript refused at 6\n", 8),
@@ -54,14 +56,12 @@ const SCRIPTS: [Case; 25] = [
     (b"del a:b\n", b"script refused at 0\n", 8),
     (b"Check\n", b"script refused at 0\n", 8),
     (b"check\r\n", b"script refused at 0\n", 8),
-    (b"put go.mod 9\nmodule m\n\nstats\ncheck\n", b"nodes 0, missing 0, loads 0, runs 0\nnot built at 29\n", 11),
-    (b"check\nput a/a.go 21\npackage a\n\nfunc f(){}\ndel a/a.go\ncheck\nput go.mod 0\n\ncheck\nend\n", b"packages 0, errors 0\npackages 0, errors 0\nnot built at 73\n", 11),
     (b"stats\n", b"nodes 0, missing 0, loads 0, runs 0\n", 0),
     (b"stats \n", b"script refused at 0\n", 8),
     (b"stat\n", b"script refused at 0\n", 8),
 ];
 
-/// Trees, and the reply to a check of each: rules at their places, and what is not built.
+/// Trees, and the reply to a check of each: rules at their places.
 #[rattlefmt::skip]
 const TREES: [Case; 15] = [
     (b"put a/a.go 0\n\ncheck\n", b"a/a.go:1:1: syntax error\npackages 1, errors 1\n", 1),
@@ -74,8 +74,8 @@ const TREES: [Case; 15] = [
     (b"put a/a.go 45\npackage a\n\nconst A = 1 +\n\t2 + A0\nconst A0 = 3\nput a/a_test.go 1\nx\nput a/_a.go 1\nx\nput a/notes 1\nx\nput testdata/a.go 1\nx\ncheck\n", b"packages 1, errors 0\n", 0),
     (b"put a/a.go 11\npackage a\n\n\nput a/b.go 10\npackage b\n\ncheck\n", b"a/b.go:1:9: package name differs\npackages 1, errors 1\n", 1),
     (b"put a/a.go 11\npackage a\n\n\nput b/a.go 11\npackage a\n\n\ncheck\n", b"packages 2, errors 0\n", 0),
-    (b"put go.mod 9\nmodule m\n\ncheck\n", b"not built at 23\n", 11),
-    (b"put std/a 1\nx\ncheck\n", b"not built at 14\n", 11),
+    (b"put go.mod 9\nmodule m\n\ncheck\n", b"packages 0, errors 0\n", 0),
+    (b"put std/a 1\nx\ncheck\n", b"packages 0, errors 0\n", 0),
     (b"put a/a.go 25\npackage a\n\nconst int = 1\n\ncheck\n", b"packages 1, errors 0\n", 0),
     (b"put a/a.go 24\npackage a\n\nconst A = 01\n\ncheck\n", b"packages 1, errors 0\n", 0),
     (b"put a/a.go 39\npackage a\n\nconst A = B + 1\nconst B = A\n\ncheck\ndel a/a.go\ncheck\n", b"a/a.go:3:7: E4 declaration cycle\na/a.go:4:7: E4 declaration cycle\npackages 1, errors 2\npackages 0, errors 0\n", 0),
@@ -98,7 +98,7 @@ const CONSTANTS: [Case; 10] = [
 
 /// Trees of packages that import each other, and the replies to checks and to `stats`.
 #[rattlefmt::skip]
-const PACKAGES: [Case; 9] = [
+const PACKAGES: [Case; 10] = [
     (b"put q/q.go 23\npackage q\n\nconst N = 2\n\nput p/p.go 43\npackage p\n\nimport \"m/q\"\n\nconst M = q.N + 1\n\ncheck\nstats\ncheck\nstats\nput q/q.go 27\npackage q\n\nconst N = 1 + 1\n\ncheck\nstats\nput q/q.go 23\npackage q\n\nconst N = 3\n\ncheck\nstats\n", b"packages 2, errors 0\nnodes 2, missing 2, loads 2, runs 0\npackages 2, errors 0\nnodes 2, missing 0, loads 0, runs 0\npackages 2, errors 0\nnodes 2, missing 1, loads 1, runs 0\npackages 2, errors 0\nnodes 2, missing 2, loads 2, runs 0\n", 0),
     (b"put q/q.go 23\npackage q\n\nconst N = 2\n\nput p/p.go 39\npackage p\n\nimport \"m/q\"\n\nconst M = q.n\n\ncheck\n", b"p/p.go:5:11: E9 not exported by package\npackages 2, errors 1\n", 1),
     (b"put q/q.go 23\npackage q\n\nconst N = 2\n\nput p/p.go 37\npackage p\n\nimport \"m/q\"\n\nconst M = 1\n\ncheck\nstats\n", b"p/p.go:3:8: E7 unused import\npackages 2, errors 1\nnodes 2, missing 2, loads 2, runs 0\n", 1),
@@ -108,6 +108,20 @@ const PACKAGES: [Case; 9] = [
     (b"put a/a.go 102\npackage a\n\ntype T struct{ n int }\n\nfunc f(x T) bool {\n\tif x == T{} {\n\t\treturn true\n\t}\n\treturn false\n}\n\ncheck\n", b"a/a.go:5:1: syntax error\npackages 1, errors 1\n", 1),
     (b"put a/a.go 26\npackage a\n\nconst S = 'ab'\n\ncheck\n", b"a/a.go:3:11: lexical: bad lexeme\npackages 1, errors 1\n", 1),
     (b"put q/q.go 23\npackage q\n\nconst N = 2\n\ncheck\nput p/p.go 39\npackage p\n\nimport \"m/q\"\n\nconst M = q.N\n\ndel q/q.go\nstats\n", b"packages 1, errors 0\nnodes 1, missing 1, loads 1, runs 0\n", 0),
+    // c imports b alone, and uses a field and a method of a type of a: what a declares is in what c's load reads
+    (b"put a/a.go 69\npackage a\n\ntype T struct{ N int }\n\nfunc (t T) M() int { return t.N }\n\nput b/b.go 35\npackage b\n\nimport \"m/a\"\n\nvar V a.T\n\nput c/c.go 60\npackage c\n\nimport \"m/b\"\n\nvar W int = b.V.N\n\nvar X = b.V.M()\n\ncheck\nstats\nput a/a.go 82\npackage a\n\ntype T struct{ N int }\n\nfunc (t T) M() int { return t.N }\n\nfunc f() {}\n\ncheck\nstats\nput a/a.go 70\npackage a\n\ntype T struct{ N string }\n\nfunc (t T) M() int { return 1 }\n\ncheck\nstats\n", b"packages 3, errors 0\nnodes 3, missing 3, loads 3, runs 0\npackages 3, errors 0\nnodes 3, missing 1, loads 1, runs 0\nc/c.go:5:13: E32 not assignable\npackages 3, errors 1\nnodes 3, missing 3, loads 3, runs 0\n", 1),
+];
+
+/// Trees with a `go.mod` or with packages under `std`, and the replies to checks.
+#[rattlefmt::skip]
+const MODULES: [Case; 7] = [
+    (b"put go.mod 21\nmodule example.com/x\n\nput q/q.go 23\npackage q\n\nconst N = 2\n\nput p/p.go 51\npackage p\n\nimport \"example.com/x/q\"\n\nconst M = q.N\n\ncheck\ndel go.mod\ncheck\n", b"packages 2, errors 0\np/p.go:3:8: missing import \"example.com/x/q\"\npackages 2, errors 1\n", 1),
+    (b"put go.mod 29\n// m\nmodule \"x\" // y\nmodule z\nput a.go 22\npackage a\n\nimport \"x\"\n\ncheck\n", b"x: import cycle\npackages 1, errors 1\n", 1),
+    (b"put go.mod 11\nmodule a b\n\nput a.go 34\npackage a\n\nconst A = 1\nconst A = B\nput b/b.go 22\npackage b\n\nimport \"a\"\n\ncheck\n", b"a.go:4:7: E1 redeclared\na.go:4:11: E3 undefined\na/b: blocked by a\npackages 2, errors 3\n", 1),
+    (b"put std/os/os.go 24\npackage os\n\nconst O = 1\n\nput p/p.go 39\npackage p\n\nimport \"os\"\n\nconst M = os.O\n\ncheck\nstats\n", b"packages 2, errors 0\nnodes 2, missing 2, loads 2, runs 0\n", 0),
+    (b"put std/os/os.go 24\npackage os\n\nconst O = Z\n\nput std/a.go 10\npackage a\n\nput p/p.go 39\npackage p\n\nimport \"os\"\n\nconst M = os.O\n\ncheck\n", b"m/p: blocked by os\nstd/os/os.go:3:11: E3 undefined\npackages 3, errors 2\n", 1),
+    (b"put std/m/q/q.go 7\npackage\nput q/q.go 23\npackage q\n\nconst N = 2\n\nput p/p.go 39\npackage p\n\nimport \"m/q\"\n\nconst M = q.N\n\ncheck\ndel q/q.go\ncheck\n", b"packages 2, errors 0\nm/p: blocked by m/q\nstd/m/q/q.go:1:1: syntax error\npackages 2, errors 2\n", 1),
+    (b"put std/os/os.go 28\npackage os\n\nfunc Exit(int)\n\n\ncheck\n", b"packages 1, errors 0\n", 0),
 ];
 
 fn answer<R: Threads + Sync + RandomSource>(
@@ -168,6 +182,14 @@ fn answers_trees_of_constants(rt: HostRuntime) -> Result<(), Fail> {
 #[test]
 fn answers_trees_of_packages(rt: HostRuntime) -> Result<(), Fail> {
     for case in PACKAGES {
+        answers(&rt, rt.alloc(), case)?;
+    }
+    Ok(())
+}
+
+#[test]
+fn answers_trees_of_modules(rt: HostRuntime) -> Result<(), Fail> {
+    for case in MODULES {
         answers(&rt, rt.alloc(), case)?;
     }
     Ok(())
@@ -323,7 +345,7 @@ fn reads_and_writes_by_std(rt: HostRuntime) -> Result<(), Fail> {
 }
 
 /// Each status, its number and its name.
-const STATUSES: [(Status, u8, &str); 11] = [
+const STATUSES: [(Status, u8, &str); 10] = [
     (Status::Done, 0, ""),
     (Status::Found, 1, ""),
     (Status::Usage, 2, "usage"),
@@ -333,7 +355,6 @@ const STATUSES: [(Status, u8, &str); 11] = [
     (Status::Refused, 8, "script refused"),
     (Status::TooLong, 9, "input too long"),
     (Status::Stuck, 10, "sink stuck"),
-    (Status::NotBuilt, 11, "not built"),
     (Status::Circle, 12, "rules in a circle"),
 ];
 

@@ -15,7 +15,9 @@ use Rattle.go_tree.specs.declared.tree.FileTree.{FileTree}
 use Rattle.parse_file.specs.Verdict.{IsParsed}
 use Rattle.parse_file.specs.declared.verdict.FileVerdict.{FileVerdict}
 use Rattle.parse_file.specs.declared.verdict.FileVerdict.TheVariants as verdict
+use Rattle.parse_file.proofs.Counts.{tokens_length}
 use Rattle.check_pkg.specs.Packages.{Package as Sources, package_of as sources_of}
+use Rattle.import_graph.specs.Sources.{is_source}
 use Rattle.import_graph.specs.declared.pack.Package.{Package}
 use Rattle.import_graph.specs.Packages.{paths_of, is_broken, head_at, is_missing, first_name, clash_in, clashes, counts, lines_in, lines_of, imports_path, missing_at, missing}
 use Rattle.import_graph.proofs.ListLemmas.{any-get, get-any, map-get, get-map}
@@ -23,11 +25,23 @@ use Rattle.import_graph.proofs.OrderLemmas.{keep-filter}
 use Rattle.gv_driver.proofs.Places.{element, at-contained, contains-at}
 use Rattle.analysis_core.specs.Replies.{file_numbered}
 use Rattle.action_graph.specs.Judging.{text_of, AreParsed, IsFileAt, ImportsPath, IsPackageOf, NamesAgree}
-use Rattle.tree_report.specs.Form.{AreRead, AreHeads, AreCountable, head_in, IsRead, IsCountable}
+use Rattle.tree_report.specs.Reading.{AreRead, AreHeads, head_in, IsRead}
+use Rattle.tree_report.proofs.NodeLemmas.{nodes_few}
 
 differ : (b : Bool) → b ≡ true → b ≡ false → ⊥
 differ true h k = cc
 differ false h k = cc
+
+-- the source files are short
+abbrev pub AreShort : List Entry → Type 0
+AreShort tree = (n : ℕ) (e : Entry) → slice_get tree n ≡ Some e → is_source e.0 ≡ true → length e.1 ≤ 4194304
+
+-- so that their nodes are few
+parsed-few : (text : List ℕ) (t : FileTree) → IsParsed text t → length text ≤ 4194304 → length t.nodes ≤ 2 ^ 32
+parsed-few text t is short =
+    let nodes = nodes_few is.tokens text t is.spelled in
+    let tokens = tokens_length text is.tokens is.lexed in
+    omega (arith, nodes, tokens, short)
 
 -- the tree of a file that is parsed
 abbrev no_tree : FileTree
@@ -49,15 +63,15 @@ pub record IsFine (text : List ℕ) (t : FileTree) (h : Head) : Type 0 where
   pub few : length t.nodes ≤ 2 ^ 32
   pub head : h ≡ head_of t text
 
-fine-by : (e : Entry) (v : FileVerdict) (h : Head) → Some h ≡ head_in e (Some v) → IsRead e (Some v) → IsCountable (Some v) → IsFine e.1 (tree_by v) h
-fine-by e (verdict.Parsed t) h is read counted = record { parsed = read.1; few = counted; head = same_Some h (head_of t e.1) is }
-fine-by e (verdict.Lexical offset why) h is read counted = cc
-fine-by e (verdict.Syntax offset) h is read counted = cc
-fine-by e (verdict.TooDeep offset) h is read counted = cc
+fine-by : (e : Entry) (v : FileVerdict) (h : Head) → Some h ≡ head_in e (Some v) → IsRead e (Some v) → (is_source e.0 ≡ true → length e.1 ≤ 4194304) → IsFine e.1 (tree_by v) h
+fine-by e (verdict.Parsed t) h is read short = record { parsed = read.1; few = parsed-few e.1 t read.1 (short read.0); head = same_Some h (head_of t e.1) is }
+fine-by e (verdict.Lexical offset why) h is read short = cc
+fine-by e (verdict.Syntax offset) h is read short = cc
+fine-by e (verdict.TooDeep offset) h is read short = cc
 
-fine-in : (e : Entry) (v : Option FileVerdict) (h : Head) → Some h ≡ head_in e v → IsRead e v → IsCountable v → IsFine e.1 (tree_in v) h
-fine-in e None h is read counted = cc
-fine-in e (Some v) h is read counted = fine-by e v h is read counted
+fine-in : (e : Entry) (v : Option FileVerdict) (h : Head) → Some h ≡ head_in e v → IsRead e v → (is_source e.0 ≡ true → length e.1 ≤ 4194304) → IsFine e.1 (tree_in v) h
+fine-in e None h is read short = cc
+fine-in e (Some v) h is read short = fine-by e v h is read short
 
 some-head : (o : Option Head) → (is_missing o ≡ true → ⊥) → (h : Head) × (o ≡ Some h)
 some-head None there = absurd (there refl)
@@ -75,9 +89,9 @@ pub record IsFineAt (tree : List Entry) (verdicts : List (Option FileVerdict)) (
   pub fine : IsFine (file_numbered tree n).1 (tree_in (get_or verdicts n None)) has
 
 -- so is a file of a package none of whose files is broken
-pub fine-at : (tree : List Entry) (verdicts : List (Option FileVerdict)) (heads : List (Option Head)) (files : List ℕ) (n : ℕ) → AreRead tree verdicts → AreHeads tree verdicts heads → AreCountable verdicts
+pub fine-at : (tree : List Entry) (verdicts : List (Option FileVerdict)) (heads : List (Option Head)) (files : List ℕ) (n : ℕ) → AreRead tree verdicts → AreHeads tree verdicts heads → AreShort tree
     → is_broken heads files ≡ false → Contains files n → IsFineAt tree verdicts heads n
-fine-at tree verdicts heads files n read headed counted whole has =
+fine-at tree verdicts heads files n read headed short whole has =
     let some = some-head (head_at heads n) (λ missing. differ (is_broken heads files) (any-get (λ m. is_missing (head_at heads m)) files has.0 n (at-contained files n has) missing) whole) in
     let here : slice_get heads n ≡ Some (Some some.0) = head-within heads n some.0 some.1 in
     let l : n < length heads = slice_get_within heads n (Some some.0) here in
@@ -85,7 +99,7 @@ fine-at tree verdicts heads files n read headed counted whole has =
     let size_v : length verdicts ≡ length tree = read.size in
     let e = element tree n (omega (arith, l, size_h)) in
     let v = element verdicts n (omega (arith, l, size_h, size_v)) in
-    let fine : IsFine e.0.1 (tree_in v.0) some.0 = fine-in e.0 v.0 some.0 (headed.each n e.0 v.0 (Some some.0) e.1 v.1 here) (read.each n e.0 v.0 e.1 v.1) (counted n v.0 v.1) in
+    let fine : IsFine e.0.1 (tree_in v.0) some.0 = fine-in e.0 v.0 some.0 (headed.each n e.0 v.0 (Some some.0) e.1 v.1 here) (read.each n e.0 v.0 e.1 v.1) (short n e.0 e.1) in
     record {
       has = some.0;
       at = some.1;
@@ -106,12 +120,12 @@ abbrev pub trees-of : List (Option FileVerdict) → List ℕ → List FileTree
 trees-of verdicts files = map (λ n. tree_in (get_or verdicts n None)) files
 
 -- the package of a path and of the files of a package none of which is broken
-pub package-of : (tree : List Entry) (verdicts : List (Option FileVerdict)) (heads : List (Option Head)) (path : List ℕ) (files : List ℕ) → AreRead tree verdicts → AreHeads tree verdicts heads → AreCountable verdicts
+pub package-of : (tree : List Entry) (verdicts : List (Option FileVerdict)) (heads : List (Option Head)) (path : List ℕ) (files : List ℕ) → AreRead tree verdicts → AreHeads tree verdicts heads → AreShort tree
     → is_broken heads files ≡ false → IsPackageOf path (map (file_numbered tree) files) (sources_of path (map (file_numbered tree) files) (trees-of verdicts files))
-package-of tree verdicts heads path files read headed counted whole =
+package-of tree verdicts heads path files read headed short whole =
     let text : ℕ → List ℕ = λ n. (file_numbered tree n).1 in
     let t : ℕ → FileTree = λ n. tree_in (get_or verdicts n None) in
-    let fine : (n : ℕ) → Contains files n → IsFineAt tree verdicts heads n = (λ n has. fine-at tree verdicts heads files n read headed counted whole has) in
+    let fine : (n : ℕ) → Contains files n → IsFineAt tree verdicts heads n = (λ n has. fine-at tree verdicts heads files n read headed short whole has) in
     record {
       path_is = refl;
       files = refl;
@@ -187,14 +201,14 @@ pub record IsFound (heads : List (Option Head)) (files : List ℕ) (packages : L
   pub imported : imports_path heads files other.path ≡ true
 
 module _ (tree : List Entry) (verdicts : List (Option FileVerdict)) (heads : List (Option Head)) (files : List ℕ) (read : AreRead tree verdicts) (headed : AreHeads tree verdicts heads)
-    (counted : AreCountable verdicts) (whole : is_broken heads files ≡ false) where
+    (short : AreShort tree) (whole : is_broken heads files ≡ false) where
   abbrev mine : List ℕ → Sources
   mine path = sources_of path (map (file_numbered tree) files) (trees-of verdicts files)
 
   -- the head of a file of the package
   head-is : (n : ℕ) (t : FileTree) (text : List ℕ) (file : IsNumbered tree verdicts files n t text) → head_at heads file.number ≡ Some (head_of t text)
   head-is n t text file =
-      let f = fine-at tree verdicts heads files file.number read headed counted whole (contains-at files n file.number file.at) in
+      let f = fine-at tree verdicts heads files file.number read headed short whole (contains-at files n file.number file.at) in
       f.at ∙ ap Some (f.fine.head ∙ (ap (λ (x : FileTree). head_of x (file_numbered tree file.number).1) file.tree_is ∙ ap (head_of t) file.text_is))
 
   -- its name is that of the first

@@ -1,10 +1,13 @@
+pub mod SizeLemmas
 pub mod LimitLemmas
 pub mod ReadLemmas
 pub mod LineLemmas
 pub mod RefusalLemmas
 pub mod OnceLemmas
-pub mod FormLemmas
+pub mod ReportLemmas
 pub mod SourceLemmas
+pub mod NodeCosts
+pub mod NodeLemmas
 pub mod HeadLemmas
 pub mod TreeLemmas
 pub mod OrderLemmas

@@ -1,81 +1,110 @@
--- Loops over files and texts.
-use Rattle.std.proofs.Common.{◌≡◌, ℕ, ◌+◌, ◌<◌, ◌≤◌, inl, inr, List, [], ◌∷◌, ◌++◌, length, take, map, filter, Bool, true, false, cond, Some, slice_get, slice_index_or, All, sum_by, refl, ap, sym, ◌∙◌, subst, arith}
-use denote.Ref.{Bor}
+-- The first limit that a tree is over, and what a tree within the limits has.
+use Rattle.std.proofs.Common.{◌≡◌, ℕ, ◌<◌, ◌≤◌, inl, inr, Bool, true, false, cond, Option, Some, None, List, [], ◌∷◌, length, slice_index_or, All, refl, sym, ◌∙◌, subst, ap, arith, lt-ltb}
+use Rattle.std.specs.Prelude.{nat_lt}
 use Rattle.std.proofs.lemmas.Bool.{cases_lt}
-use Rattle.std.proofs.lemmas.Option.{get_or_from_slice_get}
-use Rattle.std.proofs.lemmas.List.{map-append, get_or-map, length-map, take_all}
-use Rattle.std.proofs.lemmas.List.Elements.{filter_more, All-more, All-map}
-use Rattle.std.proofs.lemmas.List.Sums.{sum_by_more, sum_by_more_le, sum_by-cons}
+use Rattle.std.proofs.lemmas.Option.{same_Some}
+use Rattle.std.proofs.lemmas.List.Folds.{list_any_at}
 use Rattle.gv_base.specs.Files.{Entry}
-use Rattle.import_graph.specs.Sources.{is_source}
-use Rattle.tree_report.specs.Form.{is_early, source_texts, AreWithinLimits}
-use Rattle.tree_report.specs.Shown.{texts_shown}
+use Rattle.go_tree.specs.declared.head.Head.{Head}
+use Rattle.parse_file.specs.declared.verdict.FileVerdict.{FileVerdict}
+use Rattle.import_graph.specs.Packages.{ArePackages}
+use Rattle.import_graph.specs.declared.pack.Package.{Package}
+use Rattle.analysis_core.specs.declared.reply.TreeLimit.{TreeLimit}
+use Rattle.analysis_core.specs.declared.reply.TreeLimit.TheVariants as limit
+use Rattle.tree_report.specs.Reading.{AreRead, AreHeads}
+use Rattle.tree_report.specs.Limits.{limited_sizes, limits, are_many, some_long, are_heavy, size_limit, HasManyPackages, IsOver, IsFirstOf, IsFirstLimit, IsOverOne, IsWithin}
+use Rattle.tree_report.proofs.OnceLemmas.{reading-once}
 
--- what holds of each number below n, and of n
-pub below_one_more : (P : ℕ → Type 0) (n : ℕ) → ((k : ℕ) → k < n → P k) → P n → (k : ℕ) → k < n + 1 → P k
-below_one_more P n old new k lt = elim (cases_lt k n) [
-  | inl less ↦ old k less
-  | inr more ↦ (let e : n ≡ k = omega (arith, more, lt) in subst P e new)
+differ : (b : Bool) → b ≡ true → b ≡ false → ⊥
+differ true h k = cc
+differ false h k = cc
+
+else-false : (b : Bool) → (b ≡ true → ⊥) → b ≡ false
+else-false true h = absurd (h refl)
+else-false false h = refl
+
+-- ---- the first limit
+
+-- there is one
+first-of : (ls : List TreeLimit) (tree : List Entry) (a b : TreeLimit) → IsFirstOf ls tree a → IsFirstOf ls tree b → a ≡ b
+first-of [] tree a b one two = absurd one
+first-of (l ∷ ls) tree a b (inl one) (inl two) = sym one.0 ∙ two.0
+first-of (l ∷ ls) tree a b (inl one) (inr two) = absurd (two.0 one.1)
+first-of (l ∷ ls) tree a b (inr one) (inl two) = absurd (one.0 two.1)
+first-of (l ∷ ls) tree a b (inr one) (inr two) = first-of ls tree a b one.1 two.1
+
+pub first-once : (tree : List Entry) (a b : TreeLimit) → IsFirstLimit tree a → IsFirstLimit tree b → a ≡ b
+first-once tree a b one two = first-of limits tree a b one two
+
+-- the tree is over it
+over-of : (ls : List TreeLimit) (tree : List Entry) (l : TreeLimit) → IsFirstOf ls tree l → IsOver l tree
+over-of [] tree l first = absurd first
+over-of (m ∷ ls) tree l (inl here) = subst (λ x. IsOver x tree) here.0 here.1
+over-of (m ∷ ls) tree l (inr later) = over-of ls tree l later.1
+
+pub not-within : (tree : List Entry) → IsOverOne tree → IsWithin tree → ⊥
+not-within tree over within = within over.0 (over-of limits tree over.0 over.1)
+
+-- it is the one that the sizes of files tell
+pub first-told : (tree : List Entry) (l : TreeLimit) → size_limit (limited_sizes tree) ≡ Some l → IsFirstLimit tree l
+first-told tree l = by (are_many (limited_sizes tree)) (some_long (limited_sizes tree)) (are_heavy (limited_sizes tree)) refl refl refl
+  where
+    by : (b c d : Bool) → are_many (limited_sizes tree) ≡ b → some_long (limited_sizes tree) ≡ c → are_heavy (limited_sizes tree) ≡ d
+        → cond b (Some limit.Files) (cond c (Some limit.FileBytes) (cond d (Some limit.TreeBytes) None)) ≡ Some l → IsFirstLimit tree l
+    by true c d h i j e = inl (same_Some limit.Files l e, h)
+    by false true d h i j e = inr ((λ over. differ _ over h), inl (same_Some limit.FileBytes l e, i))
+    by false false true h i j e = inr ((λ over. differ _ over h), inr ((λ over. differ _ over i), inl (same_Some limit.TreeBytes l e, j)))
+    by false false false h i j e = cc
+
+-- where they tell none, files are few and short, and they have few bytes together
+record AreLight (sizes : List ℕ) : Type 0 where
+  few : are_many sizes ≡ false
+  short : some_long sizes ≡ false
+  light : are_heavy sizes ≡ false
+
+light-told : (sizes : List ℕ) → size_limit sizes ≡ None → AreLight sizes
+light-told sizes = by (are_many sizes) (some_long sizes) (are_heavy sizes) refl refl refl
+  where
+    by : (b c d : Bool) → are_many sizes ≡ b → some_long sizes ≡ c → are_heavy sizes ≡ d → cond b (Some limit.Files) (cond c (Some limit.FileBytes) (cond d (Some limit.TreeBytes) None)) ≡ None → AreLight sizes
+    by true c d h i j e = cc
+    by false true d h i j e = cc
+    by false false true h i j e = cc
+    by false false false h i j e = record { few = h; short = i; light = j }
+
+-- and the first limit is that of packages, if the tree has too many
+pub many-told : (tree : List Entry) → size_limit (limited_sizes tree) ≡ None → HasManyPackages tree → IsFirstLimit tree limit.Packages
+many-told tree none many =
+    let light = light-told (limited_sizes tree) none in
+    inr ((λ over. differ _ over light.few), inr ((λ over. differ _ over light.short), inr ((λ over. differ _ over light.light), inl (refl, many))))
+
+-- or else there is none
+pub within-told : (tree : List Entry) (verdicts : List (Option FileVerdict)) (heads : List (Option Head)) (packages : List Package) → AreRead tree verdicts → AreHeads tree verdicts heads → ArePackages tree heads packages
+    → size_limit (limited_sizes tree) ≡ None → length packages ≤ 1024 → IsWithin tree
+within-told tree verdicts heads packages read headed packed none low = within
+  where
+    within : IsWithin tree
+    within limit.Files over = differ _ over (light-told (limited_sizes tree) none).few
+    within limit.FileBytes over = differ _ over (light-told (limited_sizes tree) none).short
+    within limit.TreeBytes over = differ _ over (light-told (limited_sizes tree) none).light
+    within limit.Packages over =
+        let same = reading-once tree over.verdicts verdicts over.heads heads over.packages packages over.read read over.headed headed over.packed packed in
+        let size : length over.packages ≡ length packages = ap (λ (p : List Package). length p) same.packages in
+        let many = over.many in
+        omega (arith, size, many, low)
+
+-- ---- what the limits give
+
+pub all-short : (sizes : List ℕ) → some_long sizes ≡ false → All (λ size. size ≤ 4194304) sizes
+all-short sizes none n d lt = elim (cases_lt 4194304 (slice_index_or sizes n d)) [
+  | inl long ↦ absurd (differ (some_long sizes) (list_any_at (nat_lt 4194304) sizes n d lt (lt-ltb 4194304 (slice_index_or sizes n d) long)) none)
+  | inr low ↦ low
 ]
 
-pub early-more : (files : List Entry) (n : ℕ) (e : Entry) (path : List ℕ) (told : Bool) → slice_get files n ≡ Some e → path ≡ e.0 → told ≡ is_early path → told ≡ false
-    → ((k : ℕ) (d : Entry) → k < n → is_early (slice_index_or files k d).0 ≡ false) → (k : ℕ) (d : Entry) → k < n + 1 → is_early (slice_index_or files k d).0 ≡ false
-early-more files n e path told at is says plain old k d lt =
-    below_one_more (λ j. (c : Entry) → is_early (slice_index_or files j c).0 ≡ false) n (λ j less c. old j c less)
-    (λ c. ap (λ x. is_early x.0) (get_or_from_slice_get files n e c at) ∙ ap is_early (sym is) ∙ sym says ∙ plain) k lt d
+pub short-told : (sizes : List ℕ) → size_limit sizes ≡ None → All (λ size. size ≤ 4194304) sizes
+short-told sizes none = all-short sizes (light-told sizes none).short
 
--- the source files of a tree
-abbrev pub sources_of : List Entry → List Entry
-sources_of tree = filter (λ entry. is_source entry.0) tree
+pub sizes-short : (tree : List Entry) → IsWithin tree → All (λ size. size ≤ 4194304) (limited_sizes tree)
+sizes-short tree within = all-short (limited_sizes tree) (else-false (some_long (limited_sizes tree)) (within limit.FileBytes))
 
--- one more source file, or another file
-pub source-more : (files : List Entry) (n : ℕ) (e : Entry) → slice_get files n ≡ Some e → n < length files → sources_of (take (n + 1) files) ≡ sources_of (take n files) ++ cond (is_source e.0) (e ∷ []) []
-source-more files n e at lt = filter_more (λ file. is_source file.0) files n e lt ∙ ap (λ x. sources_of (take n files) ++ cond (is_source x.0) (x ∷ []) []) (get_or_from_slice_get files n e e at)
-
-pub texts-picked : (files : List Entry) (n : ℕ) (e : Entry) (old : List (List ℕ)) (b : Bool) → slice_get files n ≡ Some e → n < length files → is_source e.0 ≡ b → old ≡ source_texts (take n files)
-    → old ++ cond b (e.1 ∷ []) [] ≡ source_texts (take (n + 1) files)
-texts-picked files n e old true at lt is so = ap (λ l. l ++ e.1 ∷ []) so ∙ sym (ap (map (λ file. file.1)) (source-more files n e at lt ∙ ap (λ b. sources_of (take n files) ++ cond b (e ∷ []) []) is) ∙ map-append (λ file. file.1) (sources_of (take n files)) (e ∷ []))
-texts-picked files n e old false at lt is so = ap (λ l. l ++ []) so ∙ sym (ap (map (λ file. file.1)) (source-more files n e at lt ∙ ap (λ b. sources_of (take n files) ++ cond b (e ∷ []) []) is) ∙ map-append (λ file. file.1) (sources_of (take n files)) [])
-
--- the limits, of the texts that the code holds
-sum_by-map : {X Y : Type 0} (f : Y → ℕ) (g : X → Y) (xs : List X) → sum_by f (map g xs) ≡ sum_by (λ x. f (g x)) xs
-sum_by-map f g [] = refl
-sum_by-map f g (x ∷ xs) = sum_by-cons f (g x) (map g xs) ∙ ap (λ n. f (g x) + n) (sum_by-map f g xs) ∙ sym (sum_by-cons (λ y. f (g y)) x xs)
-
-pub within-limits : (texts : List (Bor (List ℕ))) → length texts ≤ 10000 → All (λ t. length t.now ≤ 4194304) texts → sum_by (λ t. length t.now) texts ≤ 67108864 → AreWithinLimits (texts_shown texts)
-within-limits texts few small light = record {
-  few = let e : length (map (λ t. t.now) texts) ≡ length texts = length-map texts (λ t. t.now) in omega (arith, e, few);
-  small = All-map (λ t. length t ≤ 4194304) (λ t. t.now) texts small;
-  light = let e = sum_by-map length (λ t. t.now) texts in omega (arith, e, light);
-}
-
-pub limits-total : (texts : List (Bor (List ℕ))) → AreWithinLimits (texts_shown texts) → sum_by (λ t. length t.now) texts ≤ 67108864
-limits-total texts within = let e = sum_by-map length (λ t. t.now) texts in let l = within.light in omega (arith, e, l)
-
-pub limits-count : (texts : List (Bor (List ℕ))) → AreWithinLimits (texts_shown texts) → length texts ≤ 10000
-limits-count texts within = let e : length (map (λ t. t.now) texts) ≡ length texts = length-map texts (λ t. t.now) in let l = within.few in omega (arith, e, l)
-
-pub limits-each : (texts : List (Bor (List ℕ))) (n : ℕ) (d : Bor (List ℕ)) → AreWithinLimits (texts_shown texts) → n < length texts → length (slice_index_or texts n d).now ≤ 4194304
-limits-each texts n d within lt =
-    let e : length (map (λ t. t.now) texts) ≡ length texts = length-map texts (λ t. t.now) in
-    subst (λ t. length t ≤ 4194304) (get_or-map (λ t. t.now) texts n d [] lt) (within.small n [] (omega (arith, lt, e)))
-
--- the limits, text by text
-pub limits-more : (texts : List (Bor (List ℕ))) (n total : ℕ) (d : Bor (List ℕ)) → n < length texts → length (slice_index_or texts n d).now ≤ 4194304 → total + length (slice_index_or texts n d).now ≤ 67108864
-    → (total ≡ sum_by (λ t. length t.now) (take n texts)) × (All (λ t. length t.now ≤ 4194304) (take n texts)) × (total ≤ 67108864)
-    → (total + length (slice_index_or texts n d).now ≡ sum_by (λ t. length t.now) (take (n + 1) texts)) × (All (λ t. length t.now ≤ 4194304) (take (n + 1) texts)) × (total + length (slice_index_or texts n d).now ≤ 67108864)
-limits-more texts n total d lt small light old =
-    (ap (λ m. m + length (slice_index_or texts n d).now) old.0 ∙ sym (sum_by_more (λ t. length t.now) texts n d lt), All-more (λ t. length t.now ≤ 4194304) texts n d lt old.1 small, light)
-
-pub limits-passed : (texts : List (Bor (List ℕ))) (n total : ℕ) (d : Bor (List ℕ)) → n < length texts → total ≡ sum_by (λ t. length t.now) (take n texts) → 67108864 < total + length (slice_index_or texts n d).now
-    → AreWithinLimits (texts_shown texts) → ⊥
-limits-passed texts n total d lt is over within =
-    let whole : sum_by (λ t. length t.now) (take n texts) + length (slice_index_or texts n d).now ≤ sum_by (λ t. length t.now) texts = sum_by_more_le (λ t. length t.now) texts n d lt in
-    let most : sum_by (λ t. length t.now) texts ≤ 67108864 = limits-total texts within in
-    omega (arith, whole, most, over, is)
-
-pub limits-kept : (texts : List (Bor (List ℕ))) (n total : ℕ) → length texts ≤ n → length texts ≤ 10000
-    → (total ≡ sum_by (λ t. length t.now) (take n texts)) × (All (λ t. length t.now ≤ 4194304) (take n texts)) × (total ≤ 67108864) → AreWithinLimits (texts_shown texts)
-limits-kept texts n total done few kept =
-    let e : take n texts ≡ texts = take_all n texts done in
-    within-limits texts few (subst (All (λ t. length t.now ≤ 4194304)) e kept.1) (let s : total ≡ sum_by (λ t. length t.now) texts = kept.0 ∙ ap (sum_by (λ t. length t.now)) e in let m = kept.2 in omega (arith, s, m))
+pub sizes-few : (tree : List Entry) → IsWithin tree → length (limited_sizes tree) ≤ 10000
+sizes-few tree within = elim (cases_lt 10000 (length (limited_sizes tree))) [ inl many ↦ absurd (within limit.Files (lt-ltb 10000 (length (limited_sizes tree)) many)) | inr low ↦ low ]

@@ -1,10 +1,10 @@
 -- Verdicts and heads, file by file.
-use Rattle.std.proofs.Common.{◌≡◌, ℕ, zero, suc, ◌+◌, ◌<◌, Bool, true, false, cond, Option, Some, List, [], ◌∷◌, ◌++◌, length, map, filter, slice_get, get_or, All, refl, sym, ap, ◌∙◌, subst, arith}
+use Rattle.std.proofs.Common.{◌≡◌, ℕ, zero, suc, ◌+◌, ◌<◌, ◌||◌, Bool, true, false, cond, Option, Some, List, [], ◌∷◌, ◌++◌, length, map, filter, slice_get, get_or, codes, bytes_eq, All, refl, sym, ap, ◌∙◌, subst, arith}
 use Rattle.std.proofs.lemmas.Option.{same_Some, slice_get_within, slice_get-get_or}
 use Rattle.gv_base.specs.Files.{Entry}
 use Rattle.parse_file.specs.declared.verdict.FileVerdict.{FileVerdict}
 use Rattle.import_graph.specs.Sources.{is_source}
-use Rattle.tree_report.specs.Form.{source_texts}
+use Rattle.tree_report.specs.Limits.{is_limited, limited_sizes}
 
 -- what holds of the items and of one item more
 pub each-pushed : {X : Type 0} (P : ℕ → X → Type 0) (xs ys : List X) (n : ℕ) (x : X) → ys ≡ xs ++ x ∷ [] → length xs ≡ n
@@ -31,32 +31,43 @@ all-first P x xs all = all 0 x (omega arith)
 all-others : {X : Type 0} (P : X → Type 0) (x : X) (xs : List X) → All P (x ∷ xs) → All P xs
 all-others P x xs all n d lt = all (suc n) d (omega (arith, lt))
 
-abbrev texts : List Entry → List (List ℕ)
-texts = map (λ entry. entry.1)
+abbrev sizes : List Entry → List ℕ
+sizes = map (λ entry. length entry.1)
 
-abbrev sources : List Entry → List Entry
-sources = filter (λ entry. is_source entry.0)
+abbrev limited : List Entry → List Entry
+limited = filter (λ entry. is_limited entry.0)
 
 differ : (b : Bool) → b ≡ true → b ≡ false → ⊥
 differ true h k = cc
 differ false h k = cc
 
-source-kept : (P : List ℕ → Type 0) (e : Entry) (es : List Entry) → is_source e.0 ≡ true → All P (source_texts (e ∷ es)) → All P (e.1 ∷ texts (sources es))
-source-kept P e es h all = subst (λ b. All P (texts (cond b (e ∷ sources es) (sources es)))) h all
+size-kept : (P : ℕ → Type 0) (e : Entry) (es : List Entry) → is_limited e.0 ≡ true → All P (limited_sizes (e ∷ es)) → All P (length e.1 ∷ sizes (limited es))
+size-kept P e es h all = subst (λ b. All P (sizes (cond b (e ∷ limited es) (limited es)))) h all
 
-other-left : (P : List ℕ → Type 0) (e : Entry) (es : List Entry) → is_source e.0 ≡ false → All P (source_texts (e ∷ es)) → All P (texts (sources es))
-other-left P e es h all = subst (λ b. All P (texts (cond b (e ∷ sources es) (sources es)))) h all
+other-left : (P : ℕ → Type 0) (e : Entry) (es : List Entry) → is_limited e.0 ≡ false → All P (limited_sizes (e ∷ es)) → All P (sizes (limited es))
+other-left P e es h all = subst (λ b. All P (sizes (cond b (e ∷ limited es) (limited es)))) h all
 
--- what holds of the texts of all source files holds of that of each
-pub source-text : (P : List ℕ → Type 0) (tree : List Entry) (n : ℕ) (path text : List ℕ) → All P (source_texts tree) → slice_get tree n ≡ Some (path, text) → is_source path ≡ true → P text
-source-text P [] n path text all at is = absurd (let l : n < 0 = slice_get_within [] n (path, text) at in omega (arith, l))
-source-text P (e ∷ es) n path text all at is = by (is_source e.0) refl n at (λ others k there. source-text P es k path text others there is)
+-- what holds of the sizes of all files that the limits count holds of that of each
+limited-size : (P : ℕ → Type 0) (tree : List Entry) (n : ℕ) (path text : List ℕ) → All P (limited_sizes tree) → slice_get tree n ≡ Some (path, text) → is_limited path ≡ true → P (length text)
+limited-size P [] n path text all at is = absurd (let l : n < 0 = slice_get_within [] n (path, text) at in omega (arith, l))
+limited-size P (e ∷ es) n path text all at is = by (is_limited e.0) refl n at (λ others k there. limited-size P es k path text others there is)
   where
-    by : (b : Bool) → is_source e.0 ≡ b → (k : ℕ) → slice_get (e ∷ es) k ≡ Some (path, text) → (All P (texts (sources es)) → (j : ℕ) → slice_get es j ≡ Some (path, text) → P text) → P text
-    by true h zero here more = subst (λ (x : Entry). P x.1) (same_Some e (path, text) here) (all-first P e.1 (texts (sources es)) (source-kept P e es h all))
-    by true h (suc k) there more = more (all-others P e.1 (texts (sources es)) (source-kept P e es h all)) k there
-    by false h zero here more = absurd (differ (is_source path) is (sym (ap (λ (x : Entry). is_source x.0) (same_Some e (path, text) here)) ∙ h))
+    by : (b : Bool) → is_limited e.0 ≡ b → (k : ℕ) → slice_get (e ∷ es) k ≡ Some (path, text) → (All P (sizes (limited es)) → (j : ℕ) → slice_get es j ≡ Some (path, text) → P (length text)) → P (length text)
+    by true h zero here more = subst (λ (x : Entry). P (length x.1)) (same_Some e (path, text) here) (all-first P (length e.1) (sizes (limited es)) (size-kept P e es h all))
+    by true h (suc k) there more = more (all-others P (length e.1) (sizes (limited es)) (size-kept P e es h all)) k there
+    by false h zero here more = absurd (differ (is_limited path) is (sym (ap (λ (x : Entry). is_limited x.0) (same_Some e (path, text) here)) ∙ h))
     by false h (suc k) there more = more (other-left P e es h all) k there
+
+-- source files are among them
+pub source-limited : (path : List ℕ) → is_source path ≡ true → is_limited path ≡ true
+source-limited path h = by (bytes_eq path (codes "go.mod")) (is_source path) h
+  where
+    by : (a b : Bool) → b ≡ true → (a || b) ≡ true
+    by true b e = refl
+    by false b e = e
+
+pub source-size : (P : ℕ → Type 0) (tree : List Entry) (n : ℕ) (path text : List ℕ) → All P (limited_sizes tree) → slice_get tree n ≡ Some (path, text) → is_source path ≡ true → P (length text)
+source-size P tree n path text all at is = limited-size P tree n path text all at (source-limited path is)
 
 -- what holds of a file and of what is known of it holds of what is read at its number
 pub pair-here : (Q : Entry → Option FileVerdict → Type 0) (files : List Entry) (verdicts : List (Option FileVerdict)) (n : ℕ) (entry : Entry) (verdict : Option FileVerdict)

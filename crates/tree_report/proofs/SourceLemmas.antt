@@ -7,7 +7,7 @@ use Rattle.std.proofs.lemmas.List.Kept.{AllPairs-filter}
 use Rattle.std.proofs.lemmas.Slice.Eq.{bytes_eq-Decides}
 use Rattle.gv_base.specs.Files.{Entry, AreInOrder, file_at, is_before}
 use Rattle.std.proofs.lemmas.List.{length-map, length-take-le}
-use Rattle.tree_report.proofs.ReadLemmas.{source-text}
+use Rattle.tree_report.proofs.ReadLemmas.{source-limited, source-size}
 use Rattle.import_graph.specs.Sources.{is_source, is_stub, bare, directory_of, module_package, package_of}
 use Rattle.gv_base.specs.Paths.{slash}
 use Rattle.std.specs.Str.{is_utf8}
@@ -18,7 +18,7 @@ use Rattle.import_graph.specs.Packages.{home_of, is_of, numbers_from, files_of, 
 use Rattle.import_graph.proofs.ListLemmas.{some-numbers, in-mapped}
 use Rattle.analysis_core.specs.Replies.{file_numbered}
 use Rattle.action_graph.specs.Nodes.{AreNamed}
-use Rattle.tree_report.specs.Form.{source_texts}
+use Rattle.tree_report.specs.Limits.{is_limited, limited_sizes}
 
 -- the files of numbers that pass a test are the files that pass it
 numbered-from : (tree whole : List Entry) (test : Entry → Bool) (n : ℕ) → ((k : ℕ) (e : Entry) → slice_get tree k ≡ Some e → file_numbered whole (n + k) ≡ e)
@@ -82,17 +82,17 @@ fewer {X} p q (x ∷ xs) less = by (p x) (q x) refl refl (fewer p q xs less)
     by false true h k rest = omega (arith, rest)
     by false false h k rest = rest
 
-pub files-few : (tree : List Entry) (path : List ℕ) → length (source_texts tree) ≤ 10000 → length (filter (test_of tree path) tree) < 2 ^ 32
+pub files-few : (tree : List Entry) (path : List ℕ) → length (limited_sizes tree) ≤ 10000 → length (filter (test_of tree path) tree) < 2 ^ 32
 files-few tree path few =
-    let size : length (source_texts tree) ≡ length (filter (λ entry. is_source entry.0) tree) = length-map (filter (λ entry. is_source entry.0) tree) (λ entry. entry.1) in
-    let less : length (filter (test_of tree path) tree) ≤ length (filter (λ entry. is_source entry.0) tree) = fewer (test_of tree path) (λ entry. is_source entry.0) tree (source-if-passed tree path) in
+    let size : length (limited_sizes tree) ≡ length (filter (λ entry. is_limited entry.0) tree) = length-map (filter (λ entry. is_limited entry.0) tree) (λ entry. length entry.1) in
+    let less : length (filter (test_of tree path) tree) ≤ length (filter (λ entry. is_limited entry.0) tree) = fewer (test_of tree path) (λ entry. is_limited entry.0) tree (λ e h. source-limited e.0 (source-if-passed tree path e h)) in
     omega (arith, few, size, less)
 
--- what holds of the texts of all source files holds of those of a package
-pub texts-of-files : (P : List ℕ → Type 0) (tree : List Entry) (path : List ℕ) → All P (source_texts tree) → All P (map (λ entry. entry.1) (filter (test_of tree path) tree))
+-- what holds of the sizes of all files that the limits count holds of those of a package's texts
+pub texts-of-files : (P : ℕ → Type 0) (tree : List Entry) (path : List ℕ) → All P (limited_sizes tree) → All (λ text. P (length text)) (map (λ entry. entry.1) (filter (test_of tree path) tree))
 texts-of-files P tree path all n d lt =
     let found = in-mapped (λ (entry : Entry). entry.1) (test_of tree path) tree (get_or (map (λ (entry : Entry). entry.1) (filter (test_of tree path) tree)) n d) (n, lt, refl_at n d lt) in
-    subst P found.4 (source-text P tree found.0 found.1.0 found.1.1 all found.2 (source-if-passed tree path found.1 found.3))
+    subst (λ (text : List ℕ). P (length text)) found.4 (source-size P tree found.0 found.1.0 found.1.1 all found.2 (source-if-passed tree path found.1 found.3))
   where
     refl_at : (k : ℕ) (e : List ℕ) → k < length (map (λ (entry : Entry). entry.1) (filter (test_of tree path) tree))
         → get_or (map (λ (entry : Entry). entry.1) (filter (test_of tree path) tree)) k (get_or (map (λ (entry : Entry). entry.1) (filter (test_of tree path) tree)) n d)

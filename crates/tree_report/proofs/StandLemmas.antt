@@ -28,10 +28,13 @@ use Rattle.gv_driver.specs.declared.reply.Verdict.{Verdict}
 use Rattle.gv_driver.specs.declared.reply.Verdict.TheVariants.{Faulty, Blocked, Refused, Accepted}
 use Rattle.gv_driver.specs.declared.tree.PackageTexts.{PackageTexts}
 use Rattle.gv_driver.specs.Standing.{AllStand, AreVerdictsIn, Stands, StandsIn as VerdictStands}
-use Rattle.tree_report.specs.Form.{AreWithinLimits, AreRead, AreHeads, IsForm, IsRead, head_by, head_in, source_texts}
+use Rattle.tree_report.specs.Form.{IsForm}
+use Rattle.tree_report.specs.Limits.{IsWithin}
+use Rattle.tree_report.specs.Reading.{AreRead, AreHeads, IsRead, head_by, head_in}
 use Rattle.tree_report.specs.Lines.{line_at, blocked_lines, blocked_lines_at, blocked_line, broken_lines, clash_line, error_lines, is_accepted, lines_from, mark_line, mark_text, missing_line, missing_lines, missing_lines_at, outcome_lines, read_lines, refusal_lines, state_lines, why_text}
 use Rattle.tree_report.specs.Reports.{texts_of}
-use Rattle.tree_report.proofs.ReadLemmas.{source-text}
+use Rattle.tree_report.proofs.LimitLemmas.{sizes-short}
+use Rattle.tree_report.proofs.ReadLemmas.{source-size}
 use Rattle.tree_report.proofs.SourceLemmas.{source-if-passed, test_of}
 
 -- ---- what holds of each item of a list, through the ways in which lists are made
@@ -82,12 +85,12 @@ files-fit tree path files is =
 text-at : (tree : List Entry) (n : ℕ) (f : Fits tree n) → file_numbered tree n ≡ f.entry
 text-at tree n f = get_or_from_slice_get tree n f.entry ([], []) f.at
 
-lies : (tree : List Entry) (n offset : ℕ) → AreWithinLimits (source_texts tree) → (f : Fits tree n) → offset ≤ length f.entry.1 → LiesIn tree (record { file = n; offset = offset })
+lies : (tree : List Entry) (n offset : ℕ) → IsWithin tree → (f : Fits tree n) → offset ≤ length f.entry.1 → LiesIn tree (record { file = n; offset = offset })
 lies tree n offset within f low = record {
   file = slice_get_within tree n f.entry f.at;
   offset = subst (λ (e : Entry). offset ≤ length e.1) (sym (text-at tree n f)) low;
   short =
-      let small : length f.entry.1 ≤ 4194304 = source-text (λ text. length text ≤ 4194304) tree n f.entry.0 f.entry.1 within.small f.at f.source in
+      let small : length f.entry.1 ≤ 4194304 = source-size (λ size. size ≤ 4194304) tree n f.entry.0 f.entry.1 (sizes-short tree within) f.at f.source in
       subst (λ (e : Entry). length e.1 ≤ 2 ^ 31) (sym (text-at tree n f)) (omega (arith, small));
 }
 
@@ -99,13 +102,13 @@ stands-at tree path text at is = λ place same. subst (LiesIn tree) (some-place 
 
 -- ---- the lines of one package
 
-refusal-stands : (tree : List Entry) (path : List ℕ) (n : ℕ) (v : FileVerdict) → AreWithinLimits (source_texts tree) → (f : Fits tree n) → IsVerdict f.entry.1 v → AllByRecursion (StandsIn tree) (refusal_lines path n v)
+refusal-stands : (tree : List Entry) (path : List ℕ) (n : ℕ) (v : FileVerdict) → IsWithin tree → (f : Fits tree n) → IsVerdict f.entry.1 v → AllByRecursion (StandsIn tree) (refusal_lines path n v)
 refusal-stands tree path n (verdict.Parsed t) within f is = tt
 refusal-stands tree path n (verdict.Lexical offset why) within f is = (stands-at tree path (why_text why) (record { file = n; offset = offset }) (lies tree n offset within f (refused-low f.entry.1 offset why is)), tt)
 refusal-stands tree path n (verdict.Syntax offset) within f is = (stands-at tree path (codes "syntax error") (record { file = n; offset = offset }) (lies tree n offset within f (found-low f.entry.1 offset Finding.Syntax is)), tt)
 refusal-stands tree path n (verdict.TooDeep offset) within f is = (stands-at tree path (codes "nesting too deep") (record { file = n; offset = offset }) (lies tree n offset within f (found-low f.entry.1 offset Finding.TooDeep is)), tt)
 
-read-stands : (tree : List Entry) (path : List ℕ) (n : ℕ) (v : Option FileVerdict) → AreWithinLimits (source_texts tree) → (f : Fits tree n) → IsRead f.entry v → AllByRecursion (StandsIn tree) (read_lines path n v)
+read-stands : (tree : List Entry) (path : List ℕ) (n : ℕ) (v : Option FileVerdict) → IsWithin tree → (f : Fits tree n) → IsRead f.entry v → AllByRecursion (StandsIn tree) (read_lines path n v)
 read-stands tree path n None within f is = tt
 read-stands tree path n (Some v) within f is = refusal-stands tree path n v within f is.1
 
@@ -117,7 +120,7 @@ known tree verdicts n f read =
     let at = slice_get-get_or verdicts n None (omega (arith, l, size)) in
     (at, read.each n f.entry (get_or verdicts n None) f.at at)
 
-broken-stands : (tree : List Entry) (verdicts : List (Option FileVerdict)) (path files : List ℕ) → AreWithinLimits (source_texts tree) → AreRead tree verdicts → AllByRecursion (Fits tree) files
+broken-stands : (tree : List Entry) (verdicts : List (Option FileVerdict)) (path files : List ℕ) → IsWithin tree → AreRead tree verdicts → AllByRecursion (Fits tree) files
     → AllByRecursion (StandsIn tree) (broken_lines verdicts path files)
 broken-stands tree verdicts path files within read fit =
     each-flat (Fits tree) (StandsIn tree) (λ n. read_lines path n (get_or verdicts n None)) files fit (λ n f. read-stands tree path n (get_or verdicts n None) within f (known tree verdicts n f read).1)
@@ -149,7 +152,7 @@ head-fits tree verdicts heads n f read headed =
     let k = known tree verdicts n f read in
     subst (HeadIn f.entry.1) (sym (headed.each n f.entry (get_or verdicts n None) (head_at heads n) f.at k.0 at)) (head-low f.entry (get_or verdicts n None) k.1)
 
-clash-lies : (tree : List Entry) (name : List ℕ) (n : ℕ) (h : Option Head) → AreWithinLimits (source_texts tree) → (f : Fits tree n) → HeadIn f.entry.1 h → AllByRecursion (LiesIn tree) (clash_in name n h)
+clash-lies : (tree : List Entry) (name : List ℕ) (n : ℕ) (h : Option Head) → IsWithin tree → (f : Fits tree n) → HeadIn f.entry.1 h → AllByRecursion (LiesIn tree) (clash_in name n h)
 clash-lies tree name n None within f low = tt
 clash-lies tree name n (Some h) within f low = by (bytes_eq h.name name)
   where
@@ -157,7 +160,7 @@ clash-lies tree name n (Some h) within f low = by (bytes_eq h.name name)
     by true = tt
     by false = (lies tree n h.name_at within f low.name, tt)
 
-missing-stands : (tree : List Entry) (paths : List (List ℕ)) (path : List ℕ) (n : ℕ) (line : ImportLine) → AreWithinLimits (source_texts tree) → (f : Fits tree n) → ImportLow f.entry.1 line
+missing-stands : (tree : List Entry) (paths : List (List ℕ)) (path : List ℕ) (n : ℕ) (line : ImportLine) → IsWithin tree → (f : Fits tree n) → ImportLow f.entry.1 line
     → AllByRecursion (StandsIn tree) (missing_lines_at paths path n line)
 missing-stands tree paths path n line within f low = by (list_any (λ p. bytes_eq p line.path) paths)
   where
@@ -165,7 +168,7 @@ missing-stands tree paths path n line within f low = by (list_any (λ p. bytes_e
     by true = tt
     by false = (stands-at tree path (codes "missing import \"" ++ (line.path ++ codes "\"")) (record { file = n; offset = line.at }) (lies tree n line.at within f low), tt)
 
-imports-stand : (tree : List Entry) (paths : List (List ℕ)) (path : List ℕ) (n : ℕ) (h : Option Head) → AreWithinLimits (source_texts tree) → (f : Fits tree n) → HeadIn f.entry.1 h
+imports-stand : (tree : List Entry) (paths : List (List ℕ)) (path : List ℕ) (n : ℕ) (h : Option Head) → IsWithin tree → (f : Fits tree n) → HeadIn f.entry.1 h
     → AllByRecursion (StandsIn tree) (flat_map (missing_lines_at paths path n) (lines_in h))
 imports-stand tree paths path n None within f low = tt
 imports-stand tree paths path n (Some h) within f low =
@@ -183,7 +186,7 @@ text-of-nth tree [] k l = absurd (let m : k < 0 = l in omega (arith, m))
 text-of-nth tree (n ∷ ns) zero l = refl
 text-of-nth tree (n ∷ ns) (suc k) l = text-of-nth tree ns k (omega (arith, l))
 
-mark-stands : (tree : List Entry) (path files : List ℕ) (m : MarkLine) → AreWithinLimits (source_texts tree) → AllByRecursion (Fits tree) files → Stands (map (file_numbered tree) files) m → StandsIn tree (mark_line path files m)
+mark-stands : (tree : List Entry) (path files : List ℕ) (m : MarkLine) → IsWithin tree → AllByRecursion (Fits tree) files → Stands (map (file_numbered tree) files) m → StandsIn tree (mark_line path files m)
 mark-stands tree path files m within fit stands =
     let size : length (map (file_numbered tree) files) ≡ length files = length-map files (file_numbered tree) in
     let low : m.at.file < length (map (file_numbered tree) files) = stands.file in
@@ -201,7 +204,7 @@ blocked-stands tree packages outcomes path (q ∷ qs) =
     by true = tt
     by false = (λ place e. cc, tt)
 
-outcome-stands : (tree : List Entry) (packages : List Package) (outcomes : List Verdict) (p : Package) (v : Verdict) → AreWithinLimits (source_texts tree) → AllByRecursion (Fits tree) p.files
+outcome-stands : (tree : List Entry) (packages : List Package) (outcomes : List Verdict) (p : Package) (v : Verdict) → IsWithin tree → AllByRecursion (Fits tree) p.files
     → VerdictStands (map (file_numbered tree) p.files) v → AllByRecursion (StandsIn tree) (outcome_lines packages outcomes p v)
 outcome-stands tree packages outcomes p Faulty within fit stands = tt
 outcome-stands tree packages outcomes p Blocked within fit stands = blocked-stands tree packages outcomes p.path p.imports

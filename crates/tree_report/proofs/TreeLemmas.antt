@@ -23,9 +23,15 @@ use Rattle.action_graph.proofs.OneFinding.{one-package}
 use Rattle.gv_driver.specs.declared.tree.PackageTexts.{PackageTexts}
 use Rattle.gv_driver.specs.Trees.{IsAmong, IsTree}
 use Rattle.tree_report.specs.Form.{IsForm}
+use Rattle.tree_report.specs.Limits.{IsWithin}
 use Rattle.tree_report.specs.Reports.{texts_of}
-use Rattle.tree_report.proofs.HeadLemmas.{import-found, names-agree, package-of, trees-of}
+use Rattle.tree_report.proofs.LimitLemmas.{sizes-few, sizes-short}
+use Rattle.tree_report.proofs.HeadLemmas.{AreShort, import-found, names-agree, package-of, trees-of}
+use Rattle.tree_report.proofs.ReadLemmas.{source-size}
 use Rattle.tree_report.proofs.SourceLemmas.{test_of, files-kept, files-named, files-ordered, files-few, texts-of-files, has-files, has-path}
+
+files-short : (tree : List Entry) → IsWithin tree → AreShort tree
+files-short tree within n e at source = source-size (λ size. size ≤ 4194304) tree n e.0 e.1 (sizes-short tree within) at source
 
 sound-whole : (cyclic : Type 0) (heads : List (Option Head)) (paths : List (List ℕ)) (files : List ℕ) (state : PackState) → is_sound state ≡ true → IsStateOf cyclic heads paths files state → IsWhole heads paths files
 sound-whole cyclic heads paths files Broken h is = cc
@@ -45,12 +51,12 @@ source-of tree verdicts heads packages k p ordered form at sound =
       has_file = has-files tree p.files is.some;
       named = subst AreNamed (sym kept) (files-named tree p.path);
       ordered = subst AreInOrder (sym kept) (files-ordered tree (test_of tree p.path) ordered);
-      few = subst (λ (l : List Named). length l < 2 ^ 32) (sym kept) (files-few tree p.path form.within.few);
+      few = subst (λ (l : List Named). length l < 2 ^ 32) (sym kept) (files-few tree p.path (sizes-few tree form.within));
       short = subst (λ (l : List Named). All (λ text. length text ≤ 2 ^ 24) (map text_of l)) (sym kept)
-          (texts-of-files (λ text. length text ≤ 2 ^ 24) tree p.path (λ n d lt. let small = form.within.small n d lt in omega (arith, small)));
+          (texts-of-files (λ size. size ≤ 2 ^ 24) tree p.path (λ n d lt. let small = sizes-short tree form.within n d lt in omega (arith, small)));
       pack = sources_of p.path (map (file_numbered tree) p.files) (trees-of verdicts p.files);
-      of = package-of tree verdicts heads p.path p.files form.read form.headed form.counted whole.parsed;
-      agree = names-agree tree verdicts heads p.files form.read form.headed form.counted whole.parsed p.path whole.agree;
+      of = package-of tree verdicts heads p.path p.files form.read form.headed (files-short tree form.within) whole.parsed;
+      agree = names-agree tree verdicts heads p.files form.read form.headed (files-short tree form.within) whole.parsed p.path whole.agree;
     }
 
 -- what a sound package's files import is among its imports
@@ -59,9 +65,9 @@ imports-of : (tree : List Entry) (verdicts : List (Option FileVerdict)) (heads :
 imports-of tree verdicts heads packages k p of path form at sound is_of imported =
     let is : IsPackage tree heads packages k p = form.packed.each k p at in
     let whole : IsWhole heads (paths_of packages) p.files = sound-whole _ heads (paths_of packages) p.files p.state sound is.state in
-    let mine = package-of tree verdicts heads p.path p.files form.read form.headed form.counted whole.parsed in
+    let mine = package-of tree verdicts heads p.path p.files form.read form.headed (files-short tree form.within) whole.parsed in
     let same : of ≡ sources_of p.path (map (file_numbered tree) p.files) (trees-of verdicts p.files) = one-package p.path (map (file_numbered tree) p.files) of _ is_of mine in
-    let found = import-found tree verdicts heads p.files form.read form.headed form.counted whole.parsed packages p.path path whole.found (subst (λ (s : Sources). ImportsPath s path) same imported) in (
+    let found = import-found tree verdicts heads p.files form.read form.headed (files-short tree form.within) whole.parsed packages p.path path whole.found (subst (λ (s : Sources). ImportsPath s path) same imported) in (
       found.q,
       texts_of tree found.other,
       (is.imports found.q).1 (whole.parsed, (found.other, found.at, found.imported)),

@@ -1,23 +1,31 @@
--- What the code holds of a tree of the form, and of its reply.
-use Rattle.std.specs.Prelude.{◌≡◌, Option, Some, None, List, length, map}
+-- What the code holds of a tree, and of its reply.
+use Rattle.std.specs.Prelude.{◌≡◌, Option, Some, List, [], length, map}
 use Rattle.gv_base.specs.Files.{Entry}
 use Rattle.analysis_core.specs.declared.command.Command.TheVariants.{Check}
 use Rattle.analysis_core.specs.declared.reply.Reply.{Reply}
-use Rattle.analysis_core.specs.Replies.{check_reply, is_found, reply_text}
+use Rattle.analysis_core.specs.declared.reply.TreeLimit.{TreeLimit}
+use Rattle.analysis_core.specs.Replies.{check_reply, is_found, no_counts, reply_text}
 use Rattle.gv_driver.specs.declared.reply.Judgement.{Judgement}
 use Rattle.parse_file.specs.declared.verdict.FileVerdict.{FileVerdict}
 use Rattle.tree_report.specs.Lines.{refusal_of, error_lines}
 use Rattle.tree_report.specs.declared.formed.Formed.{Formed}
+use Rattle.tree_report.specs.declared.formed.Known.{Known}
+use Rattle.tree_report.specs.declared.formed.Known.TheVariants as known
 use Rattle.tree_report.specs.declared.print.TreeReport.{TreeReport}
-use Rattle.tree_report.specs.Form.{IsForm, IsBuilt}
+use Rattle.tree_report.specs.Form.{IsForm}
+use Rattle.tree_report.specs.Limits.{IsFirstLimit}
 
 -- these are the refusals and heads of the files, and the packages
 abbrev pub Holds : List Entry → Formed → Type 0
 Holds tree f = (verdicts : List (Option FileVerdict)) × (IsForm tree verdicts f.heads.items f.packages.items × (f.refusals.items ≡ map refusal_of verdicts))
 
-abbrev pub IsFormed : List Entry → Option Formed → Type 0
-IsFormed tree None = IsBuilt tree → ⊥
-IsFormed tree (Some f) = Holds tree f
+abbrev pub IsKnown : List Entry → Known → Type 0
+IsKnown tree (known.Over first) = IsFirstLimit tree first
+IsKnown tree (known.Of f) = Holds tree f
+
+-- The reply of a run over a tree that is over a limit.
+abbrev pub limit_reply : TreeLimit → Reply
+limit_reply first = record { limit = Some first; packages = 0; errors = []; diagnostics = []; facts = []; choices = []; changed = []; counts = no_counts }
 
 -- The reply of a run over the packages of a tree, which has nothing besides error lines.
 pub record IsReplyOf (f : Formed) (ran : Judgement) (reply : Reply) : Type 0 where

@@ -1,5 +1,5 @@
-pub mod Shown
-pub mod Constants
+pub mod Reading
+pub mod Limits
 pub mod Form
 pub mod Lines
 pub mod Reports

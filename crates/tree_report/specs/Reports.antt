@@ -1,5 +1,5 @@
 -- What a run answers of a tree, and what it leaves in the cache.
-use Rattle.std.specs.Prelude.{◌≡◌, ℕ, ◌+◌, Option, List, length, map, sum_by, All}
+use Rattle.std.specs.Prelude.{◌≡◌, ℕ, ◌+◌, true, Option, List, length, map, sum_by, All}
 use Rattle.gv_base.specs.Files.{Entry}
 use Rattle.fact_cache.specs.declared.texts.Input.{Input}
 use Rattle.fact_cache.specs.declared.list.Entry.{Entry as Kept}
@@ -16,24 +16,32 @@ use Rattle.gv_driver.specs.Runs.{IsCutOff, MeetsCircle, some_in}
 use Rattle.gv_driver.specs.Whole.{HasStuck}
 use Rattle.analysis_core.specs.declared.command.Command.TheVariants.{Check}
 use Rattle.analysis_core.specs.declared.reply.Reply.{Reply}
-use Rattle.analysis_core.specs.Replies.{check_reply, file_numbered, is_found, reply_text}
+use Rattle.analysis_core.specs.declared.reply.TreeLimit.{TreeLimit}
+use Rattle.analysis_core.specs.Replies.{check_reply, file_numbered, is_found, limit_line, no_counts, reply_text}
 use Rattle.report_text.specs.Standing.{StandsIn}
-use Rattle.tree_report.specs.declared.run.Answer.{Answer}
-use Rattle.tree_report.specs.declared.run.Answer.TheVariants.{NotBuilt, Told}
 use Rattle.tree_report.specs.declared.print.TreeReport.{TreeReport}
 use Rattle.go_tree.specs.declared.head.Head.{Head}
-use Rattle.tree_report.specs.Form.{IsForm, IsBuilt}
+use Rattle.tree_report.specs.Form.{IsForm}
+use Rattle.tree_report.specs.Limits.{IsFirstLimit}
 use Rattle.tree_report.specs.Lines.{error_lines}
 
 -- a package with the texts of its files
 abbrev pub texts_of : List Entry → Package → PackageTexts
 texts_of tree p = record { path = p.path; stub = p.stub; sound = is_sound p.state; imports = p.imports; files = map (file_numbered tree) p.files }
 
--- The report of a tree of the form, over one cache and leaving another. What comes of its packages comes of their
+-- The report of a tree over a limit: the line of the first, and nothing more. There are no nodes, so that all counts are 0.
+pub record ReportsLimit (tree : List Entry) (report : TreeReport) : Type 0 where
+  pub limit : TreeLimit
+  pub first : IsFirstLimit tree limit
+  pub text : report.text ≡ limit_line limit
+  pub found : report.found ≡ true
+  pub counts : report.counts ≡ no_counts
+
+-- The report of a tree within the limits, over one cache and leaving another. What comes of its packages comes of their
 -- sources, and knows neither cache nor export texts. The nodes are the loads of its packages; exactly those for whose
 -- inputs the cache had nothing were executed, and stand in it then. The reply is that of a check: it has error lines, and
 -- neither diagnostics nor facts, fixes or changed files.
-pub record Reports (tree : List Entry) (before after : List Kept) (report : TreeReport) : Type 0 where
+pub record ReportsPackages (tree : List Entry) (before after : List Kept) (report : TreeReport) : Type 0 where
   pub verdicts : List (Option FileVerdict)
   pub heads : List (Option Head)
   pub packages : List Package
@@ -55,14 +63,14 @@ pub record Reports (tree : List Entry) (before after : List Kept) (report : Tree
   pub found : report.found ≡ is_found reply
   pub counts : report.counts ≡ reply.counts
 
--- What is answered of a tree; loads were counted from one number to another.
-abbrev pub IsAnswered : List Entry → List Kept → List Kept → ℕ → ℕ → Answer → Type 0
-IsAnswered tree before after count now NotBuilt = (IsBuilt tree → ⊥) × ((after ≡ before) × (now ≡ count))
-IsAnswered tree before after count now (Told report) = Reports tree before after report × (now ≡ count + report.counts.loads)
+-- The report of a tree, over one cache and leaving another: where it is over a limit it knows neither, and the cache stays as it was.
+pub data Reports (tree : List Entry) (before after : List Kept) (report : TreeReport) : Type 0 where
+  of_limit : ReportsLimit tree report → after ≡ before → Reports tree before after report
+  of_packages : ReportsPackages tree before after report → Reports tree before after report
 
--- What holds of a report over any cache: it is that of a check's reply to the packages of a tree of the form, and each place in
--- it stands in one of the files.
-pub record IsSafe (tree : List Entry) (report : TreeReport) : Type 0 where
+-- What holds over any cache of a report that tells of packages: it is that of a check's reply to the packages of a tree within the limits, and each
+-- place in it stands in one of the files.
+pub record TellsPackages (tree : List Entry) (report : TreeReport) : Type 0 where
   pub verdicts : List (Option FileVerdict)
   pub heads : List (Option Head)
   pub packages : List Package
@@ -74,19 +82,19 @@ pub record IsSafe (tree : List Entry) (report : TreeReport) : Type 0 where
   pub text : report.text ≡ reply_text tree Check reply
   pub found : report.found ≡ is_found reply
 
--- the form alone decides which trees are built
-abbrev pub IsSafeAnswer : List Entry → List Kept → List Kept → ℕ → ℕ → Answer → Type 0
-IsSafeAnswer tree before after count now NotBuilt = (IsBuilt tree → ⊥) × ((after ≡ before) × (now ≡ count))
-IsSafeAnswer tree before after count now (Told report) = IsSafe tree report
+-- What holds of a report over any cache: it tells of packages, or of a limit, and then the cache and the loads stayed as they were.
+pub data IsSafe (tree : List Entry) (before after : List Kept) (count now : ℕ) (report : TreeReport) : Type 0 where
+  of_limit : ReportsLimit tree report → after ≡ before → now ≡ count → IsSafe tree before after count now report
+  of_packages : TellsPackages tree report → IsSafe tree before after count now report
 
--- After want of memory, or a circle: no package was looked at, and nothing has changed; or the tree is of the form, at most the missing loads of its
+-- After want of memory, or a circle: no package was looked at, and nothing has changed; or the tree is within the limits, at most the missing loads of its
 -- packages were executed, and the cache has gained the entries of the first of them alone, within its limits.
 pub data IsStopped (tree : List Entry) (before after : List Kept) (count now : ℕ) : Type 0 where
   not_run : after ≡ before → now ≡ count → IsStopped tree before after count now
   in_run : (verdicts : List (Option FileVerdict)) (heads : List (Option Head)) (packages : List Package) → IsForm tree verdicts heads packages
       → IsCutOff (map (texts_of tree) packages) before after count now → IsStopped tree before after count now
 
--- A circle in a tree of the form, over any cache: some sound package is stuck over what the run had of its imports.
+-- Over any cache: some sound package is stuck over what the run had of its environment.
 pub record MetCircle (tree : List Entry) (before : List Kept) : Type 0 where
   pub verdicts : List (Option FileVerdict)
   pub heads : List (Option Head)
@@ -94,8 +102,8 @@ pub record MetCircle (tree : List Entry) (before : List Kept) : Type 0 where
   pub form : IsForm tree verdicts heads packages
   pub meets : MeetsCircle (map (texts_of tree) packages) before
 
--- The rules of a package go in a circle: the tree is of the form, and some sound package, all of whose imports are accepted, is stuck over their
--- interfaces. What comes of its imports comes of their sources.
+-- Some sound package, all of whose environment is accepted, is stuck over what is seen of it: rules go in a circle, or what is seen of the package
+-- can't be told. What comes of its environment comes of the sources.
 pub record HasCircle (tree : List Entry) : Type 0 where
   pub verdicts : List (Option FileVerdict)
   pub heads : List (Option Head)

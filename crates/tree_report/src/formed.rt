@@ -1,13 +1,12 @@
-//! The files and the packages of a tree of the form.
-ghost use Rattle.std.specs.Prelude.{◌≡◌, ◌≤◌, IfOk, All, true, false, length, map};
-ghost use Rattle.import_graph.specs.Packages.{ArePackages};
-ghost use Rattle.tree_report.specs.Form.{source_texts, AreRead, AreHeads, AreCountable, is_early, AreWithinLimits};
-ghost use Rattle.tree_report.specs.Formed.{IsFormed};
+//! The files and the packages of a tree, or the limit that it is over.
+ghost use Rattle.std.specs.Prelude.{◌≡◌, None, IfOk, map};
+ghost use Rattle.tree_report.specs.Formed.{IsKnown};
+ghost use Rattle.tree_report.specs.Limits.{limited_sizes, size_limit};
 ghost use Rattle.tree_report.specs.Lines.{refusal_in, refusal_of};
 
-use crate::imported::all_import_constants;
-use crate::limits::{are_plain, are_within_limits, source_texts};
-use crate::read::{are_countable, heads, read_all};
+use crate::limits::{limited_sizes, size_limit};
+use crate::read::{heads, read_all};
+use analysis_core::TreeLimit;
 use go_tree::Head;
 use gv_base::{Files, NoMemory};
 use import_graph::{Package, packages};
@@ -23,6 +22,15 @@ pub struct Formed {
     pub refusals: Vec<Option<FileVerdict>>,
     pub heads: Vec<Option<Head>>,
     pub packages: Vec<Package>,
+}
+
+/// What is known of a tree.
+#[derive(Drop)]
+pub enum Known {
+    /// It is over this limit, and over none before it.
+    Over(TreeLimit),
+    /// It is within the limits.
+    Of(Formed),
 }
 
 fn refusal_in(verdict: FileVerdict) -> Option<FileVerdict>
@@ -59,81 +67,35 @@ fn refusals(
     Ok(list)
 }
 
-/// The same of files and packages, if each package that another imports has constants alone.
-fn checked(
-    alloc: Global,
-    files: &Files,
-    verdicts: Vec<Option<FileVerdict>>,
-    heads: Vec<Option<Head>>,
-    packages: Vec<Package>,
-) -> Result<Option<Formed>, NoMemory>
-    requires plain { All (λ entry. is_early entry.0 ≡ false) files.now }
-    requires within { AreWithinLimits (source_texts files.now) }
-    requires read { AreRead files.now verdicts.items }
-    requires counted { AreCountable verdicts.items }
-    requires headed { AreHeads files.now verdicts.items heads.items }
-    requires packed { ArePackages files.now heads.items packages.items }
-    requires few { length packages.items ≤ 1024 }
-    ensures { IfOk result (λ formed. IsFormed files.now formed) }
+/// What is known of a tree whose files are within the limits.
+fn packed(alloc: Global, files: &Files) -> Result<Known, NoMemory>
+    requires { size_limit (limited_sizes files.now) ≡ None }
+    ensures { IfOk result (λ known. IsKnown files.now known) }
 {
-    let imported = all_import_constants(alloc, &verdicts, &packages)?;
-    if !imported {
-        return Ok(None);
+    let verdicts = read_all(alloc, files)?;
+    let heads = heads(alloc, files, &verdicts)?;
+    let packages = packages(alloc, files, &heads)?;
+    if packages.len() > MOST_PACKAGES {
+        return Ok(Known::Over(TreeLimit::Packages));
     }
     let refusals = refusals(alloc, verdicts)?;
-    Ok(Some(Formed {
+    Ok(Known::Of(Formed {
         refusals,
         heads,
         packages,
     }))
 }
 
-/// The same with the packages, if they aren't too many.
-fn packed(
-    alloc: Global,
-    files: &Files,
-    verdicts: Vec<Option<FileVerdict>>,
-) -> Result<Option<Formed>, NoMemory>
-    requires plain { All (λ entry. is_early entry.0 ≡ false) files.now }
-    requires within { AreWithinLimits (source_texts files.now) }
-    requires read { AreRead files.now verdicts.items }
-    requires counted { AreCountable verdicts.items }
-    ensures { IfOk result (λ formed. IsFormed files.now formed) }
+/// What is known of a tree: the first limit that it is over, or its files and packages.
+pub fn known_of(alloc: Global, files: &Files) -> Result<Known, NoMemory>
+    ensures { IfOk result (λ known. IsKnown files.now known) }
 {
-    let heads = heads(alloc, files, &verdicts)?;
-    let packages = packages(alloc, files, &heads)?;
-    if packages.len() > MOST_PACKAGES {
-        return Ok(None);
+    let sizes = limited_sizes(alloc, files)?;
+    match size_limit(&sizes) {
+        Some(limit) => Ok(Known::Over(limit)),
+        None => {
+            let known = packed(alloc, files)?;
+            Ok(known)
+        }
     }
-    let formed = checked(alloc, files, verdicts, heads, packages)?;
-    Ok(formed)
-}
-
-/// The same of a tree within the limits.
-fn read_form(alloc: Global, files: &Files) -> Result<Option<Formed>, NoMemory>
-    requires plain { All (λ entry. is_early entry.0 ≡ false) files.now }
-    requires within { AreWithinLimits (source_texts files.now) }
-    ensures { IfOk result (λ formed. IsFormed files.now formed) }
-{
-    let verdicts = read_all(alloc, files)?;
-    if !are_countable(&verdicts) {
-        return Ok(None);
-    }
-    let formed = packed(alloc, files, verdicts)?;
-    Ok(formed)
-}
-
-/// The files and the packages of a tree; `None` exactly where it isn't of the form.
-pub fn form_of(alloc: Global, files: &Files) -> Result<Option<Formed>, NoMemory>
-    ensures { IfOk result (λ formed. IsFormed files.now formed) }
-{
-    if !are_plain(files) {
-        return Ok(None);
-    }
-    let texts = source_texts(alloc, files)?;
-    if !are_within_limits(&texts) {
-        return Ok(None);
-    }
-    let formed = read_form(alloc, files)?;
-    Ok(formed)
 }

@@ -7,7 +7,7 @@ ghost use Rattle.typed_tree.specs.declared.rule.Rule.{Rule};
 ghost use Rattle.check_pkg.specs.Faults.{limit_number};
 ghost use Rattle.fact_cache.specs.declared.list.Entry.{Entry as Kept};
 ghost use Rattle.tree_report.specs.Existence.{AllHaveOutcomes, HasReport};
-ghost use Rattle.tree_report.specs.Form.{IsBuilt};
+ghost use Rattle.tree_report.specs.Form.{HasReading};
 ghost use Rattle.tree_report.specs.Lines.{mark_text};
 ghost use Rattle.tree_report.specs.Reports.{IsHonest, Reports};
 ghost use Rattle.tree_report.specs.declared.print.TreeReport.{TreeReport};
@@ -15,11 +15,11 @@ ghost use Rattle.tree_report.specs.declared.print.TreeReport.{TreeReport};
 use gv_driver::a_tree_has_a_report;
 
 /// Over one cache a tree has one report and leaves one cache, and from an honest one an honest one; a cache without
-/// entries is honest. A tree that has a report is built.
+/// entries is honest. A tree that has a report can be read.
 pub fn one_report_of_a_tree()
     ensures report { (tree : List Entry) (before after other : List Kept) (a b : TreeReport) → Reports tree before after a → Reports tree before other b → a ≡ b }
     ensures cache { (tree : List Entry) (before after other : List Kept) (a b : TreeReport) → Reports tree before after a → Reports tree before other b → after ≡ other }
-    ensures built { (tree : List Entry) (before after : List Kept) (a : TreeReport) → Reports tree before after a → IsBuilt tree }
+    ensures read { (tree : List Entry) (before after : List Kept) (a : TreeReport) → Reports tree before after a → HasReading tree }
     ensures fresh { IsHonest [] }
     ensures honest { (tree : List Entry) (before after : List Kept) (a : TreeReport) → IsHonest before → Reports tree before after a → IsHonest after }
 {}
@@ -30,8 +30,8 @@ pub fn each_mark_has_its_text()
     ensures limit { (limit : Limit) → mark_text true (limit_number limit) ≡ limit_text limit }
 {}
 
-/// Where no lawful load is without an outcome, no tree that is built is without a report, over any cache.
-pub fn a_built_tree_has_a_report()
+/// Where no lawful load is without an outcome, no tree that can be read is without a report, over any cache.
+pub fn a_tree_that_is_read_has_a_report()
     ensures { AllHaveOutcomes → (tree : List Entry) → AreInOrder tree → (before : List Kept) → HasReport tree before }
 {
     a_tree_has_a_report();

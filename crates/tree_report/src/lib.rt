@@ -1,10 +1,8 @@
 //! What a run replies to a tree of files.
 #![tactic(auto)]
 
-mod constants;
 mod files;
 mod formed;
-mod imported;
 mod laws;
 mod limits;
 mod lines;
@@ -16,6 +14,6 @@ mod run;
 mod states;
 mod texts;
 
-pub use laws::{a_built_tree_has_a_report, each_mark_has_its_text, one_report_of_a_tree};
+pub use laws::{a_tree_that_is_read_has_a_report, each_mark_has_its_text, one_report_of_a_tree};
 pub use print::TreeReport;
-pub use run::{Answer, report_on};
+pub use run::report_on;

@@ -1,78 +1,77 @@
-//! Which trees are built, as far as paths and sizes tell.
-ghost use Rattle.std.specs.Prelude.{◌≡◌, ◌≤◌, ◌<◌, ◌^◌, ◌↔◌, ℕ, List, length, map, IsTrue, IfOk, All, false};
-ghost use Rattle.tree_report.specs.Form.{is_early, source_texts, AreWithinLimits};
-ghost use Rattle.tree_report.specs.Shown.{texts_shown};
+//! The limits of a tree, as far as its files tell.
+ghost use Rattle.std.specs.Prelude.{◌≡◌, IfOk};
+ghost use Rattle.tree_report.specs.Limits.{is_limited, limited_sizes, are_many, some_long, are_heavy, size_limit};
 
-use go_tree::FileTree;
+use analysis_core::TreeLimit;
 use gv_base::{Files, NoMemory};
 use import_graph::is_source;
 use std::alloc::Global;
 
-/// The most source files of a tree, bytes of one, and bytes of all.
+/// The most files of a tree that are read, bytes of one, and bytes of all.
 const MOST_FILES: usize = 10_000;
 
 const MOST_FILE_BYTES: usize = 4_194_304;
 
 const MOST_TREE_BYTES: usize = 67_108_864;
 
-/// The most nodes of a file.
-const MOST_NODES: usize = 4_294_967_296;
-
-/// The texts of the source files.
-pub fn source_texts<'a>(alloc: Global, files: &'a Files) -> Result<Vec<&'a [u8]>, NoMemory>
-    ensures { IfOk result (λ texts. texts_shown texts.items ≡ source_texts files.now) }
+/// Whether the limits count a file: `go.mod`, and the source files.
+fn is_limited(path: &[u8]) -> bool
+    ensures { result ≡ is_limited path.now }
 {
-    let mut texts = Vec::new(alloc);
+    path == b"go.mod".as_slice() || is_source(path)
+}
+
+/// How many bytes each of these files has.
+pub fn limited_sizes(alloc: Global, files: &Files) -> Result<Vec<usize>, NoMemory>
+    ensures { IfOk result (λ sizes. sizes.items ≡ limited_sizes files.now) }
+{
+    let mut sizes = Vec::new(alloc);
     for file in 0..files.count() {
         let (path, text) = files.at(file);
-        if is_source(path.as_bytes()) {
-            texts.push(text)?;
+        if is_limited(path.as_bytes()) {
+            sizes.push(text.len())?;
         }
     }
-    Ok(texts)
+    Ok(sizes)
 }
 
-fn is_early(path: &[u8]) -> bool
-    ensures { result ≡ is_early path.now }
+fn are_many(sizes: &[usize]) -> bool
+    ensures { result ≡ are_many sizes.now }
 {
-    path == b"go.mod".as_slice() || path.starts_with(b"std/")
+    sizes.len() > MOST_FILES
 }
 
-/// Whether no file stands where a run knows no meaning for it yet.
-pub fn are_plain(files: &Files) -> bool
-    ensures { IsTrue result ↔ All (λ entry. is_early entry.0 ≡ false) files.now }
+fn some_long(sizes: &[usize]) -> bool
+    ensures { result ≡ some_long sizes.now }
 {
-    for file in 0..files.count() {
-        if is_early(files.at(file).0.as_bytes()) {
-            return false;
+    sizes.iter().any(|size| *size > MOST_FILE_BYTES)
+}
+
+fn are_heavy(sizes: &[usize]) -> bool
+    ensures { result ≡ are_heavy sizes.now }
+{
+    let mut room = MOST_TREE_BYTES;
+    for size in sizes {
+        if *size > room {
+            return true;
         }
+        room -= *size;
     }
-    true
+    false
 }
 
-/// Whether each text and all of them are within the limits.
-pub fn are_within_limits(texts: &[&[u8]]) -> bool
-    ensures { IsTrue result ↔ AreWithinLimits (texts_shown texts.now) }
+/// The first limit that files of these sizes are over, by how many they are, by the bytes of one, and by those of all.
+pub fn size_limit(sizes: &[usize]) -> Option<TreeLimit>
+    ensures { result ≡ size_limit sizes.now }
 {
-    if texts.len() > MOST_FILES {
-        return false;
+    if are_many(sizes) {
+        return Some(TreeLimit::Files);
     }
-    let mut total = 0;
-    for text in texts {
-        if text.len() > MOST_FILE_BYTES {
-            return false;
-        }
-        total += text.len();
-        if total > MOST_TREE_BYTES {
-            return false;
-        }
+    if some_long(sizes) {
+        return Some(TreeLimit::FileBytes);
     }
-    true
-}
-
-/// Whether the nodes of a file can be counted.
-pub fn has_few_nodes(tree: &FileTree) -> bool
-    ensures { IsTrue result ↔ (length tree.now.nodes ≤ 2 ^ 32) }
-{
-    tree.nodes.as_slice().len() <= MOST_NODES
+    if are_heavy(sizes) {
+        return Some(TreeLimit::TreeBytes);
+    }
+    None
 }

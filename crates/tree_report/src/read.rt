@@ -1,9 +1,9 @@
 //! The verdict of each file of a tree, and its head.
-ghost use Rattle.std.specs.Prelude.{◌≡◌, ◌≤◌, ◌↔◌, ◌^◌, true, length, All, IsTrue, IfOk};
+ghost use Rattle.std.specs.Prelude.{◌≡◌, ◌≤◌, ◌^◌, true, length, All, IfOk};
 ghost use Rattle.import_graph.specs.Sources.{is_source};
-ghost use Rattle.tree_report.specs.Form.{source_texts, IsRead, AreRead, head_by, head_in, AreHeads, HasFewNodes, IsCountable, AreCountable};
+ghost use Rattle.tree_report.specs.Limits.{limited_sizes};
+ghost use Rattle.tree_report.specs.Reading.{IsRead, AreRead, head_by, head_in, AreHeads};
 
-use crate::limits::has_few_nodes;
 use go_tree::Head;
 use gv_base::{Files, NoMemory};
 use import_graph::is_source;
@@ -24,7 +24,7 @@ fn read(alloc: Global, path: &[u8], text: &[u8]) -> Result<Option<FileVerdict>, 
 
 /// The verdicts of all files.
 pub fn read_all(alloc: Global, files: &Files) -> Result<Vec<Option<FileVerdict>>, NoMemory>
-    requires { All (λ text. length text ≤ 4194304) (source_texts files.now) }
+    requires { All (λ size. size ≤ 4194304) (limited_sizes files.now) }
     ensures { IfOk result (λ verdicts. AreRead files.now verdicts.items) }
 {
     let mut verdicts = Vec::new(alloc);
@@ -85,37 +85,4 @@ pub fn heads(
         heads.push(head)?;
     }
     Ok(heads)
-}
-
-/// Whether the nodes of a file that isn't refused can be counted.
-fn is_counted(verdict: &FileVerdict) -> bool
-    ensures { IsTrue result ↔ HasFewNodes verdict.now }
-{
-    match verdict {
-        FileVerdict::Parsed(tree) => has_few_nodes(tree),
-        FileVerdict::Lexical { .. } => true,
-        FileVerdict::Syntax { .. } => true,
-        FileVerdict::TooDeep { .. } => true,
-    }
-}
-
-fn is_countable(verdict: &Option<FileVerdict>) -> bool
-    ensures { IsTrue result ↔ IsCountable verdict.now }
-{
-    match verdict {
-        None => true,
-        Some(verdict) => is_counted(verdict),
-    }
-}
-
-/// Whether the nodes of each file that isn't refused can be counted.
-pub fn are_countable(verdicts: &[Option<FileVerdict>]) -> bool
-    ensures { IsTrue result ↔ AreCountable verdicts.now }
-{
-    for verdict in verdicts {
-        if !is_countable(verdict) {
-            return false;
-        }
-    }
-    true
 }

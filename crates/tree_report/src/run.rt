@@ -3,29 +3,29 @@ ghost use Rattle.std.specs.Prelude.{◌≡◌, ◌<◌, ◌≤◌, ◌+◌, ◌^
 ghost use Rattle.fact_cache.specs.Caches.{is_within};
 ghost use Rattle.import_graph.specs.Packages.{paths_of};
 ghost use Rattle.import_graph.specs.Tables.{AreAscending};
-ghost use Rattle.tree_report.specs.Formed.{Holds, IsReplyOf};
-ghost use Rattle.tree_report.specs.Reports.{HasCircle, IsHonest, IsAnswered, IsSafe, IsSafeAnswer, IsStopped, MetCircle, Reports};
+ghost use Rattle.tree_report.specs.Formed.{Holds, IsReplyOf, limit_reply};
+ghost use Rattle.tree_report.specs.Limits.{IsFirstLimit};
+ghost use Rattle.tree_report.specs.Reports.{HasCircle, IsHonest, IsSafe, IsStopped, MetCircle, Reports, ReportsLimit, ReportsPackages, TellsPackages};
 
-use crate::formed::{Formed, form_of};
+use crate::formed::{Formed, Known, known_of};
 use crate::print::{TreeReport, printed};
 use crate::states::{Found, error_lines};
 use crate::texts::all_texts;
 use action_graph::{Kit, Unloaded};
-use analysis_core::Reply;
+use analysis_core::{Counts, Reply, TreeLimit};
 use fact_cache::Cache;
 use gv_base::{Files, NoMemory, Row, Text, files_are_in_order};
 use gv_driver::Judgement;
 use import_graph::Package;
 use std::alloc::Global;
 
-/// What is answered of a tree.
-#[derive(Drop)]
-pub enum Answer {
-    /// It isn't in the form that is built. The cache is as it was.
-    NotBuilt,
-    /// Its report.
-    Told(TreeReport),
-}
+/// The numbers of a run without nodes.
+const NO_COUNTS: Counts = Counts {
+    nodes: 0,
+    missing: 0,
+    loads: 0,
+    runs: 0,
+};
 
 /// The paths of the packages.
 fn paths_of(alloc: Global, packages: &[Package]) -> Result<Vec<Text>, NoMemory>
@@ -62,7 +62,32 @@ fn reply_of(alloc: Global, formed: &Formed, ran: &Judgement) -> Result<Reply, No
     Ok(Reply::of_check(alloc, packages, Row::new(errors), ran.counts))
 }
 
-/// The report of a tree of the form.
+/// The reply of a run over a tree that is over a limit.
+fn limit_reply(alloc: Global, limit: TreeLimit) -> Reply
+    ensures { result ≡ limit_reply limit }
+{
+    Reply {
+        limit: Some(limit),
+        packages: 0,
+        errors: Row::new(Vec::new(alloc)),
+        diagnostics: Row::new(Vec::new(alloc)),
+        facts: Row::new(Vec::new(alloc)),
+        choices: Row::new(Vec::new(alloc)),
+        changed: Row::new(Vec::new(alloc)),
+        counts: NO_COUNTS,
+    }
+}
+
+/// The report of a tree that is over this limit first.
+fn report_limit(alloc: Global, files: &Files, limit: TreeLimit) -> Result<TreeReport, NoMemory>
+    requires { IsFirstLimit files.now limit }
+    ensures { IfOk result (ReportsLimit files.now) }
+{
+    let report = printed(alloc, files, &limit_reply(alloc, limit))?;
+    Ok(report)
+}
+
+/// The report of a tree within the limits.
 fn report_formed<K: Kit>(
     alloc: Global,
     files: &Files,
@@ -75,12 +100,12 @@ fn report_formed<K: Kit>(
     requires room { (k : ℕ) (kit : K) → slice_get kits.old k ≡ Some kit → K.loads kit ≤ 2 ^ 62 }
     ensures bound { sum_by K.loads kits.new ≤ sum_by K.loads kits.old + 1024 }
     ensures runs { sum_by K.runs kits.new ≡ sum_by K.runs kits.old }
-    ensures safe { IfOk result (IsSafe files.now) }
-    ensures told { IsHonest cache.old → IfOk result (Reports files.now cache.old cache.new) }
+    ensures safe { IfOk result (TellsPackages files.now) }
+    ensures told { IsHonest cache.old → IfOk result (ReportsPackages files.now cache.old cache.new) }
     ensures cut_off { IsHonest cache.old → OnErr result (IsStopped files.now cache.old cache.new (sum_by K.loads kits.old) (sum_by K.loads kits.new)) }
     ensures loads { IsHonest cache.old → IfOk result (λ report. sum_by K.loads kits.new ≡ sum_by K.loads kits.old + report.counts.loads) }
-    ensures circle { result ≡ Err Unloaded.Circle → MetCircle files.now cache.old }
-    ensures stuck { IsHonest cache.old → result ≡ Err Unloaded.Circle → HasCircle files.now }
+    ensures circle { result ≡ Err Unloaded.Stuck → MetCircle files.now cache.old }
+    ensures stuck { IsHonest cache.old → result ≡ Err Unloaded.Stuck → HasCircle files.now }
     ensures honest { IsHonest cache.old → IsHonest cache.new }
     ensures within { is_within cache.old ≡ true → is_within cache.new ≡ true }
 {
@@ -92,34 +117,38 @@ fn report_formed<K: Kit>(
     Ok(report)
 }
 
-/// Reports on a tree with the first of the kits, and with what the cache has; what was executed is kept. Over any cache the form
-/// alone decides whether the tree is built, and each place of the report stands in one of the files. Where the rules of a package go in a
-/// circle nothing is told of the tree. After that, as after want of memory, no more
+/// Reports on a tree with the first of the kits, and with what the cache has; what was executed is kept. Of a tree over a limit the first one is told, and
+/// nothing is looked up, executed or kept. Every tree is taken. Over any cache each place of the report stands in one of the files. Where a package is stuck,
+/// since its rules go in a circle or what is seen of it can't be told, nothing is told of the tree. After that, as after want of memory, no more
 /// was executed than was missing, and the cache has gained entries of what was missing alone. A cache within its limits stays there.
 pub fn report_on<K: Kit>(
     alloc: Global,
     files: &Files,
     cache: &mut Cache,
     kits: &mut [K],
-) -> Result<Answer, Unloaded>
+) -> Result<TreeReport, Unloaded>
     requires some { 0 < length kits.old }
     requires room { (k : ℕ) (kit : K) → slice_get kits.old k ≡ Some kit → K.loads kit ≤ 2 ^ 62 }
     ensures bound { sum_by K.loads kits.new ≤ sum_by K.loads kits.old + 1024 }
     ensures runs { sum_by K.runs kits.new ≡ sum_by K.runs kits.old }
-    ensures safe { IfOk result (IsSafeAnswer files.now cache.old cache.new (sum_by K.loads kits.old) (sum_by K.loads kits.new)) }
+    ensures safe { IfOk result (IsSafe files.now cache.old cache.new (sum_by K.loads kits.old) (sum_by K.loads kits.new)) }
     ensures cut_off { IsHonest cache.old → OnErr result (IsStopped files.now cache.old cache.new (sum_by K.loads kits.old) (sum_by K.loads kits.new)) }
-    ensures answered { IsHonest cache.old → IfOk result (IsAnswered files.now cache.old cache.new (sum_by K.loads kits.old) (sum_by K.loads kits.new)) }
-    ensures circle { result ≡ Err Unloaded.Circle → MetCircle files.now cache.old }
-    ensures stuck { IsHonest cache.old → result ≡ Err Unloaded.Circle → HasCircle files.now }
+    ensures told { IsHonest cache.old → IfOk result (Reports files.now cache.old cache.new) }
+    ensures loads { IsHonest cache.old → IfOk result (λ report. sum_by K.loads kits.new ≡ sum_by K.loads kits.old + report.counts.loads) }
+    ensures circle { result ≡ Err Unloaded.Stuck → MetCircle files.now cache.old }
+    ensures stuck { IsHonest cache.old → result ≡ Err Unloaded.Stuck → HasCircle files.now }
     ensures honest { IsHonest cache.old → IsHonest cache.new }
     ensures within { is_within cache.old ≡ true → is_within cache.new ≡ true }
 {
-    let found = form_of(alloc, files)?;
-    match found {
-        None => Ok(Answer::NotBuilt),
-        Some(formed) => {
+    let known = known_of(alloc, files)?;
+    match known {
+        Known::Over(limit) => {
+            let report = report_limit(alloc, files, limit)?;
+            Ok(report)
+        }
+        Known::Of(formed) => {
             let report = report_formed(alloc, files, &formed, cache, kits)?;
-            Ok(Answer::Told(report))
+            Ok(report)
         }
     }
 }

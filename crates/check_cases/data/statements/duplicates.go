@@ -172,7 +172,7 @@ func types() {
 	case interface{}, interface{}, error, interface{ Error() string }: // ERROR 20:E81
 	case shape, interface{ area() int }:
 	case nil:
-	case nil, (nil):        // ERROR 7:E81 13:E10
+	case nil, (nil):        // ERROR 7:E81 12:E81
 	default:
 	}
 	switch sh := sh.(type) {

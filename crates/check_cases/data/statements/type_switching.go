@@ -54,6 +54,11 @@ func types() {
 	case int, n:         // ERROR 12:E10
 	case nil, string:
 	}
+	switch x := any.(type) {
+	case (nil):
+		use(x)
+	case (int), (n):     // ERROR 15:E10
+	}
 	switch sh.(type) {
 	case int:            // ERROR 7:E47
 	case circle:         // ERROR 7:E47
@@ -73,6 +78,7 @@ func duplicates() {
 	case string, int:    // ERROR 15:E81
 	case nil:
 	case nil:            // ERROR 7:E81
+	case (nil):          // ERROR 7:E81
 	case []int, struct{ a int }:
 	case []int:          // ERROR 7:E81
 	case struct{ a int }: // ERROR 7:E81

@@ -4,10 +4,9 @@ use Rattle.std.proofs.lemmas.List.{append-nil}
 use Rattle.gv_tool.specs.Next.{IsNext, command_of}
 use Rattle.gv_tool.specs.declared.script.Next.TheVariants.{Whole, Refused, NeedMore}
 use Rattle.gv_tool.specs.Replies.{Does}
-use Rattle.gv_tool.specs.Desk.{standing_of, IsAnswer, IsStuckRun}
-use Rattle.gv_tool.specs.declared.desk.Answer.TheVariants.{Reply, NotBuilt}
+use Rattle.gv_tool.specs.Desk.{standing_of, IsStuckRun}
 use Rattle.gv_base.proofs.Known.{Appends-none, Consumes-none}
-use Rattle.gv_tool.proofs.Steps.{within-limit, Outcome-refused, Outcome-unbuilt, Outcome-circle, Outcome-finished, IsEnding-of, IsUnbuilt-of, IsRefused-none, Stands-piece, WentOut-full, WentOut-before, StandsOrEnds-reply, PastLimit-over}
+use Rattle.gv_tool.proofs.Steps.{within-limit, Outcome-refused, Outcome-circle, Outcome-finished, IsEnding-of, IsRefused-none, Stands-piece, WentOut-full, WentOut-before, StandsOrEnds-reply, PastLimit-over}
 use Rattle.gv_tool.proofs.top.turn.Goals as goal
 
 pub returns-then-is_end-clause-turns : goal.returns-then-is_end-clause-turns
@@ -25,8 +24,8 @@ returns-then-is_end-clause-turns g c =
           rw (append-nil before, c.verdict.ensures) (Outcome-finished session source.left s (IsEnding-of session c.in-Whole.command c.in-Whole.len source.left next (c.if-is_end.ensures.0 refl)));
     }
 
-pub returns-in-Ok-Reply-clause-turns : goal.returns-in-Ok-Reply-clause-turns
-returns-in-Ok-Reply-clause-turns g c =
+pub returns-in-Ok-clause-turns : goal.returns-in-Ok-clause-turns
+returns-in-Ok-clause-turns g c =
     let source = g.I.Source.view c.args.input.now in
     let session = c.args.session.now in
     let r = c.tell.ensures.tells in record {
@@ -38,25 +37,8 @@ returns-in-Ok-Reply-clause-turns g c =
       says = r.says;
       goes = λ start before out s.
           let next : IsNext session.pending (Whole c.in-Whole.command c.in-Whole.len) = rw c.as_slice.ensures at c.in-Whole.ensures in
-          let does : Does (command_of c.in-Whole.command) (standing_of session.desk) (standing_of c.apply.new.self) c.as_slice-in-Ok-Reply.result.now = rw c.as_slice-in-Ok-Reply.ensures (let a : IsAnswer (command_of c.in-Whole.command) (standing_of session.desk) (standing_of c.apply.new.self) (Reply c.in-Ok-Reply.reply) = rw c.in-Ok-Reply.field-0-is at (c.in-Ok-Reply.ensures.answer s.honest) in a) in
-          rw (append-nil before) (StandsOrEnds-reply session (record session { desk = c.apply.new.self }) c.tell.new.session c.in-Whole.command c.in-Whole.len c.as_slice-in-Ok-Reply.result.now r.said source.left c.tell.result s next does refl refl (c.in-Ok-Reply.ensures.honest s.honest) r.leaves);
-    }
-
-pub returns-in-Ok-NotBuilt-clause-turns : goal.returns-in-Ok-NotBuilt-clause-turns
-returns-in-Ok-NotBuilt-clause-turns g c =
-    let source = g.I.Source.view c.args.input.now in
-    let session = c.args.session.now in
-    let r = c.stop.ensures.says in record {
-      given = [];
-      said = r.said;
-      takes = Consumes-none source.left;
-      counts = omega arith;
-      within = let w = within-limit c.args.session.now in omega arith;
-      says = r.says;
-      goes = λ start before out s.
-          let next : IsNext session.pending (Whole c.in-Whole.command c.in-Whole.len) = rw c.as_slice.ensures at c.in-Whole.ensures in
-          let a : IsAnswer (command_of c.in-Whole.command) (standing_of session.desk) (standing_of c.apply.new.self) NotBuilt = rw c.in-Ok-NotBuilt.field-0-is at (c.in-Ok-NotBuilt.ensures.answer s.honest) in
-          rw (append-nil before) (Outcome-unbuilt session source.left r.said c.stop.result s (IsUnbuilt-of session c.in-Whole.command c.in-Whole.len next a.0 a.1) r.line);
+          let does : Does (command_of c.in-Whole.command) (standing_of session.desk) (standing_of c.apply.new.self) c.as_slice-in-Ok.result.now = rw c.as_slice-in-Ok.ensures (c.in-Ok.ensures.answer s.honest) in
+          rw (append-nil before) (StandsOrEnds-reply session (record session { desk = c.apply.new.self }) c.tell.new.session c.in-Whole.command c.in-Whole.len c.as_slice-in-Ok.result.now r.said source.left c.tell.result s next does refl refl (c.in-Ok.ensures.honest s.honest) r.leaves);
     }
 
 pub returns-in-Err-NoMemory-clause-turns : goal.returns-in-Err-NoMemory-clause-turns
@@ -71,8 +53,8 @@ returns-in-Err-NoMemory-clause-turns g c =
       goes = λ start before out s. rw (append-nil before) (WentOut-before c.args.session.now source.left s);
     }
 
-pub returns-in-Err-Circle-clause-turns : goal.returns-in-Err-Circle-clause-turns
-returns-in-Err-Circle-clause-turns g c =
+pub returns-in-Err-Stuck-clause-turns : goal.returns-in-Err-Stuck-clause-turns
+returns-in-Err-Stuck-clause-turns g c =
     let source = g.I.Source.view c.args.input.now in
     let session = c.args.session.now in record {
       given = [];
@@ -83,7 +65,7 @@ returns-in-Err-Circle-clause-turns g c =
       says = Appends-none (g.O.Sink.view c.args.output.now).held;
       goes = λ start before out s.
           let next : IsNext session.pending (Whole c.in-Whole.command c.in-Whole.len) = rw c.as_slice.ensures at c.in-Whole.ensures in
-          let circle : IsStuckRun (command_of c.in-Whole.command) (standing_of session.desk) = c.in-Err-Circle.ensures.circle s.honest (ap Err c.in-Err-Circle.field-0-is) in
+          let circle : IsStuckRun (command_of c.in-Whole.command) (standing_of session.desk) = c.in-Err-Stuck.ensures.circle s.honest (ap Err c.in-Err-Stuck.field-0-is) in
           rw (append-nil before) (Outcome-circle session c.in-Whole.command c.in-Whole.len source.left s next circle.0 circle.1);
     }
 

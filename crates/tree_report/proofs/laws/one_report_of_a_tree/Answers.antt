@@ -1,4 +1,4 @@
-use Rattle.tree_report.proofs.OnceLemmas.{report-once-of, cache-once-of, honest-after-of}
+use Rattle.tree_report.proofs.ReportLemmas.{report-once-of, cache-once-of, read-of, honest-after-of}
 use Rattle.tree_report.proofs.laws.one_report_of_a_tree.Goals as goal
 
 pub returns-clause-report : goal.returns-clause-report
@@ -6,6 +6,9 @@ returns-clause-report c = report-once-of
 
 pub returns-clause-cache : goal.returns-clause-cache
 returns-clause-cache c = cache-once-of
+
+pub returns-clause-read : goal.returns-clause-read
+returns-clause-read c = read-of
 
 pub returns-clause-honest : goal.returns-clause-honest
 returns-clause-honest c = honest-after-of

@@ -1,7 +1,7 @@
 use Rattle.std.proofs.Common.{◌≡◌, ◌<◌, Option, Some, length, slice_get, arith}
 use Rattle.gv_base.specs.Files.{Entry}
 use Rattle.parse_file.specs.declared.verdict.FileVerdict.{FileVerdict}
-use Rattle.tree_report.specs.Form.{head_in}
+use Rattle.tree_report.specs.Reading.{head_in}
 use Rattle.tree_report.proofs.ReadLemmas.{each-pushed, length-pushed, pair-here}
 use Rattle.tree_report.proofs.read.heads.Goals as goal
 

@@ -2,12 +2,12 @@ use Rattle.std.proofs.Common.{◌≡◌, ◌≤◌, ℕ, Some, List, length, sli
 use Rattle.std.proofs.lemmas.Option.{same_Some}
 use Rattle.gv_base.specs.Files.{Entry}
 use Rattle.import_graph.specs.Sources.{is_source}
-use Rattle.tree_report.specs.Form.{IsRead}
-use Rattle.tree_report.proofs.ReadLemmas.{each-pushed, length-pushed, source-text}
+use Rattle.tree_report.specs.Reading.{IsRead}
+use Rattle.tree_report.proofs.ReadLemmas.{each-pushed, length-pushed, source-size}
 use Rattle.tree_report.proofs.read.read_all.Goals as goal
 
 pub read-requires : goal.read-requires
-read-requires c = λ source. let small : length c.at.result.1.now ≤ 4194304 = source-text (λ t. length t ≤ 4194304) c.args.files.now c.loop-file.file c.at.result.0.now c.at.result.1.now c.requires c.at.ensures
+read-requires c = λ source. let small : length c.at.result.1.now ≤ 4194304 = source-size (λ size. size ≤ 4194304) c.args.files.now c.loop-file.file c.at.result.0.now c.at.result.1.now c.requires c.at.ensures
     (ap is_source (sym c.as_bytes.ensures.value) ∙ source) in omega (arith, small)
 
 pub loop-file-preserved : goal.loop-file-preserved

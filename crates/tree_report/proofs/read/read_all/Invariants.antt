@@ -1,7 +1,7 @@
 use Rattle.std.proofs.Common.{◌≡◌, ℕ, Option, Some, length, slice_get}
 use Rattle.gv_base.specs.Files.{Entry}
 use Rattle.parse_file.specs.declared.verdict.FileVerdict.{FileVerdict}
-use Rattle.tree_report.specs.Form.{IsRead}
+use Rattle.tree_report.specs.Reading.{IsRead}
 use Rattle.tree_report.proofs.read.read_all.Given as goal
 
 abbrev pub invariant-loop-file : goal.invariant-loop-file

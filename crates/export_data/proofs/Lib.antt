@@ -1,3 +1,0 @@
-pub mod ConstantKinds
-pub mod Objects
-pub mod Interfaces
