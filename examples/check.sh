@@ -1,5 +1,5 @@
 #!/usr/bin/env bash
-# Checks the Go files of a folder with gvet: makes the script that puts each of them and asks for a check, and runs it.
+# Checks the Go files of a folder with gvet, and its go.mod: makes the script that puts each of them and asks for a check, and runs it.
 #   examples/check.sh DIR
 # Its output and its status are gvet's. Names that gvet takes for no paths are told and left out.
 set -eu
@@ -17,7 +17,7 @@ while IFS= read -r -d '' file; do
     printf 'put %s %d\n' "$path" "$(wc -c <"$dir/$path")"
     cat "$dir/$path"
     echo
-done < <(cd "$dir" && find . -name '*.go' -type f -print0 | sort -z) >"$script"
+done < <(cd "$dir" && find . \( -name '*.go' -o -path ./go.mod \) -type f -print0 | sort -z) >"$script"
 echo check >>"$script"
 status=0
 "$gvet" session <"$script" || status=$?

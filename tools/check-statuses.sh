@@ -30,6 +30,5 @@ printf 'put a/a.go 23\npackage a\n\nconst A = A\n\ncheck\n' | "$program" session
 printf 'check\n' | "$program" session >/dev/full 2>"$errors"; status=$?; expect 6 'sink fault'
 printf 'Check\n' | "$program" session >/dev/null 2>"$errors"; status=$?; expect 8 'script refused'
 yes 'del a' | head -c 268435457 | "$program" session >/dev/null 2>"$errors"; status=$?; expect 9 'input too long'
-printf 'put go.mod 9\nmodule m\n\ncheck\n' | "$program" session >/dev/null 2>"$errors"; status=$?; expect 11 'not built'
 [ "$failed" = 0 ] && echo "each status has its number and its name"
 exit "$failed"

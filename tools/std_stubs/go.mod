@@ -1,0 +1,3 @@
+module std_stubs
+
+go 1.19
