@@ -14,11 +14,20 @@ fn push_text(alloc: Global, texts: &mut Vec<Bytes>, text: &[u8]) -> Result<(), N
     Ok(())
 }
 
+/// Adds a text with one holder more, where its holders are counted.
+fn push_share(alloc: Global, texts: &mut Vec<Bytes>, text: &Bytes) -> Result<(), NoMemory>
+    ensures { OnOk result (texts.new.items ≡ texts.old.items ++ text.now ∷ []) }
+{
+    let copy = text.copy(alloc)?;
+    texts.push(copy)?;
+    Ok(())
+}
+
 fn push_pair(alloc: Global, texts: &mut Vec<Bytes>, pair: &(Text, Bytes)) -> Result<(), NoMemory>
     ensures { OnOk result (texts.new.items ≡ (texts.old.items ++ pair.now.0 ∷ []) ++ pair.now.1 ∷ []) }
 {
     push_text(alloc, texts, pair.0.as_str().as_bytes())?;
-    push_text(alloc, texts, pair.1.as_slice())?;
+    push_share(alloc, texts, &pair.1)?;
     Ok(())
 }
 

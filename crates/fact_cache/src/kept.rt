@@ -161,7 +161,8 @@ fn append(
 fn copy(alloc: Global, bytes: &[u8]) -> Result<Bytes, NoMemory>
     ensures { IfOk result (λ b. b ≡ bytes.now) }
 {
-    Ok(Bytes::new(bytes.to_vec(alloc)?))
+    let copy = Bytes::of(alloc, bytes)?;
+    Ok(copy)
 }
 
 /// Keeps a text that isn't kept.
@@ -260,17 +261,16 @@ impl Kept {
         m == n
     }
 
-    fn hold_new(&mut self, number: u64, bytes: &[u8]) -> Result<usize, NoMemory>
-        requires absent { IsAbsent self.old bytes.now }
-        ensures held { IfOk result (λ n. IsHeld self.old self.new bytes.now n) }
-        ensures mixed { (key : Spread) → number ≡ text_mix key bytes.now → AreMixed key self.old → AreMixed key self.new }
+    fn hold_new(&mut self, number: u64, bytes: Bytes) -> Result<usize, NoMemory>
+        requires absent { IsAbsent self.old bytes }
+        ensures held { IfOk result (λ n. IsHeld self.old self.new bytes n) }
+        ensures mixed { (key : Spread) → number ≡ text_mix key bytes → AreMixed key self.old → AreMixed key self.new }
         ensures unchanged { OnErr result (self.new ≡ self.old) }
     {
-        let total = match self.total.checked_add(bytes.len()) {
+        let total = match self.total.checked_add(bytes.as_slice().len()) {
             None => return Err(NoMemory),
             Some(total) => total,
         };
-        let bytes = copy(self.alloc, bytes)?;
         let n = keep(&mut self.index, &mut self.places, number, bytes)?;
         self.total = total;
         Ok(n)
@@ -291,16 +291,19 @@ impl Kept {
         Ok(())
     }
 
-    /// Uses a text once more, and answers its place. A text that isn't kept is copied.
-    pub(crate) fn hold(&mut self, key: Key, bytes: &[u8]) -> Result<usize, NoMemory>
+    /// Uses a text once more, and answers its place. Of a text that isn't kept a copy is kept, or one holder more where its holders are counted.
+    pub(crate) fn hold(&mut self, key: Key, bytes: &Bytes) -> Result<usize, NoMemory>
         requires { AreMixed key self.old }
         ensures held { IfOk result (λ n. IsHeld self.old self.new bytes.now n) }
         ensures mixed { AreMixed key self.new }
         ensures unchanged { OnErr result (self.new ≡ self.old) }
     {
-        let number = text_number(key, bytes);
-        match seek(&self.index, &self.places, number, bytes) {
-            None => self.hold_new(number, bytes),
+        let number = text_number(key, bytes.as_slice());
+        match seek(&self.index, &self.places, number, bytes.as_slice()) {
+            None => {
+                let copy = bytes.copy(self.alloc)?;
+                self.hold_new(number, copy)
+            }
             Some(n) => {
                 self.hold_again(n)?;
                 Ok(n)
@@ -319,7 +322,8 @@ impl Kept {
         match seek(&self.index, &self.places, number, bytes) {
             Some(_n) => Ok(None),
             None => {
-                let n = self.hold_new(number, bytes)?;
+                let own = copy(self.alloc, bytes)?;
+                let n = self.hold_new(number, own)?;
                 Ok(Some(n))
             }
         }

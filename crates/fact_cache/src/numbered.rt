@@ -55,7 +55,7 @@ fn hold_one(
     key: Key,
     kept: &mut Kept,
     numbers: &mut Vec<usize>,
-    text: &[u8],
+    text: &Bytes,
 ) -> Result<usize, NoMemory>
     requires { AreMixed key kept.old }
     ensures mixed { AreMixed key kept.new }
@@ -98,7 +98,7 @@ fn hold_all(
     ensures like { OnErr result (IsLike kept.old kept.new) }
 {
     for text in texts {
-        match hold_one(key, kept, numbers, text.as_slice()) {
+        match hold_one(key, kept, numbers, text) {
             Ok(_n) => {}
             Err(error) => {
                 free_all(kept, numbers);
@@ -125,7 +125,7 @@ pub(crate) fn hold_row(
     key: Key,
     kept: &mut Kept,
     input: &Input,
-    outcome: &[u8],
+    outcome: &Bytes,
 ) -> Result<Numbered, NoMemory>
     requires { AreMixed key kept.old }
     ensures mixed { AreMixed key kept.new }

@@ -12,7 +12,7 @@ ghost use Rattle.typed_tree.specs.Basics.{HasBasics};
 ghost use Rattle.unit_read.specs.Index.{found};
 ghost use Rattle.check_pkg.specs.declared.judging.Outcome.TheVariants as outcome;
 ghost use Rattle.check_pkg.specs.Packages.{package_of, package_name, text_of};
-ghost use Rattle.action_graph.specs.Judging.{AllKnown, HasNothing, Tells, fault_line, line_of, load_text};
+ghost use Rattle.action_graph.specs.Judging.{AllKnown, HasNothing, Tells, accepted_text, fault_line, line_of, load_text};
 ghost use Rattle.action_graph.specs.Judging.Judged.{Accepts, Refuses};
 ghost use Rattle.go_kit.specs.Reading.{IsSeenOf, Stands, TellsOf};
 
@@ -118,6 +118,14 @@ fn are_known(places: &HashMap<&[u8], usize>, paths: &[Text]) -> bool
     true
 }
 
+/// The answer that accepts a package with this export text, which all that read it share.
+fn accepted(alloc: Global, text: Vec<u8>) -> Result<Load<()>, NoMemory>
+    ensures { IfOk result (λ load. load_text load ≡ accepted_text text.items) }
+{
+    let export = Bytes::counted(alloc, text.as_slice())?;
+    Ok(Load::Accepted { loaded: (), export })
+}
+
 /// The answer that accepts a package, with what is seen of it. It can't be told where it has no text, or mentions a package that has no place.
 fn tell_seen(
     alloc: Global,
@@ -136,10 +144,10 @@ fn tell_seen(
     }
     let text = write(alloc, table, seen)?;
     match text {
-        Some(text) => Ok(Load::Accepted {
-            loaded: (),
-            export: Bytes::new(text),
-        }),
+        Some(text) => {
+            let load = accepted(alloc, text)?;
+            Ok(load)
+        }
         None => Err(Unloaded::Stuck),
     }
 }

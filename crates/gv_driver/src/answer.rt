@@ -23,17 +23,11 @@ fn tail(text: &[u8]) -> &[u8]
     if text.is_empty() { text } else { &text[1..] }
 }
 
-fn copy(alloc: Global, text: &[u8]) -> Result<Bytes, NoMemory>
-    ensures { IfOk result (λ b. b ≡ text.now) }
-{
-    Ok(Bytes::new(text.to_vec(alloc)?))
-}
-
 /// The answer that an outcome text tells.
 pub(crate) fn read_answer(alloc: Global, text: &[u8]) -> Result<Answer, NoMemory>
     ensures { IfOk result (λ a. a ≡ answer_in text.now) }
 {
-    let rest = copy(alloc, tail(tail(text)))?;
+    let rest = Bytes::counted(alloc, tail(tail(text)))?;
     if begins_with_one_byte(text) {
         Ok(Answer::Accepted(rest))
     } else {
@@ -97,5 +91,18 @@ pub(crate) fn export_of(answer: &Answer) -> &[u8]
     match answer {
         Answer::Accepted(export) => export.as_slice(),
         Answer::Refused(_) => b"",
+    }
+}
+
+/// The export text of an accepted package, for one holder more.
+pub(crate) fn shared_export(alloc: Global, answer: &Answer) -> Result<Bytes, NoMemory>
+    ensures { IfOk result (λ b. b ≡ export_part answer.now) }
+{
+    match answer {
+        Answer::Accepted(export) => {
+            let more = export.copy(alloc)?;
+            Ok(more)
+        }
+        Answer::Refused(_) => Ok(Bytes::new(Vec::new(alloc))),
     }
 }

@@ -1,29 +1,22 @@
-//! What a load reads.
+//! What a load reads. The texts of files and the export texts are shared by all that holds them.
 ghost use Rattle.std.specs.Prelude.{◌≡◌, IfOk, map};
 ghost use Rattle.gv_driver.specs.Loads.{load_input};
 ghost use Rattle.gv_driver.specs.Tables.{load_over, pair_at};
 
 use crate::node::Node;
-use crate::parts::{export_at, parts_of, path_at};
+use crate::parts::{path_at, shared_export_at};
 use crate::tree::PackageTexts;
-use action_graph::LoadInput;
+use action_graph::{LoadInput, texts_of_load};
 use fact_cache::Input;
 use gv_base::{Bytes, NoMemory, Row, Text};
 use std::alloc::Global;
 
-fn copy_pair(alloc: Global, path: &str, bytes: &[u8]) -> Result<(Text, Bytes), NoMemory>
-    ensures { IfOk result (λ x. x ≡ (path.now, bytes.now)) }
-{
-    let path = Text::new(String::from_str(alloc, path)?);
-    let bytes = Bytes::new(bytes.to_vec(alloc)?);
-    Ok((path, bytes))
-}
-
 fn copy_file(alloc: Global, file: &(Text, Bytes)) -> Result<(Text, Bytes), NoMemory>
     ensures { IfOk result (λ x. x ≡ file.now) }
 {
-    let copy = copy_pair(alloc, file.0.as_str(), file.1.as_slice())?;
-    Ok(copy)
+    let path = file.0.copy(alloc)?;
+    let bytes = file.1.copy(alloc)?;
+    Ok((path, bytes))
 }
 
 fn copy_files(alloc: Global, files: &[(Text, Bytes)]) -> Result<Vec<(Text, Bytes)>, NoMemory>
@@ -45,8 +38,9 @@ fn export_pair(
     ensures { IfOk result (λ x. x ≡ pair_at tree.now table.now number) }
 {
     let at = number as usize;
-    let pair = copy_pair(alloc, path_at(tree, at), export_at(table, at))?;
-    Ok(pair)
+    let path = Text::of(alloc, path_at(tree, at))?;
+    let export = shared_export_at(alloc, table, at)?;
+    Ok((path, export))
 }
 
 fn export_pairs(
@@ -74,23 +68,13 @@ pub(crate) fn load_of(
 ) -> Result<LoadInput, NoMemory>
     ensures { IfOk result (λ load. load ≡ load_over tree.now table.now env.now pack.now) }
 {
-    let path = Text::new(String::from_str(alloc, pack.path.as_str())?);
+    let path = pack.path.copy(alloc)?;
     let files = Row::new(copy_files(alloc, pack.files.as_slice())?);
     let env = Row::new(export_pairs(alloc, tree, table, env)?);
     Ok(LoadInput { path, files, env })
 }
 
-fn copies_of(alloc: Global, parts: &[&[u8]]) -> Result<Vec<Bytes>, NoMemory>
-    ensures { IfOk result (λ texts. texts.items ≡ map (λ t. t.now) parts.now) }
-{
-    let mut texts = Vec::new(alloc);
-    for part in parts {
-        texts.push(Bytes::of(alloc, *part)?)?;
-    }
-    Ok(texts)
-}
-
-/// What the load of a package reads, as the cache keeps it.
+/// What the load of a package reads, as the cache keeps it. It stays until the run's end, so that it keeps no room to spare.
 pub(crate) fn key_of(
     alloc: Global,
     tree: &[PackageTexts],
@@ -100,8 +84,9 @@ pub(crate) fn key_of(
 ) -> Result<Input, NoMemory>
     ensures { IfOk result (λ key. key ≡ load_input (load_over tree.now table.now env.now pack.now)) }
 {
-    let parts = parts_of(alloc, tree, table, env, pack)?;
-    let texts = copies_of(alloc, &parts)?;
+    let load = load_of(alloc, tree, table, env, pack)?;
+    let mut texts = texts_of_load(alloc, &load)?;
+    texts.shrink_to_fit();
     Ok(Input {
         node: 0,
         texts: Row::new(texts),

@@ -6,7 +6,7 @@ ghost use Rattle.gv_driver.specs.Loads.{load_input};
 ghost use Rattle.gv_driver.specs.Rows.{path_in};
 ghost use Rattle.gv_driver.specs.Tables.{export_in, load_over, pair_at};
 
-use crate::answer::export_of;
+use crate::answer::{export_of, shared_export};
 use crate::node::Node;
 use crate::tree::PackageTexts;
 use fact_cache::Cache;
@@ -22,13 +22,31 @@ pub(crate) fn path_at(tree: &[PackageTexts], at: usize) -> &str
     }
 }
 
-pub(crate) fn export_at(table: &[Option<Node>], at: usize) -> &[u8]
+fn export_at(table: &[Option<Node>], at: usize) -> &[u8]
     ensures { result.now ≡ export_in (slice_get table.now at) }
 {
     match table.get(at) {
         None => b"",
         Some(None) => b"",
         Some(Some(node)) => export_of(&node.answer),
+    }
+}
+
+/// The same for one holder more.
+pub(crate) fn shared_export_at(
+    alloc: Global,
+    table: &[Option<Node>],
+    at: usize,
+) -> Result<Bytes, NoMemory>
+    ensures { IfOk result (λ b. b ≡ export_in (slice_get table.now at)) }
+{
+    match table.get(at) {
+        None => Ok(Bytes::new(Vec::new(alloc))),
+        Some(None) => Ok(Bytes::new(Vec::new(alloc))),
+        Some(Some(node)) => {
+            let more = shared_export(alloc, &node.answer)?;
+            Ok(more)
+        }
     }
 }
 
@@ -91,7 +109,7 @@ fn push_exports<'a>(
 }
 
 /// The texts of what a package's load reads.
-pub(crate) fn parts_of<'a>(
+fn parts_of<'a>(
     alloc: Global,
     tree: &'a [PackageTexts],
     table: &'a [Option<Node>],

@@ -41,13 +41,22 @@ fn kinds(alloc: Global, input: &str) -> Result<Vec<u8>, NoMemory> {
     said(alloc, text.as_str())
 }
 
-/// `TEXT`: a copy of it as a text, as bytes and as a constant's text.
+/// The second holder of these bytes, after the first has gone.
+fn shared(alloc: Global, bytes: &[u8]) -> Result<Bytes, NoMemory> {
+    let first = Bytes::counted(alloc, bytes)?;
+    let second = first.copy(alloc)?;
+    Ok(second)
+}
+
+/// `TEXT`: a copy of it as a text, as bytes, as counted bytes whose first holder is gone, and as a constant's text.
 fn copies(alloc: Global, input: &str) -> Result<Vec<u8>, NoMemory> {
     let mut out = Vec::new(alloc);
     let text = Text::of(alloc, input)?.copy(alloc)?;
     let bytes = Bytes::of(alloc, input.as_bytes())?.copy(alloc)?;
     add(&mut out, text.as_str())?;
     out.extend_from_slice(bytes.as_slice())?;
+    let more = shared(alloc, input.as_bytes())?;
+    out.extend_from_slice(more.as_slice())?;
     if bytes.as_slice().len() <= LIMIT {
         let own = bytes.as_slice().to_vec(alloc)?;
         let constant = ConstText::new(own).copy(alloc)?;

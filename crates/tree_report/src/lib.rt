@@ -1,7 +1,6 @@
 //! What a run replies to a tree of files.
 #![tactic(auto)]
 
-mod files;
 mod formed;
 mod laws;
 mod limits;

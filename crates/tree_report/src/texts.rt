@@ -4,7 +4,6 @@ ghost use Rattle.analysis_core.specs.Replies.{file_numbered};
 ghost use Rattle.import_graph.specs.Orders.{is_sound};
 ghost use Rattle.tree_report.specs.Reports.{texts_of};
 
-use crate::files::file_numbered;
 use gv_base::{Bytes, Files, NoMemory, Row, Text};
 use gv_driver::PackageTexts;
 use import_graph::{PackState, Package};
@@ -16,12 +15,24 @@ fn is_sound(state: &PackState) -> bool
     matches!(state, PackState::Sound)
 }
 
-fn copied(alloc: Global, files: &Files, file: u32) -> Result<(Text, Bytes), NoMemory>
-    ensures { IfOk result (λ copy. copy ≡ file_numbered files.now file) }
+/// A file again, with one holder more of its bytes.
+fn shared(alloc: Global, file: &(Text, Bytes)) -> Result<(Text, Bytes), NoMemory>
+    ensures { IfOk result (λ more. more ≡ file.now) }
 {
-    let (path, bytes) = file_numbered(files, file);
-    let path = Text::of(alloc, path)?;
-    let bytes = Bytes::of(alloc, bytes)?;
+    let path = file.0.copy(alloc)?;
+    let bytes = file.1.copy(alloc)?;
+    Ok((path, bytes))
+}
+
+fn shared_file(alloc: Global, files: &Files, file: u32) -> Result<(Text, Bytes), NoMemory>
+    ensures { IfOk result (λ more. more ≡ file_numbered files.now file) }
+{
+    if file < files.count() {
+        let more = shared(alloc, files.entry(file))?;
+        return Ok(more);
+    }
+    let path = Text::new(String::new(alloc));
+    let bytes = Bytes::new(Vec::new(alloc));
     Ok((path, bytes))
 }
 
@@ -30,7 +41,7 @@ fn files_of(alloc: Global, files: &Files, numbers: &[u32]) -> Result<Vec<(Text, 
 {
     let mut list = Vec::new(alloc);
     for number in numbers {
-        let file = copied(alloc, files, *number)?;
+        let file = shared_file(alloc, files, *number)?;
         list.push(file)?;
     }
     Ok(list)

@@ -1,9 +1,7 @@
-use Rattle.std.proofs.Common.{ap}
 use Rattle.export_text.specs.Faces.{IsFaceText}
 use Rattle.package_faces.specs.Interfaces.{face_of}
 use Rattle.type_model.specs.Tables.{types_in}
 use Rattle.unit_read.specs.Index.{found}
-use Rattle.action_graph.specs.Judging.{accepted_text}
 use Rattle.go_kit.proofs.TellLemmas.{all-known, not-known}
 use Rattle.go_kit.proofs.tell.tell_seen.Goals as goal
 
@@ -18,5 +16,5 @@ returns-in-Some-clause-told c =
       written.value,
       all-known (λ q. found c.args.places.now q) (face_of (types_in c.args.table.now) c.args.seen.now) c.in_ok-paths.paths.items c.deref.result.now c.in_ok-paths.ensures c.deref.ensures.value
           (c.are_known.ensures.known c.if-not-are_known.false),
-      (c.in-Some.text.items, written, ap accepted_text c.new.ensures),
+      (c.in-Some.text.items, written, c.in_ok-load-in-Some.ensures),
     )
