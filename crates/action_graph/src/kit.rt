@@ -62,9 +62,20 @@ pub trait Kit {
     /// How many runs of analyzers it has done.
     ghost runs: { Self → ℕ };
 
-    /// Loads a package.
+    /// What holds of that which it keeps from load to load.
+    ghost holds: { Self → Type 0 };
+
+    /// Forgets what it keeps from load to load.
+    fn clear(&mut self)
+        ensures holds { holds self.new }
+        ensures loads { loads self.new ≡ loads self.old }
+        ensures runs { runs self.new ≡ runs self.old };
+
+    /// Loads a package. What comes of it is by the input alone, whatever the kit keeps.
     fn load(&mut self, input: &LoadInput) -> Result<Load<Self::Loaded>, Unloaded>
-        requires { loads self.old < 2 ^ 63 }
+        requires loads { loads self.old < 2 ^ 63 }
+        requires holds { holds self.old }
+        ensures holds { holds self.new }
         ensures right { IsLawful input.now → IfOk result (λ answer. IsOutcome input.now (load_text answer)) }
         ensures circle { result ≡ Err Unloaded.Stuck → IsStuck input.now }
         ensures counted { OnOk result (loads self.new ≡ loads self.old + 1) }

@@ -2,7 +2,9 @@
 use Rattle.std.specs.Prelude.{◌≡◌, ℕ, List, [], map, Option}
 use Rattle.package_faces.specs.Interfaces.{object_in, AreObjectsIn}
 use Rattle.type_model.specs.declared.term.TypeName.{TypeName}
-use Rattle.type_model.specs.Tables.{IsTable, count, types_in, declarations_in}
+use Rattle.type_model.specs.declared.term.Term.{Term}
+use Rattle.type_model.specs.Tables.{IsTable, Extends, count, terms_in, types_in, declarations_in}
+use Rattle.typed_tree.specs.Basics.{HasBasics}
 use Rattle.mark_walk.specs.Asks.{Sound, Awaits, WaitsFor}
 use Rattle.typed_marks.specs.declared.item.Item.{Item}
 use Rattle.typed_marks.specs.Meanings.{Meaning}
@@ -46,6 +48,11 @@ pub record HasCircle (rule : Unit → Item → Rule) (u : Unit) : Type 0 where
 abbrev pub IsOutcome : (Unit → Item → Rule) → Unit → Outcome → Type 0
 IsOutcome rule u (o.Checked c) = IsChecked rule u c
 IsOutcome rule u o.Circle = HasCircle rule u
+
+-- the table that comes back has the predeclared types, and these under their numbers
+abbrev pub HasTypes : List Term → Outcome → Type 0
+HasTypes terms (o.Checked c) = HasBasics c.table × Extends terms (terms_in c.table)
+HasTypes terms o.Circle = Prim.Unit {0}
 
 -- what comes of the package of this path, of these texts, trees, uses and interfaces
 pub record IsOutcomeBy (rule : Unit → Item → Rule) (path : List ℕ) (texts : List (List ℕ)) (trees : List FileTree) (uses : List (NodeRef × Object)) (env : Env) (outcome : Outcome) : Type 0 where

@@ -21,7 +21,7 @@ ghost use Rattle.rule_words.specs.Scenes.{IsScene};
 ghost use Rattle.body_facts.specs.Bodies.{AreBodies};
 ghost use Rattle.unit_read.specs.Units.{base_of};
 ghost use Rattle.check_pkg.specs.declared.refusal.Refusal.{Refusal as OneRefusal};
-ghost use Rattle.check_pkg.specs.Checks.{IsOutcome, IsOutcomeBy, IsOutcomeOf};
+ghost use Rattle.check_pkg.specs.Checks.{HasTypes, IsOutcome, IsOutcomeBy, IsOutcomeOf};
 ghost use Rattle.check_pkg.specs.Faults.{IsOrdered};
 ghost use Rattle.check_pkg.specs.Exports.{outs_in};
 ghost use Rattle.check_pkg.specs.Interfaces.{IsExported};
@@ -172,7 +172,8 @@ fn judge_unit<R: Rules>(
     requires basics { HasBasics table }
     requires env { Extends u.now.env.now.types.now (terms_in table) }
     requires base { (name : AName) → declarations_in table name ≡ base_of (unit_of u.now) name }
-    ensures { IfOk result (IsOutcome R.rule (unit_of u.now)) }
+    ensures is { IfOk result (IsOutcome R.rule (unit_of u.now)) }
+    ensures types { IfOk result (HasTypes u.now.env.now.types.now) }
 {
     let elaborated = elaborate(alloc, rules, u, table, first)?;
     match elaborated {
@@ -208,7 +209,8 @@ fn judge_read<R: Rules>(
     requires basics { HasBasics table }
     requires types { env.now.types.now ≡ terms_in table }
     requires base { (name : AName) → declarations_in table name ≡ given path.now (faces_in env.now) name }
-    ensures { IfOk result (IsOutcomeBy R.rule path.now (texts_of sources.now) trees.now uses.now (faces_in env.now)) }
+    ensures is { IfOk result (IsOutcomeBy R.rule path.now (texts_of sources.now) trees.now uses.now (faces_in env.now)) }
+    ensures types { IfOk result (HasTypes (terms_in table)) }
 {
     let reading = read(alloc, path, sources, trees, uses, env)?;
     let outcome = judge_unit(alloc, rules, &reading.subject, table, &reading.first)?;
@@ -236,7 +238,8 @@ fn judge_files<R: Rules>(
     requires types { types.now ≡ terms_in table }
     requires within { AreInterfacesIn (count table) (types_in table) env.now }
     requires base { (name : AName) → declarations_in table name ≡ given path.now (faces_of (types_in table) env.now) name }
-    ensures { IfOk result (IsOutcomeBy R.rule path.now (map text_of files.now) trees.now uses.now (faces_of (types_in table) env.now)) }
+    ensures is { IfOk result (IsOutcomeBy R.rule path.now (map text_of files.now) trees.now uses.now (faces_of (types_in table) env.now)) }
+    ensures types { IfOk result (HasTypes (terms_in table)) }
 {
     let environment = Environment::new(alloc, env, types)?;
     let sources = texts(alloc, files)?;
@@ -256,7 +259,7 @@ fn judge_files<R: Rules>(
 /// Checks a package by rules. It is given by its path, by the paths and the bytes of its files in order of their paths, and by their trees,
 /// over an environment: the interfaces of the packages to which its imports lead, and the table by whose numbers they have their types and in
 /// which these are declared (`face_table`). Of two interfaces of one path the first counts; what an import that leads to none means is for the
-/// rules to say.
+/// rules to say. The table comes back, also where the package is refused: its types keep their numbers.
 pub fn check<R: Rules>(
     alloc: Global,
     rules: &R,
@@ -272,7 +275,8 @@ pub fn check<R: Rules>(
     requires basics { HasBasics table }
     requires within { AreInterfacesIn (count table) (types_in table) env.now }
     requires base { (name : AName) → declarations_in table name ≡ given path.now (faces_of (types_in table) env.now) name }
-    ensures { IfOk result (IsOutcomeOf R.rule (package_of path.now files.now trees.now) (faces_of (types_in table) env.now)) }
+    ensures is { IfOk result (IsOutcomeOf R.rule (package_of path.now files.now trees.now) (faces_of (types_in table) env.now)) }
+    ensures types { IfOk result (HasTypes (terms_in table)) }
 {
     let types = copied_terms(alloc, table.terms())?;
     let named = known(alloc, env)?;

@@ -5,4 +5,4 @@ mod declaring;
 mod universe;
 
 pub use declaring::declare_faces;
-pub use universe::first_table;
+pub use universe::{first_table, table_again};

@@ -1,10 +1,10 @@
 //! The table with which marking begins (Go 1.17, "Predeclared identifiers").
 ghost use Rattle.std.specs.Prelude.{◌≡◌, ◌<◌, ◌∷◌, [], IfOk, OnOk, None};
 ghost use Rattle.type_model.specs.GoTypes.{type_at};
-ghost use Rattle.type_model.specs.Tables.{count, types_in, declarations_in};
+ghost use Rattle.type_model.specs.Tables.{Extends, count, terms_in, types_in, declarations_in};
 ghost use Rattle.type_model.specs.declared.term.Term.TheVariants.{Interface};
 ghost use Rattle.type_model.specs.declared.term.TypeName.{TypeName as AName};
-ghost use Rattle.typed_tree.specs.Basics.{HasBasics, IsUniverse};
+ghost use Rattle.typed_tree.specs.Basics.{HasBasics};
 ghost use Rattle.typed_tree.specs.Universe.{error_name};
 ghost use Rattle.face_table.specs.Fitting.{universe};
 ghost use Rattle.face_table.specs.Universes.{error_method, error_under};
@@ -60,8 +60,10 @@ fn error_term(alloc: Global) -> Result<Term, NoMemory>
 
 /// Adds the underlying type of `error`.
 fn add_under(alloc: Global, t: &mut TypeTable) -> Result<TypeId, NoMemory>
-    requires { IsUniverse t.old }
+    requires basics { HasBasics t.old }
+    requires undeclared { (name : AName) → declarations_in t.old name ≡ None }
     ensures basics { OnOk result (HasBasics t.new) }
+    ensures extends { OnOk result (Extends (terms_in t.old) (terms_in t.new)) }
     ensures undeclared { OnOk result ((name : AName) → declarations_in t.new name ≡ None) }
     ensures within { IfOk result (λ id. id.0 < count t.new) }
     ensures under { IfOk result (λ id. type_at (types_in t.new) id ≡ error_under) }
@@ -93,6 +95,7 @@ fn declare_error(alloc: Global, t: &mut TypeTable, under: TypeId) -> Result<(), 
     requires within { under.0 < count t.old }
     requires under { type_at (types_in t.old) under ≡ error_under }
     ensures basics { OnOk result (HasBasics t.new) }
+    ensures extends { OnOk result (Extends (terms_in t.old) (terms_in t.new)) }
     ensures base { OnOk result ((name : AName) → declarations_in t.new name ≡ universe name) }
 {
     let name = name_of_error(alloc)?;
@@ -106,6 +109,19 @@ pub fn first_table(alloc: Global) -> Result<TypeTable, NoMemory>
     ensures base { IfOk result (λ t. (name : AName) → declarations_in t name ≡ universe name) }
 {
     let mut t = universe_table(alloc)?;
+    let under = add_under(alloc, &mut t)?;
+    declare_error(alloc, &mut t, under)?;
+    Ok(t)
+}
+
+/// The types of a table under their numbers, with `error` alone declared.
+pub fn table_again(alloc: Global, table: TypeTable) -> Result<TypeTable, NoMemory>
+    requires { HasBasics table }
+    ensures basics { IfOk result (λ t. HasBasics t) }
+    ensures extends { IfOk result (λ t. Extends (terms_in table) (terms_in t)) }
+    ensures base { IfOk result (λ t. (name : AName) → declarations_in t name ≡ universe name) }
+{
+    let mut t = table.forget()?;
     let under = add_under(alloc, &mut t)?;
     declare_error(alloc, &mut t, under)?;
     Ok(t)

@@ -4,3 +4,4 @@ mod GivenLemmas
 mod SeenLemmas
 mod TellLemmas
 mod LoadLemmas
+pub mod KnownLemmas

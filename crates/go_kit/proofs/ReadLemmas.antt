@@ -18,6 +18,9 @@ use Rattle.type_model.specs.declared.table.TypeTable.{TypeTable}
 use Rattle.type_model.specs.Tables.{Grown, count, terms_in, types_in}
 use Rattle.action_graph.specs.Nodes.{Named}
 use Rattle.action_graph.specs.Judging.{Env, AreInterfaces, text_of}
+use Rattle.gv_bytes.proofs.Options.{some_is}
+use Rattle.export_text.proofs.FaceReading.{face_again}
+use Rattle.go_kit.specs.Keeping.{IsKnown}
 use Rattle.go_kit.specs.Reading.{IsFileOf, AreFilesOf, IsShort, IsFaceOf}
 
 tree-is : (a b : FileTree) → Parsed a ≡ Parsed b → a ≡ b
@@ -149,3 +152,11 @@ pub interfaces-within : (old new : TypeTable) (list items : List Interface) (i :
 interfaces-within old new list items i grown within one is =
     subst (λ (xs : List Interface). AreInterfacesIn (count new) (types_in new) xs) (sym is)
     (record { each = All-push (IsInterfaceIn (count new) (types_in new)) list i (interfaces_grow (terms_in old) (terms_in new) grown.extends list within).each one })
+
+-- what was read of the text before is what it spells
+pub known-answer : (t : TypeTable) (pair : Named) (text path : List ℕ) (face : Interface) (r : Option Interface) → text ≡ pair.1 → path ≡ pair.0 → IsKnown t (record { text = text; face = face })
+    → IfSome r (λ kept. (kept ≡ face) × (face.path ≡ path)) → (r ≡ None → face.path ≡ path → ⊥) → MatchOption r ((f : Face) → IsFaceOf pair f → ⊥) (λ i. IsFaceOf pair (face_of (types_in t) i))
+known-answer t pair text path face r its called known some none =
+    let spelled : IsFaceText (face_of (types_in t) face) pair.1 = subst (λ (x : List ℕ). IsFaceText (face_of (types_in t) face) x) its known.spelled in
+    path-answer (types_in t) pair face r spelled (λ f p. some_is f (face_of (types_in t) face) (sym (face_again pair.1 f p) ∙ face_again pair.1 (face_of (types_in t) face) spelled))
+    (subst (λ (q : List ℕ). IfSome r (λ kept. (kept ≡ face) × (face.path ≡ q))) called some) (subst (λ (q : List ℕ). r ≡ None → face.path ≡ q → ⊥) called none)

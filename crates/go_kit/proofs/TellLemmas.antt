@@ -1,5 +1,5 @@
 -- What is told of an accepted package.
-use Rattle.std.proofs.Common.{◌≡◌, ℕ, List, Option, Some, None, slice_get, sym, ap, ◌∙◌, subst}
+use Rattle.std.proofs.Common.{◌≡◌, ℕ, List, Option, Some, None, Result, Err, slice_get, sym, ap, ◌∙◌, subst}
 use Rattle.std.specs.List.{Contains}
 use Rattle.std.proofs.lemmas.Option.{slice_get-get_or}
 use Rattle.export_text.specs.Faces.{IsFace}
@@ -11,6 +11,13 @@ use Rattle.type_model.specs.Tables.{declarations_in}
 use Rattle.check_pkg.specs.declared.judging.Checked.{Checked}
 use Rattle.action_graph.specs.Judging.{AllKnown}
 use Rattle.go_kit.specs.Reading.{IsSeenOf, objects_of}
+
+abbrev err_of : {A E : Type 0} → E → Result A E
+err_of e = Err e
+
+-- errors are the same whatever an answer would be
+pub err_as : {A B E : Type 0} (x y : E) → err_of {A = A} x ≡ err_of y → err_of {A = B} x ≡ err_of y
+err_as x y e = let same : x ≡ y = cc in ap err_of same
 
 -- ---- what it mentions
 

@@ -2,7 +2,9 @@
 #![tactic(auto)]
 
 mod env;
+mod kept;
 mod kit;
+mod known;
 mod read;
 mod tell;
 

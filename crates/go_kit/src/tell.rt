@@ -7,7 +7,7 @@ ghost use Rattle.go_rules.specs.Stages.{rule};
 ghost use Rattle.package_faces.specs.Faces.{Face};
 ghost use Rattle.package_faces.specs.Interfaces.{face_of, faces_of, AreInterfacesIn, IsInterfaceIn};
 ghost use Rattle.type_model.specs.declared.term.TypeName.{TypeName as AName};
-ghost use Rattle.type_model.specs.Tables.{IsTable, count, declarations_in, types_in};
+ghost use Rattle.type_model.specs.Tables.{IsTable, Extends, count, declarations_in, terms_in, types_in};
 ghost use Rattle.typed_tree.specs.Basics.{HasBasics};
 ghost use Rattle.unit_read.specs.Index.{found};
 ghost use Rattle.check_pkg.specs.declared.judging.Outcome.TheVariants as outcome;
@@ -160,9 +160,10 @@ fn accept(
     name: &[u8],
     places: &HashMap<&[u8], usize>,
     checked: Checked,
-) -> Result<Load<()>, Unloaded>
+) -> Result<(Load<()>, TypeTable), Unloaded>
     requires stands { Stands path.now checked }
-    ensures told { IfOk result (λ load. (f : Face) × IsSeenOf path.now name.now (λ q. found places.now q) checked f × Tells (Accepts f) (load_text load)) }
+    ensures table { IfOk result (λ r. r.1 ≡ checked.table) }
+    ensures told { IfOk result (λ r. (f : Face) × IsSeenOf path.now name.now (λ q. found places.now q) checked f × Tells (Accepts f) (load_text r.0)) }
     ensures untold { result ≡ Err Unloaded.Stuck → (f : Face) → IsSeenOf path.now name.now (λ q. found places.now q) checked f → ⊥ }
 {
     let Ok(name) = std::str::from_utf8(name) else {
@@ -175,7 +176,7 @@ fn accept(
     match gather(alloc, &table, path, name, objects) {
         Ok(seen) => {
             let load = tell_seen(alloc, &table, &seen, places)?;
-            Ok(load)
+            Ok((load, table))
         }
         Err(Unread::Unspelled) => Err(Unloaded::Stuck),
         Err(Unread::Memory) => Err(Unloaded::NoMemory),
@@ -190,23 +191,24 @@ fn told(
     trees: &[FileTree],
     places: &HashMap<&[u8], usize>,
     checked: Checked,
-) -> Result<Load<()>, Unloaded>
+) -> Result<(Load<()>, TypeTable), Unloaded>
     requires stands { checked.refused.items ≡ [] → Stands path.now checked }
-    ensures accepted { IfOk result (λ load. checked.refused.items ≡ [] → (f : Face) × IsSeenOf path.now (package_name (package_of path.now files.now trees.now)) (λ q. found places.now q) checked f × Tells (Accepts f) (load_text load)) }
-    ensures refused { IfOk result (λ load. (checked.refused.items ≡ [] → ⊥) → Tells (Refuses (map line_of checked.refused.items)) (load_text load)) }
+    ensures table { IfOk result (λ r. r.1 ≡ checked.table) }
+    ensures accepted { IfOk result (λ r. checked.refused.items ≡ [] → (f : Face) × IsSeenOf path.now (package_name (package_of path.now files.now trees.now)) (λ q. found places.now q) checked f × Tells (Accepts f) (load_text r.0)) }
+    ensures refused { IfOk result (λ r. (checked.refused.items ≡ [] → ⊥) → Tells (Refuses (map line_of checked.refused.items)) (load_text r.0)) }
     ensures none { result ≡ Err Unloaded.Stuck → checked.refused.items ≡ [] }
     ensures untold { result ≡ Err Unloaded.Stuck → (f : Face) → IsSeenOf path.now (package_name (package_of path.now files.now trees.now)) (λ q. found places.now q) checked f → ⊥ }
 {
     if !are_none(&checked.refused) {
         let load = refuse(alloc, &checked.refused)?;
-        return Ok(load);
+        return Ok((load, checked.table));
     }
-    let load = accept(alloc, path, package_name(files, trees), places, checked)?;
-    Ok(load)
+    let told = accept(alloc, path, package_name(files, trees), places, checked)?;
+    Ok(told)
 }
 
 /// The answer for a package of this path, by its files and their trees, over the interfaces of other packages, whose types are declared in the
-/// table.
+/// table; and the table, whose types keep their numbers.
 pub(crate) fn judge(
     alloc: Global,
     path: &str,
@@ -214,22 +216,24 @@ pub(crate) fn judge(
     trees: &[FileTree],
     table: TypeTable,
     env: &[Interface],
-) -> Result<Load<()>, Unloaded>
+) -> Result<(Load<()>, TypeTable), Unloaded>
     requires spelled { AreSpelled trees.now files.now }
     requires small { AreSmall trees.now }
     requires few { length trees.now < 2 ^ 32 }
     requires basics { HasBasics table }
     requires within { AreInterfacesIn (count table) (types_in table) env.now }
     requires base { (name : AName) → declarations_in table name ≡ given path.now (faces_of (types_in table) env.now) name }
-    ensures told { IfOk result (λ load. TellsOf (package_of path.now files.now trees.now) (faces_of (types_in table) env.now) (load_text load)) }
+    ensures told { IfOk result (λ r. TellsOf (package_of path.now files.now trees.now) (faces_of (types_in table) env.now) (load_text r.0)) }
+    ensures basics { IfOk result (λ r. HasBasics r.1) }
+    ensures extends { IfOk result (λ r. Extends (terms_in table) (terms_in r.1)) }
     ensures circle { result ≡ Err Unloaded.Stuck → HasNothing (package_of path.now files.now trees.now) (faces_of (types_in table) env.now) }
 {
     let places = path_index(alloc, env)?;
     let outcome = check(alloc, &GoRules, path.as_bytes(), files, trees, table, env)?;
     match outcome {
         Outcome::Checked(checked) => {
-            let load = told(alloc, path, files, trees, &places, checked)?;
-            Ok(load)
+            let told = told(alloc, path, files, trees, &places, checked)?;
+            Ok(told)
         }
         Outcome::Circle => Err(Unloaded::Stuck),
     }

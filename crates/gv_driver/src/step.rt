@@ -32,7 +32,9 @@ fn loaded<K: Kit>(
     env: &[u32],
     pack: &PackageTexts,
 ) -> Result<Answer, Unloaded>
-    requires { K.loads kit.old < 2 ^ 63 }
+    requires loads { K.loads kit.old < 2 ^ 63 }
+    requires holds { K.holds kit.old }
+    ensures holds { K.holds kit.new }
     ensures counts { OnOk result (K.loads kit.new ≡ K.loads kit.old + 1) }
     ensures refused { OnErr result (K.loads kit.new ≡ K.loads kit.old) }
     ensures runs { K.runs kit.new ≡ K.runs kit.old }
@@ -54,7 +56,9 @@ fn node_of<K: Kit>(
     env: &[u32],
     pack: &PackageTexts,
 ) -> Result<Node, Unloaded>
-    requires { K.loads kit.old < 2 ^ 63 }
+    requires loads { K.loads kit.old < 2 ^ 63 }
+    requires holds { K.holds kit.old }
+    ensures holds { K.holds kit.new }
     ensures fresh { IfOk result (λ n. n.fresh ≡ left_of cache.now (load_input (load_over tree.now table.now env.now pack.now))) }
     ensures counts { IfOk result (λ n. K.loads kit.new ≡ K.loads kit.old + cost n.fresh) }
     ensures refused { OnErr result (K.loads kit.new ≡ K.loads kit.old) }
@@ -124,9 +128,11 @@ fn perform<K: Kit>(
     requires tree { IsTree tree.now }
     requires few { length tree.now < 2 ^ 32 }
     requires room { K.loads kit.old < 2 ^ 63 }
+    requires holds { K.holds kit.old }
     requires table { IsTable tree.now cache.now table.old.items }
     requires rows { AreRows tree.now cache.now table.old.items }
     requires ready { IsReady tree.now table.old.items at }
+    ensures holds { K.holds kit.new }
     ensures ok { OnOk result (Performs tree.now cache.now at table.old.items table.new.items (K.loads kit.old) (K.loads kit.new)) }
     ensures rows { OnOk result (AreRows tree.now cache.now table.new.items) }
     ensures goes { Goes tree.now cache.now table.old.items table.new.items (K.loads kit.old) (K.loads kit.new) }
@@ -152,9 +158,11 @@ fn look<K: Kit>(
     requires tree { IsTree tree.now }
     requires few { length tree.now < 2 ^ 32 }
     requires room { K.loads kit.old < 2 ^ 63 }
+    requires holds { K.holds kit.old }
     requires table { IsTable tree.now cache.now table.old.items }
     requires rows { AreRows tree.now cache.now table.old.items }
     requires at { at < length tree.now }
+    ensures holds { K.holds kit.new }
     ensures looks { OnOk result (Looks tree.now at table.old.items table.new.items) }
     ensures rows { OnOk result (AreRows tree.now cache.now table.new.items) }
     ensures goes { Goes tree.now cache.now table.old.items table.new.items (K.loads kit.old) (K.loads kit.new) }
@@ -181,8 +189,10 @@ fn run_in_order<K: Kit>(
     requires few { length tree.now < 2 ^ 32 }
     requires order { IsOrder (Imports tree.now) (length tree.now) order.now }
     requires room { K.loads kit.old + waiting table.old.items < 2 ^ 63 }
+    requires holds { K.holds kit.old }
     requires table { IsTable tree.now cache.now table.old.items }
     requires rows { AreRows tree.now cache.now table.old.items }
+    ensures holds { K.holds kit.new }
     ensures goes { Goes tree.now cache.now table.old.items table.new.items (K.loads kit.old) (K.loads kit.new) }
     ensures done { OnOk result ((p : ℕ) → IsReady tree.now table.new.items p → ⊥) }
     ensures runs { K.runs kit.new ≡ K.runs kit.old }
@@ -195,7 +205,7 @@ fn run_in_order<K: Kit>(
 }
 
 /// Puts all nodes that a tree has into the table. Each package is looked at once, after what it imports; one that
-/// isn't ready then never will be.
+/// isn't ready then never will be. What the kit keeps from load to load it keeps during one run.
 pub(crate) fn run_loads<K: Kit>(
     alloc: Global,
     tree: &[PackageTexts],
@@ -214,6 +224,7 @@ pub(crate) fn run_loads<K: Kit>(
     ensures circle { result ≡ Err Unloaded.Stuck → MeetsCircle tree.now cache.now }
 {
     let order = load_order(alloc, tree)?;
+    kit.clear();
     run_in_order(alloc, tree, cache, kit, table, &order)?;
     Ok(())
 }

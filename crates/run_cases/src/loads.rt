@@ -67,6 +67,7 @@ fn loaded(alloc: Global, kit: &mut GoKit, input: &LoadInput) -> Result<Vec<u8>, 
     if kit.loads() >= 1000 {
         return unread(alloc);
     }
+    kit.clear();
     match kit.load(input) {
         Ok(load) => shown(alloc, &load),
         Err(Unloaded::NoMemory) => Err(NoMemory),

@@ -9,6 +9,7 @@ use Rattle.unit_read.specs.Environments.{faces_in}
 use Rattle.unit_read.specs.Index.{texts_of}
 use Rattle.unit_read.specs.Subjects.{unit_of}
 use Rattle.body_facts.specs.Bodies.{AreBodies}
+use Rattle.check_pkg.specs.Checks.{HasTypes}
 use Rattle.check_pkg.proofs.PackageLemmas.{given_base}
 use Rattle.check_pkg.proofs.judging.judge_read.Goals as goal
 
@@ -27,3 +28,7 @@ judge_unit-requires-clause-env g c =
 pub judge_unit-requires-clause-base : goal.judge_unit-requires-clause-base
 judge_unit-requires-clause-base g c = λ name.
     c.requires.base name ∙ given_base (unit_of c.in_ok-reading.reading.subject) c.args.path.now (faces_in c.args.env.now) c.in_ok-reading.ensures.of.path c.in_ok-reading.ensures.of.env name
+
+pub returns-clause-types : goal.returns-clause-types
+returns-clause-types g c =
+    subst (λ (terms : List Term). HasTypes terms c.in_ok-outcome.outcome) (ap (λ (e : Environment). e.types.now) c.in_ok-reading.ensures.env ∙ c.requires.types) c.in_ok-outcome.ensures.types

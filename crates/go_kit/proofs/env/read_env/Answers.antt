@@ -11,6 +11,7 @@ returns-in-None-clause-grown c = grown_then c.args.table.now c.loop-pair.table c
 pub loop-pair-preserved : goal.loop-pair-preserved
 loop-pair-preserved c = record {
   table = c.in_ok-read.ensures.grown.table;
+  known = c.in_ok-read.ensures.known;
   grown = grown_then c.args.table.now c.loop-pair.table c.read_face.new.table c.loop-pair.invariant.grown c.in_ok-read.ensures.grown;
   read =
       interfaces-more c.args.env.now c.loop-pair.pair-index c.pair-item.result c.loop-pair.table c.read_face.new.table c.loop-pair.list.items _ c.in-Some.interface c.pair-item.is c.loop-pair-test.true

@@ -7,6 +7,7 @@ use Rattle.go_kit.proofs.BasicLemmas.{grown_basics}
 use Rattle.type_model.specs.Tables.{terms_in, types_in}
 use Rattle.action_graph.specs.Judging.{AreInterfaces, Env, load_text}
 use Rattle.go_kit.proofs.LoadLemmas.{files-spelled, files-small, few-trees, outcome-of, readable, stuck-of, unfit}
+use Rattle.go_kit.proofs.TellLemmas.{err_as}
 use Rattle.go_kit.proofs.kit.load_over.Goals as goal
 
 pub judge-requires-clause-spelled : goal.judge-requires-clause-spelled
@@ -53,9 +54,15 @@ returns-in_err-load-clause-circle c =
     let declares = c.in_ok-fit.ensures.given c.if-not-fit.false in
     let stay = faces_stay (terms_in c.args.table) (terms_in c.declare_faces.new.t) declares.extends c.args.env.now c.requires.within in
     rw (p.1, p.2) (λ e. stuck-of c.args.input.now c.as_slice-files.result.now c.args.trees.now (faces_of (types_in c.declare_faces.new.t) c.args.env.now) c.as_str-path.result.now
-    c.requires.files (subst (λ (faces : Env). AreInterfaces c.args.input.now.env faces) (sym stay) c.requires.read) c.as_slice-files.ensures c.as_str-path.ensures (c.in_err-load.ensures.circle e))
+    c.requires.files (subst (λ (faces : Env). AreInterfaces c.args.input.now.env faces) (sym stay) c.requires.read) c.as_slice-files.ensures c.as_str-path.ensures (c.in_err-load.ensures.circle (err_as _ _ e)))
 
 pub returns-clause-unread : goal.returns-clause-unread
 returns-clause-unread c = λ unread.
     absurd (unread (readable c.args.input.now c.args.trees.now (faces_of (types_in c.args.table) c.args.env.now) c.as_bytes.result.now c.requires.few c.requires.files c.requires.read
     (c.as_bytes.ensures.value ∙ c.as_str-path.ensures) (c.in_ok-fit.ensures.are_fit c.if-not-fit.false)))
+
+pub returns-clause-extends : goal.returns-clause-extends
+returns-clause-extends c = λ i low.
+    let first = (c.in_ok-fit.ensures.given c.if-not-fit.false).extends i low in
+    let then_so = c.in_ok-load.ensures.extends i first.0 in
+    (then_so.0, then_so.1 ∙ first.1)

@@ -1,3 +1,4 @@
+use Rattle.std.proofs.Common.{length, ap, arith}
 use Rattle.action_graph.specs.Judging.{load_text}
 use Rattle.go_kit.proofs.LoadLemmas.{unread}
 use Rattle.go_kit.proofs.kit.load_package.Goals as goal
@@ -5,3 +6,9 @@ use Rattle.go_kit.proofs.kit.load_package.Goals as goal
 pub returns-in_ok-load-in-None-clause-read : goal.returns-in_ok-load-in-None-clause-read
 returns-in_ok-load-in-None-clause-read c =
     unread c.args.input.now c.as_slice-files.result.now (load_text c.in_ok-load-in-None.load) c.as_slice-files.ensures (rw c.in-None.is at c.in_ok-read.ensures)
+
+pub load_trees-requires-clause-few : goal.load_trees-requires-clause-few
+load_trees-requires-clause-few c =
+    let low = c.if-files.false in
+    let same = ap length c.as_slice-files.ensures in
+    omega (arith, low, same)

@@ -4,7 +4,7 @@ use Rattle.package_faces.specs.declared.interface.Exported.{Exported}
 use Rattle.package_faces.specs.Interfaces.{face_of, object_in}
 use Rattle.type_model.specs.Tables.{types_in}
 use Rattle.unit_read.specs.Index.{found}
-use Rattle.go_kit.proofs.TellLemmas.{seen-of, none-seen, not-gathered}
+use Rattle.go_kit.proofs.TellLemmas.{err_as, seen-of, none-seen, not-gathered}
 use Rattle.go_kit.proofs.tell.accept.Goals as goal
 
 pub returns-in-Ok-gather-clause-told : goal.returns-in-Ok-gather-clause-told
@@ -25,7 +25,7 @@ returns-in_err-load-in-Ok-gather-clause-untold c =
     rw (p.1, p.2) (λ e.
     none-seen c.args.path.now c.args.name.now c.in_ok-path.path c.in_ok-name.name (map (λ (o : Exported). object_in (types_in t) o) c.new-objects.result) (λ q. found c.args.places.now q) c.args.checked
     c.in_ok-path.ensures (c.in_ok-name.ensures ∙ c.in-Ok.ensures.cases.0) (ap (map (λ (o : Exported). object_in (types_in t) o)) c.new-objects.ensures)
-    (face_of (types_in t) c.in-Ok-gather.seen) c.in-Ok-gather.ensures.is (c.in_err-load-in-Ok-gather.ensures.untold e))
+    (face_of (types_in t) c.in-Ok-gather.seen) c.in-Ok-gather.ensures.is (c.in_err-load-in-Ok-gather.ensures.untold (err_as _ _ e)))
 
 pub returns-in-Err-Unspelled-clause-untold : goal.returns-in-Err-Unspelled-clause-untold
 returns-in-Err-Unspelled-clause-untold c = λ e.

@@ -18,6 +18,7 @@ loop-next-preserved g c =
       passed = look-passed tree before order table next i _ c.requires.order c.look.ensures.goes.right at c.in_ok-look.ensures.looks c.loop-next.invariant.passed;
       runs = c.look.ensures.runs ∙ c.loop-next.invariant.runs;
       rows = c.in_ok-look.ensures.rows;
+      holds = c.look.ensures.holds;
     }
 
 pub returns-clause-done : goal.returns-clause-done

@@ -8,5 +8,6 @@ invariant-loop-next g l = record {
   goes : Goes l.tree l.cache l.fn.table.items l.table.items (g.K.Kit.loads l.fn.kit) (g.K.Kit.loads l.kit);
   passed : ArePassed l.tree l.order l.next-index l.table.items;
   rows : AreRows l.tree l.cache l.table.items;
+  holds : g.K.Kit.holds l.kit;
   runs : g.K.Kit.runs l.kit ≡ g.K.Kit.runs l.fn.kit;
 }
