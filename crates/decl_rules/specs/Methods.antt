@@ -16,6 +16,7 @@ use Rattle.unit_read.specs.Units.{Unit, nodes_at, node_at, is_blank}
 use Rattle.rule_words.specs.Asking.{Asks, ask_each, mark_ask}
 use Rattle.rule_words.specs.Good.{known_told}
 use Rattle.type_rules.specs.Interfaces.{signature_told, method_with}
+use Rattle.type_answers.specs.Unknown.{no_signature}
 use Rattle.type_rules.specs.Structs.{owner_of}
 
 -- ---- fields
@@ -65,15 +66,18 @@ first_entry nodes list = option_and_then (λ (node : Node). part node 0) (slice_
 abbrev pub receiver_entry : List Node → Node → Option ℕ
 receiver_entry nodes node = option_and_then (first_entry nodes) (part node 0)
 
+abbrev pub unknown_method : Unit → List ℕ → Known → List GoMethod
+unknown_method u name r = method_with u name (is_pointer r.of) no_signature
+
 abbrev pub signed_method : Unit → List ℕ → Known → Known → List GoMethod
-signed_method u name x r = option_map_or (method_with u name (is_pointer r.of)) (signature_told x.of) []
+signed_method u name x r = option_map_or (method_with u name (is_pointer r.of)) (signature_told x.of) (unknown_method u name r)
 
-abbrev pub received_method : Unit → List ℕ → Known → Meaning → List GoMethod
-received_method u name x r = option_map_or (signed_method u name x) (known_told r) []
+abbrev pub received_method : Unit → List ℕ → Meaning → Known → List GoMethod
+received_method u name m r = option_map_or (λ x. signed_method u name x r) (known_told m) (unknown_method u name r)
 
--- from its mark and that of its receiver; none where one isn't good
+-- From its mark and that of its receiver: none where the receiver isn't good. Where its signature isn't, it is there all the same.
 abbrev pub told_method : Unit → List ℕ → Meaning → Meaning → List GoMethod
-told_method u name m r = option_map_or (λ x. received_method u name x r) (known_told m) []
+told_method u name m r = option_map_or (received_method u name m) (known_told r) []
 
 abbrev pub entry_ask : Unit → NodeRef → List ℕ → Meaning → ℕ → Asks (List GoMethod)
 entry_ask u at name m entry = bind (mark_ask u s.Placed at.file entry) (λ r. done (told_method u name m r))

@@ -11,6 +11,7 @@ mod methods;
 mod objects;
 mod reads;
 mod refusal;
+mod told_methods;
 mod under;
 mod wants;
 

@@ -11,21 +11,19 @@ ghost use Rattle.unit_read.specs.Subjects.{unit_of, IsRead};
 ghost use Rattle.unit_read.specs.Units.{is_blank};
 ghost use Rattle.rule_words.specs.Scenes.{IsScene, said, IsMarkOf, type_in, IsTypeOf};
 ghost use Rattle.type_rules.specs.Elements.{method_in};
-ghost use Rattle.rule_words.specs.Good.{known_of, AreFactsOf};
-ghost use Rattle.decl_rules.specs.Methods.{same_name, is_field_of, has_field, is_left_out, is_pointer, first_entry, receiver_entry, signed_method, received_method, told_method, entry_ask, receiver_ask, signature_ask, node_ask, method_ask, methods_ask, Gives, GivesAll};
+ghost use Rattle.decl_rules.specs.Methods.{same_name, is_field_of, has_field, is_left_out, first_entry, receiver_entry, entry_ask, receiver_ask, signature_ask, node_ask, method_ask, methods_ask, Gives, GivesAll};
 ghost use Rattle.type_rules.specs.Structs.{owner_of};
 
+use crate::told_methods::add_told;
 use go_tree::{Node, NodeRef};
 use gv_base::NoMemory;
 use package_objects::{node_of, part_of};
-use rule_words::good::known;
 use rule_words::look;
 use std::alloc::Global;
 use type_model::{Field, Method, Term, TypeId};
 use type_questions::Found;
 use type_rules::fields::{is_exported, utf8};
-use type_rules::interfaces::{add_with, signature_told};
-use typed_marks::{Facts, Item, Mark, Stage, State};
+use typed_marks::{Item, Mark, Stage, State};
 use unit_read::Subject;
 
 fn same_name(name: &[u8], owner: &[u8], field: &Field) -> bool
@@ -104,25 +102,6 @@ fn is_left_out(
     Ok(is_blank(name) || (u.is_repeated_method(at) || has_field(s, name, owner, under)))
 }
 
-fn is_pointer(s: &State, of: TypeId) -> bool
-    requires table { IsTable s.now.table }
-    requires within { IsTypeOf s.now of }
-    ensures { result ≡ is_pointer (type_in s.now of) }
-{
-    match s.table.term(of) {
-        Term::Pointer(_) => true,
-        Term::Basic(_) => false,
-        Term::Defined(_) => false,
-        Term::Slice(_) => false,
-        Term::Array(_, _) => false,
-        Term::Map(_, _) => false,
-        Term::Chan(_, _) => false,
-        Term::Func(_) => false,
-        Term::Struct(_) => false,
-        Term::Interface(_) => false,
-    }
-}
-
 fn first_entry(nodes: &[Node], list: u32) -> Option<u32>
     ensures { result ≡ first_entry nodes.now list }
 {
@@ -140,73 +119,6 @@ fn receiver_entry(nodes: &[Node], node: &Node) -> Option<u32>
         Some(list) => first_entry(nodes, list),
         None => None,
     }
-}
-
-fn add_signed(
-    alloc: Global,
-    u: &Subject,
-    s: &State,
-    name: &[u8],
-    x: Facts,
-    r: Facts,
-    out: &mut Vec<Method>,
-) -> Result<(), NoMemory>
-    requires table { IsTable s.now.table }
-    requires of { AreFactsOf s.now x }
-    requires receiver { AreFactsOf s.now r }
-    requires below { MethodsBelow (count s.now.table) out.old.items }
-    ensures is { OnOk result (map (method_in s.now) out.new.items ≡ map (method_in s.now) out.old.items ++ signed_method (unit_of u.now) name.now (known_of s.now x) (known_of s.now r)) }
-    ensures below { OnOk result (MethodsBelow (count s.now.table) out.new.items) }
-{
-    if let Some(of) = signature_told(s, x.of) {
-        add_with(alloc, u, s, name, is_pointer(s, r.of), of, out)?;
-    }
-    Ok(())
-}
-
-fn add_received(
-    alloc: Global,
-    u: &Subject,
-    s: &State,
-    name: &[u8],
-    x: Facts,
-    r: Mark,
-    out: &mut Vec<Method>,
-) -> Result<(), NoMemory>
-    requires table { IsTable s.now.table }
-    requires of { AreFactsOf s.now x }
-    requires receiver { IsMarkOf s.now r }
-    requires below { MethodsBelow (count s.now.table) out.old.items }
-    ensures is { OnOk result (map (method_in s.now) out.new.items ≡ map (method_in s.now) out.old.items ++ received_method (unit_of u.now) name.now (known_of s.now x) (said s.now r)) }
-    ensures below { OnOk result (MethodsBelow (count s.now.table) out.new.items) }
-{
-    if let Some(facts) = known(s, r) {
-        add_signed(alloc, u, s, name, x, facts, out)?;
-    }
-    Ok(())
-}
-
-/// Adds the method of this mark, whose receiver has that mark.
-fn add_told(
-    alloc: Global,
-    u: &Subject,
-    s: &State,
-    name: &[u8],
-    m: Mark,
-    r: Mark,
-    out: &mut Vec<Method>,
-) -> Result<(), NoMemory>
-    requires table { IsTable s.now.table }
-    requires mark { IsMarkOf s.now m }
-    requires receiver { IsMarkOf s.now r }
-    requires below { MethodsBelow (count s.now.table) out.old.items }
-    ensures is { OnOk result (map (method_in s.now) out.new.items ≡ map (method_in s.now) out.old.items ++ told_method (unit_of u.now) name.now (said s.now m) (said s.now r)) }
-    ensures below { OnOk result (MethodsBelow (count s.now.table) out.new.items) }
-{
-    if let Some(facts) = known(s, m) {
-        add_received(alloc, u, s, name, facts, r, out)?;
-    }
-    Ok(())
 }
 
 fn entry(

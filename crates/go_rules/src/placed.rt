@@ -17,7 +17,7 @@ use go_tree::{Node, NodeRef};
 use gv_base::NoMemory;
 use op_rules::judge_placed;
 use rule_words::good::{beyond, broken, silent};
-use rule_words::{Step, Wanted, look, wanted_by};
+use rule_words::{Step, Wanted, wanted_by};
 use statement_rules::{Placing as StatementPlacing, judge_statement_placed};
 use std::alloc::Global;
 use type_answers::ask_mark;
@@ -30,26 +30,38 @@ use variable_rules::{is_shared, judge_shared};
 
 // ---- what is wanted there is tested
 
-fn placed_with(u: &Subject, s: &State, j: Mark, m: Mark) -> Step
+fn placed_with(alloc: Global, u: &Subject, s: &State, j: Mark, m: Mark) -> Result<Step, NoMemory>
     requires scene { IsScene u.now s.now }
     requires judged { IsMarkOf s.now j }
     requires wanted { IsMarkOf s.now m }
-    ensures is { step_in s.now result ≡ tell (so_far s.now) (placed_with (unit_of u.now) (said s.now j) (said s.now m)) }
-    ensures over { IsStepOf s.now result }
+    ensures comes { IfOk result (ComesTo u.now s.now (placed_with (unit_of u.now) (said s.now j) (said s.now m))) }
+    ensures over { IfOk result (IsStepOf s.now) }
 {
     let w = wanted_by(s, m);
-    judge_placed(u, s, w, j)
+    let step = judge_placed(alloc, u, s, w, j)?;
+    Ok(step)
 }
 
-fn placed_plain(u: &Subject, s: &State, block: usize, at: NodeRef, j: Mark) -> Step
+#[tactic(auto, using(type_answers::proofs::ComingLaws::bind_comes, type_answers::proofs::ComingLaws::bind_waits))]
+fn placed_plain(
+    alloc: Global,
+    u: &Subject,
+    s: &State,
+    block: usize,
+    at: NodeRef,
+    j: Mark,
+) -> Result<Step, NoMemory>
     requires scene { IsScene u.now s.now }
     requires mark { IsMarkOf s.now j }
-    ensures is { step_in s.now result ≡ tell (so_far s.now) (placed_plain (unit_of u.now) block at (said s.now j)) }
-    ensures over { IsStepOf s.now result }
+    ensures comes { IfOk result (ComesTo u.now s.now (placed_plain (unit_of u.now) block at (said s.now j))) }
+    ensures over { IfOk result (IsStepOf s.now) }
 {
-    match look(u, s, Stage::Wanted, block, at.node) {
-        Found::Is(m) => placed_with(u, s, j, m),
-        Found::Wait(item) => Step::Waits(item),
+    match ask_mark(u, s, Stage::Wanted, block, at.node) {
+        Found::Is(m) => {
+            let step = placed_with(alloc, u, s, j, m)?;
+            Ok(step)
+        }
+        Found::Wait(item) => Ok(Step::Waits(item)),
     }
 }
 
@@ -139,7 +151,8 @@ fn placed_argument(
         let step = judge_passed(alloc, u, s, block, around, j)?;
         return Ok(step);
     }
-    Ok(placed_plain(u, s, block, at, j))
+    let step = placed_plain(alloc, u, s, block, at, j)?;
+    Ok(step)
 }
 
 // ---- one value for several variables
@@ -165,7 +178,8 @@ fn placed_shared(
         let step = judge_shared(alloc, u, s, block, u.nodes_at(at.file), around, j)?;
         return Ok(step);
     }
-    Ok(placed_plain(u, s, block, at, j))
+    let step = placed_plain(alloc, u, s, block, at, j)?;
+    Ok(step)
 }
 
 // ---- statements
@@ -225,17 +239,18 @@ fn placed_stated(
 // ---- bodies
 
 /// The body of a function: what is around it wants nothing of it.
-fn placed_body(u: &Subject, s: &State, j: Mark) -> Step
+fn placed_body(alloc: Global, u: &Subject, s: &State, j: Mark) -> Result<Step, NoMemory>
     requires scene { IsScene u.now s.now }
     requires mark { IsMarkOf s.now j }
-    ensures is { step_in s.now result ≡ tell (so_far s.now) (placed_body (unit_of u.now) (said s.now j)) }
-    ensures over { IsStepOf s.now result }
+    ensures comes { IfOk result (ComesTo u.now s.now (placed_body (unit_of u.now) (said s.now j))) }
+    ensures over { IfOk result (IsStepOf s.now) }
 {
     let nothing = Wanted {
         demand: Demand::Nothing,
         want: Want::Free,
     };
-    judge_placed(u, s, nothing, j)
+    let step = judge_placed(alloc, u, s, nothing, j)?;
+    Ok(step)
 }
 
 // ---- all
@@ -258,7 +273,10 @@ fn placed_as(
     ensures over { IfOk result (IsStepOf s.now) }
 {
     match placing {
-        Placing::Plain => Ok(placed_plain(u, s, block, at, j)),
+        Placing::Plain => {
+            let step = placed_plain(alloc, u, s, block, at, j)?;
+            Ok(step)
+        }
         Placing::Embedded => {
             let step = placed_embedded(alloc, u, s, block, at, p, around, j)?;
             Ok(step)
@@ -271,7 +289,10 @@ fn placed_as(
             let step = placed_shared(alloc, u, s, block, at, p, around, j)?;
             Ok(step)
         }
-        Placing::Body => Ok(placed_body(u, s, j)),
+        Placing::Body => {
+            let step = placed_body(alloc, u, s, j)?;
+            Ok(step)
+        }
         Placing::Stated(placing) => {
             let step = placed_stated(alloc, u, s, block, at, p, around, j, placing)?;
             Ok(step)
@@ -325,7 +346,10 @@ fn placed_at(
             let step = placed_beside(alloc, u, s, block, at, node, j, p, around)?;
             Ok(step)
         }
-        None => Ok(placed_plain(u, s, block, at, j)),
+        None => {
+            let step = placed_plain(alloc, u, s, block, at, j)?;
+            Ok(step)
+        }
     }
 }
 
@@ -349,7 +373,10 @@ fn placed_after(
             let step = placed_at(alloc, u, s, block, at, node, j, p)?;
             Ok(step)
         }
-        None => Ok(placed_plain(u, s, block, at, j)),
+        None => {
+            let step = placed_plain(alloc, u, s, block, at, j)?;
+            Ok(step)
+        }
     }
 }
 

@@ -18,8 +18,9 @@ use Rattle.typed_tree.specs.Places.{is_single, is_type, is_constant, is_nil_mode
 use Rattle.typed_marks.specs.Meanings.{Known, Wish, Free, Takes, Fits, Assigned, Meaning, Right, Wrong, Beyond, Quiet, Wishes, Declares}
 use Rattle.unit_read.specs.Units.{Unit}
 use Rattle.rule_words.specs.Asking.{Rule, under_ask}
-use Rattle.rule_words.specs.Putting.{held, assign_ask}
 use Rattle.rule_words.specs.Words.{Wanted, test}
+use Rattle.type_questions.specs.declared.reached.Reached.{Reached}
+use Rattle.type_answers.specs.Asked.{assignable_ask, need_told}
 use Rattle.op_rules.specs.Operands.{tested}
 use Rattle.op_rules.specs.Types.{is_of, takes_default}
 use Rattle.op_rules.specs.Wishes.{is_shifted}
@@ -56,8 +57,14 @@ represented u x = if is_of is_untyped x.of then represented_value u x x.value el
 abbrev pub assigned_type : Known → GoType
 assigned_type x = if is_shifted x then x.last else x.of
 
+abbrev pub held_if : Meaning → Bool → Rule
+held_if good b = if b then done good else done (Wrong NOT_ASSIGNABLE)
+
+abbrev pub held_told : Meaning → Reached Bool → Rule
+held_told good told = need_told told (held_if good)
+
 abbrev pub assigned_to : Known → GoType → Meaning → Option GoType → Rule
-assigned_to x to good under = assign_ask (takes_default under) (assigned_type x) x.value to (held good NOT_ASSIGNABLE)
+assigned_to x to good under = bind (assignable_ask (takes_default under) (assigned_type x) x.value to) (held_told good)
 
 abbrev pub assigned_good : Unit → Known → GoType → Meaning → Rule
 assigned_good u x to good = bind (under_ask u to) (assigned_to x to good)

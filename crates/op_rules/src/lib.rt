@@ -2,6 +2,7 @@
 //! makes of what stands there.
 #![tactic(auto)]
 
+mod assigned;
 mod beside;
 mod binary;
 mod comparing;

@@ -13,12 +13,13 @@ use Rattle.type_questions.specs.declared.reached.Reached.{Reached}
 use Rattle.typed_tree.specs.Places.{is_type}
 use Rattle.typed_tree.specs.declared.mark.Mode.TheVariants as mode
 use Rattle.typed_tree.specs.declared.rule.TheConstants.{NO_SUCH_FIELD_OR_METHOD}
-use Rattle.typed_marks.specs.Meanings.{Known, Meaning, Wrong}
+use Rattle.typed_marks.specs.Meanings.{Known, Meaning, Wrong, Quiet}
 use Rattle.unit_read.specs.Units.{Unit}
 use Rattle.rule_words.specs.Answers.{typed}
 use Rattle.rule_words.specs.Asking.{Asks, Rule, under_ask}
 use Rattle.rule_words.specs.Words.{test}
 use Rattle.type_answers.specs.Asked.{methods_ask, select_ask, need_told}
+use Rattle.type_answers.specs.Unknown.{is_unknown}
 use Rattle.typed_tree.specs.declared.rule.TheConstants.{AMBIGUOUS_SELECTOR, NEEDS_AN_ADDRESS}
 use Rattle.primary_rules.specs.Operands.{is_variable, part_mode, standing}
 
@@ -101,8 +102,12 @@ set_asked name of good = bind (methods_ask of) (set_told name good)
 abbrev pub by_address : Known → Bool → Bool
 by_address x pointer = pointer && not (is_variable x.mode)
 
+-- a function of this signature; nothing is said of a method without a known one
+abbrev pub function_mark : Bool → GoSignature → Meaning
+function_mark unknown of = if unknown then Quiet else typed mode.Value (FuncOf of)
+
 abbrev pub method_value : Name → Known → GoSignature → Bool → Rule
-method_value name x of pointer = if by_address x pointer then set_asked name x.of (typed mode.Value (FuncOf of)) else done (typed mode.Value (FuncOf of))
+method_value name x of pointer = if by_address x pointer then set_asked name x.of (function_mark (is_unknown of) of) else done (function_mark (is_unknown of) of)
 
 -- "Method expressions": a function whose first parameter is the receiver
 abbrev pub with_receiver : GoType → GoSignature → GoSignature
@@ -110,7 +115,7 @@ with_receiver of (From params results variadic) = From (AndType of params) resul
 
 abbrev pub method_expression : Name → GoType → GoSignature → Bool → Rule
 method_expression name of method pointer =
-    if pointer then set_asked name of (typed mode.Value (FuncOf (with_receiver of method))) else done (typed mode.Value (FuncOf (with_receiver of method)))
+    if pointer then set_asked name of (function_mark (is_unknown method) (with_receiver of method)) else done (function_mark (is_unknown method) (with_receiver of method))
 
 abbrev pub selected_method : Name → Known → GoSignature → Bool → Rule
 selected_method name x of pointer = if is_type x.mode then method_expression name x.of of pointer else method_value name x of pointer

@@ -3,19 +3,19 @@ ghost use Rattle.std.specs.Prelude.{◌≡◌, ◌<◌, ◌∷◌, IfOk, length,
 ghost use Rattle.mark_walk.specs.Telling.{tell};
 ghost use Rattle.method_sets.specs.Levels.{chosen_in, part_in as selected_in};
 ghost use Rattle.method_sets.specs.Members.{selector};
-ghost use Rattle.type_model.specs.GoTypes.{FuncOf, signature_of, SignatureBelow, MethodsBelow};
+ghost use Rattle.type_model.specs.GoTypes.{signature_of, SignatureBelow, MethodsBelow};
 ghost use Rattle.type_model.specs.Parts.{method_of};
 ghost use Rattle.type_model.specs.Tables.{types_in, count};
 ghost use Rattle.type_questions.specs.Judging.{seen_as, AreMethodsBelow};
 ghost use Rattle.typed_marks.specs.States.{so_far};
 ghost use Rattle.unit_read.specs.Subjects.{unit_of};
-ghost use Rattle.rule_words.specs.Answers.{typed, answer_in, IsAnswerOf};
+ghost use Rattle.rule_words.specs.Answers.{answer_in, IsAnswerOf};
 ghost use Rattle.rule_words.specs.Scenes.{IsScene, type_in, IsTypeOf};
 ghost use Rattle.rule_words.specs.Steps.{step_in, IsStepOf};
 ghost use Rattle.type_answers.specs.Answering.{listed_methods, IsSelectedBelow, IsSelectionBelow, AreSelectedBelow};
 ghost use Rattle.type_answers.specs.Coming.{ComesTo};
 ghost use Rattle.primary_rules.specs.InCode.{facts_in, AreFactsOf};
-ghost use Rattle.primary_rules.specs.Selecting.{field_mark, select_field, selected_field, is_named, has_method, in_set, set_told, set_asked, by_address, method_value, with_receiver, method_expression, selected_method, selected_part, selected, select_told, select_rule};
+ghost use Rattle.primary_rules.specs.Selecting.{field_mark, select_field, selected_field, is_named, has_method, in_set, set_told, set_asked, by_address, function_mark, method_value, with_receiver, method_expression, selected_method, selected_part, selected, select_told, select_rule};
 
 use crate::operand::{bad, is_type, is_variable, part_mode, silent, standing};
 use crate::passing::ask_addressable;
@@ -23,7 +23,7 @@ use gv_base::{NoMemory, Row};
 use method_sets::{Selected, Selection};
 use rule_words::{Answer, Step};
 use std::alloc::Global;
-use type_answers::{ask_methods, ask_selection};
+use type_answers::{ask_methods, ask_selection, is_unknown};
 use type_model::{Method, Signature, Term, TypeId};
 use type_questions::{Found, Reached};
 use typed_marks::{Facts, State};
@@ -170,13 +170,16 @@ fn by_address(s: &State, x: Facts, pointer: bool) -> bool
     pointer && !is_variable(x.mode)
 }
 
-/// A function of this signature.
-fn function(s: &State, of: Signature) -> Answer
+/// A function of this signature; nothing is said of a method without a known one.
+fn function(s: &State, unknown: bool, of: Signature) -> Answer
     requires { SignatureBelow (count s.now.table) of }
-    ensures is { answer_in s.now result ≡ typed Mode.Value (FuncOf (signature_of (types_in s.now.table) of)) }
+    ensures is { answer_in s.now result ≡ function_mark unknown (signature_of (types_in s.now.table) of) }
     ensures over { IsAnswerOf s.now result }
 {
     let _ = s;
+    if unknown {
+        return silent();
+    }
     Answer::Type(Mode::Value, Term::Func(of))
 }
 
@@ -196,7 +199,8 @@ fn method_value(
     ensures comes { IfOk result (ComesTo u.now s.now (method_value (selector name.now from.now) (facts_in s.now x) (signature_of (types_in s.now.table) of) pointer)) }
     ensures over { IfOk result (IsStepOf s.now) }
 {
-    let good = function(s, of);
+    let unknown = is_unknown(s, &of);
+    let good = function(s, unknown, of);
     if by_address(s, x, pointer) {
         let step = set_asked(alloc, u, s, name, from, x.of, good)?;
         return Ok(step);
@@ -251,8 +255,9 @@ fn method_expression(
     ensures comes { IfOk result (ComesTo u.now s.now (method_expression (selector name.now from.now) (type_in s.now of) (signature_of (types_in s.now.table) method) pointer)) }
     ensures over { IfOk result (IsStepOf s.now) }
 {
+    let unknown = is_unknown(s, &method);
     let signature = with_receiver(alloc, s, of, method)?;
-    let good = function(s, signature);
+    let good = function(s, unknown, signature);
     if pointer {
         let step = set_asked(alloc, u, s, name, from, of, good)?;
         return Ok(step);

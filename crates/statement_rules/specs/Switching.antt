@@ -16,7 +16,7 @@ use Rattle.typed_tree.specs.declared.rule.TheConstants.{MISMATCHED_OPERANDS, NOT
 use Rattle.typed_marks.specs.declared.item.Stage.TheVariants as s
 use Rattle.typed_marks.specs.Meanings.{Known, Takes, Fits, Meaning, Right, Wrong, Quiet}
 use Rattle.type_questions.specs.declared.reached.Reached.{Reached}
-use Rattle.type_answers.specs.Asked.{assignable_ask, comparable_ask, need_told}
+use Rattle.type_answers.specs.Asked.{compared_ask, comparable_ask, need_told}
 use Rattle.unit_read.specs.declared.place.Place.{Place}
 use Rattle.unit_read.specs.Units.{Unit, nodes_at, place_at}
 use Rattle.rule_words.specs.Asking.{Asks, Rule, mark_ask, under_ask}
@@ -131,7 +131,7 @@ abbrev pub other_told : Known → GoType → Reached Bool → Rule
 other_told x tag told = need_told told (other_if x tag)
 
 abbrev pub other_under : Known → GoType → Option GoType → Rule
-other_under x tag under = bind (assignable_ask (takes_default under) tag None x.of) (other_told x tag)
+other_under x tag under = bind (compared_ask (takes_default under) tag None x.of) (other_told x tag)
 
 abbrev pub other_way : Unit → Known → GoType → Rule
 other_way u x tag = bind (under_ask u x.of) (other_under x tag)
@@ -146,7 +146,7 @@ abbrev pub one_told : Unit → Known → GoType → Reached Bool → Rule
 one_told u x tag told = need_told told (one_if u x tag)
 
 abbrev pub against_under : Unit → Known → GoType → GoType → Rule
-against_under u x tag under = bind (assignable_ask (is_interface under) (compared_type x) x.value tag) (one_told u x tag)
+against_under u x tag under = bind (compared_ask (is_interface under) (compared_type x) x.value tag) (one_told u x tag)
 
 abbrev pub against_told : Unit → Known → GoType → Option GoType → Rule
 against_told u x tag under = need_type under (against_under u x tag)

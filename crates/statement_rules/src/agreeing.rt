@@ -13,7 +13,7 @@ use gv_base::NoMemory;
 use rule_words::Step;
 use rule_words::good::{broken, silent};
 use std::alloc::Global;
-use type_answers::{Relation, ask_operand, ask_under};
+use type_answers::{ask_compared, ask_under};
 use type_model::TypeId;
 use type_questions::{Found, Reached};
 use typed_marks::{Facts, State};
@@ -81,7 +81,7 @@ fn other_under(
     ensures over { IfOk result (IsStepOf s.now) }
 {
     let methods = takes_default(s, under);
-    let found = ask_operand(alloc, u, s, Relation::Assignable, methods, tag, None, x.of)?;
+    let found = ask_compared(alloc, u, s, methods, tag, None, x.of)?;
     match found {
         Found::Is(told) => {
             let step = other_told(alloc, u, s, x, tag, told)?;
@@ -191,7 +191,7 @@ fn against_under(
 {
     let of = compared_type(s, x);
     let methods = is_interface(s, under);
-    let found = ask_operand(alloc, u, s, Relation::Assignable, methods, of, x.value, tag)?;
+    let found = ask_compared(alloc, u, s, methods, of, x.value, tag)?;
     match found {
         Found::Is(told) => {
             let step = one_told(alloc, u, s, x, tag, told)?;

@@ -3,3 +3,4 @@ pub mod ComingLaws
 pub mod OperandLemmas
 pub mod PendingLemmas
 pub mod SelectionLemmas
+pub mod UnknownLemmas

@@ -1,6 +1,6 @@
 -- What rules ask about types, each as a term of its own: what is given is the answer, or that there is none, since a name that it needs is
 -- declared by nothing.
-use Rattle.std.specs.Prelude.{Bool, true, false, List, Option}
+use Rattle.std.specs.Prelude.{Bool, true, false, if◌then◌else◌, List, Option}
 use Rattle.gv_base.specs.declared.constant.Const.{Const}
 use Rattle.mark_walk.specs.Asks.{done, put, bind}
 use Rattle.method_sets.specs.Levels.{Chosen}
@@ -8,6 +8,7 @@ use Rattle.method_sets.specs.Members.{Name}
 use Rattle.type_model.specs.GoTypes.{GoType, GoMethods, NoMethod}
 use Rattle.type_model.specs.Parts.{GoMethod}
 use Rattle.type_rel.specs.declared.answer.Implements.{Implements}
+use Rattle.type_rel.specs.declared.answer.Implements.TheVariants.{Yes, Missing}
 use Rattle.type_questions.specs.declared.reached.Reached.{Reached}
 use Rattle.type_questions.specs.declared.reached.Reached.TheVariants.{Got, Lost}
 use Rattle.type_questions.specs.Questions.{Question, AssignableTo, ConvertibleTo, IsComparable, MissingMethod, FieldOrMethod, MethodSet, Told, Holds, Implementing, Selecting, Listing}
@@ -16,6 +17,7 @@ use Rattle.rule_words.specs.Asking.{Asks, Rule}
 use Rattle.rule_words.specs.Putting.{methods_from}
 use Rattle.type_answers.specs.declared.relations.Relation.{Relation}
 use Rattle.type_answers.specs.declared.relations.Relation.TheVariants as r
+use Rattle.type_answers.specs.Unknown.{has_unknown, is_unknown_named, comes_to_unknown}
 
 -- ---- what is told
 
@@ -67,14 +69,34 @@ methods_given told = done (methods_told told)
 unfoldable pub methods_ask : GoType → Asks (Reached (List GoMethod))
 methods_ask of = put (MethodSet of) methods_given
 
-abbrev pub related_with : (GoMethods → Question) → Reached (List GoMethod) → Asks (Reached Bool)
-related_with q (Got methods) = bool_ask (q (methods_from methods))
-related_with q Lost = done Lost
+-- ---- relations by methods
+
+-- the methods that a type wants in turn: where they come to one without a known signature nothing is told
+abbrev pub comes_told : List GoMethod → Reached (List GoMethod) → Asks (Reached Bool)
+comes_told set (Got wanted) = done (if comes_to_unknown set wanted then Lost else Got false)
+comes_told set Lost = done Lost
+
+abbrev pub unrelated : GoType → List GoMethod → Asks (Reached Bool)
+unrelated to set = if has_unknown set then bind (methods_ask to) (comes_told set) else done (Got false)
+
+abbrev pub related_known : GoType → List GoMethod → Bool → Asks (Reached Bool)
+related_known to set b = if b then done (Got true) else unrelated to set
+
+abbrev pub related_told : GoType → List GoMethod → Reached Bool → Asks (Reached Bool)
+related_told to set (Got b) = related_known to set b
+related_told to set Lost = done Lost
+
+unfoldable pub related_list : GoType → (GoMethods → Question) → List GoMethod → Asks (Reached Bool)
+related_list to q methods = bind (bool_ask (q (methods_from methods))) (related_told to methods)
+
+abbrev pub related_with : GoType → (GoMethods → Question) → Reached (List GoMethod) → Asks (Reached Bool)
+related_with to q (Got methods) = related_list to q methods
+related_with to q Lost = done Lost
 
 -- An operand's methods count where it is related to an interface, and are asked for there alone.
-abbrev pub related_ask : Bool → GoType → (GoMethods → Question) → Asks (Reached Bool)
-related_ask true of q = bind (methods_ask of) (related_with q)
-related_ask false of q = bool_ask (q NoMethod)
+abbrev pub related_ask : Bool → GoType → GoType → (GoMethods → Question) → Asks (Reached Bool)
+related_ask true of to q = bind (methods_ask of) (related_with to q)
+related_ask false of to q = bool_ask (q NoMethod)
 
 -- whether an operand of this type, of this value where it is a constant and with these methods, is so related to a type
 abbrev pub relating : Relation → GoType → Option Const → GoType → GoMethods → Question
@@ -83,13 +105,26 @@ relating r.Convertible of value to set = ConvertibleTo (record { v = of; value =
 
 -- "Assignability", "Conversions": an operand to a type; the flag says whether that is an interface
 unfoldable pub operand_ask : Relation → Bool → GoType → Option Const → GoType → Asks (Reached Bool)
-operand_ask relation by_methods of value to = related_ask by_methods of (relating relation of value to)
+operand_ask relation by_methods of value to = related_ask by_methods of to (relating relation of value to)
 
 abbrev pub assignable_ask : Bool → GoType → Option Const → GoType → Asks (Reached Bool)
 assignable_ask by_methods of value to = operand_ask r.Assignable by_methods of value to
 
 abbrev pub convertible_ask : Bool → GoType → Option Const → GoType → Asks (Reached Bool)
 convertible_ask by_methods of value to = operand_ask r.Convertible by_methods of value to
+
+-- An operand that is compared with one of another type: whether it may be assigned to that by the methods with known signatures, since that the types are
+-- mismatched is told all the same.
+abbrev pub compared_with : (GoMethods → Question) → Reached (List GoMethod) → Asks (Reached Bool)
+compared_with q (Got methods) = bool_ask (q (methods_from methods))
+compared_with q Lost = done Lost
+
+abbrev pub comparing_ask : Bool → GoType → (GoMethods → Question) → Asks (Reached Bool)
+comparing_ask true of q = bind (methods_ask of) (compared_with q)
+comparing_ask false of q = bool_ask (q NoMethod)
+
+unfoldable pub compared_ask : Bool → GoType → Option Const → GoType → Asks (Reached Bool)
+compared_ask by_methods of value to = comparing_ask by_methods of (relating r.Assignable of value to)
 
 -- ---- members
 
@@ -99,8 +134,20 @@ implements_given told = done (implements_told told)
 abbrev pub missing_ask : GoMethods → GoType → Asks (Reached Implements)
 missing_ask set of = put (MissingMethod (record { set = set; of = of })) implements_given
 
+-- the first method that is missed, unless it is there without a known signature
+abbrev pub lacking : List GoMethod → Implements → Reached Implements
+lacking set Yes = Got Yes
+lacking set (Missing name) = if is_unknown_named name set then Lost else Got (Missing name)
+
+abbrev pub missing_known : List GoMethod → Reached Implements → Asks (Reached Implements)
+missing_known set (Got x) = done (lacking set x)
+missing_known set Lost = done Lost
+
+unfoldable pub implements_list : GoType → List GoMethod → Asks (Reached Implements)
+implements_list of methods = bind (missing_ask (methods_from methods) of) (missing_known methods)
+
 abbrev pub implements_with : GoType → Reached (List GoMethod) → Asks (Reached Implements)
-implements_with of (Got methods) = missing_ask (methods_from methods) of
+implements_with of (Got methods) = implements_list of methods
 implements_with of Lost = done Lost
 
 -- "Implementing an interface": whether a type has each method of this interface, an interface type literal

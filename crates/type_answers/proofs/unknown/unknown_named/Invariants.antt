@@ -1,0 +1,7 @@
+use Rattle.std.proofs.Common.{◌≡◌, drop}
+use Rattle.method_sets.specs.Replies.{listed_in}
+use Rattle.type_answers.specs.Unknown.{first_told, named_told}
+use Rattle.type_answers.proofs.unknown.unknown_named.Given as goal
+
+abbrev pub invariant-loop-i : goal.invariant-loop-i
+invariant-loop-i l = first_told (named_told l.name) (listed_in l.s.table l.methods) ≡ first_told (named_told l.name) (listed_in l.s.table (drop l.i l.methods))
