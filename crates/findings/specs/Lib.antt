@@ -1,0 +1,4 @@
+pub mod Gains
+pub mod Passes
+pub mod Reported
+pub mod InCode

@@ -1,0 +1,8 @@
+use Rattle.findings.specs.Passes.{unit_in, marks_in}
+use Rattle.findings.proofs.GainLemmas.{gains_list}
+use Rattle.vet_simple.specs.Assigning.{self_assigned}
+use Rattle.vet_simple.proofs.assigning.OverQuietReports.report_at.Goals as goal
+
+pub returns : goal.returns
+returns c =
+    gains_list (self_assigned (unit_in c.args.pass.now) (marks_in c.args.pass.now) c.args.at c.args.node.now) c.args.found.now.items c.report_assigned.new.found.items c.in_ok-report_assigned.ensures

@@ -1,0 +1,10 @@
+pub mod Unused
+pub mod NilFunctions
+pub mod Assigning
+pub mod Bools
+pub mod InRuns
+pub mod RuneTexts
+pub mod Tags
+pub mod TagNames
+pub mod StructTags
+pub mod TagSpots

@@ -1,0 +1,4 @@
+pub mod RowLemmas
+pub mod QuietLemmas
+pub mod MethodLemmas
+pub mod FaceLemmas
