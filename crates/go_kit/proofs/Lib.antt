@@ -1,4 +1,3 @@
-mod BasicLemmas
 mod ReadLemmas
 mod GivenLemmas
 mod SeenLemmas

@@ -21,7 +21,7 @@ use Rattle.unit_read.specs.Subjects.{unit_of}
 use Rattle.rule_words.specs.Asking.{type_item, declaration_told}
 use Rattle.rule_words.specs.Declaring.{declaration_in, IsDeclaration}
 use Rattle.rule_words.specs.Scenes.{IsScene, type_in}
-use Rattle.rule_words.proofs.KeepLemmas.{grown_basics}
+use Rattle.typed_tree.proofs.BasicLaws.{grown_basics}
 use Rattle.rule_words.proofs.SceneLemmas.{extends_then}
 
 pub one_name : (t : GoType) (a b : TypeName) → t ≡ DefinedType a → t ≡ DefinedType b → a ≡ b

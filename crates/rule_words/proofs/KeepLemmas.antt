@@ -2,8 +2,6 @@
 use Rattle.std.proofs.Common.{◌≡◌, ℕ, ◌<◌, ◌≤◌, List, ◌++◌, ◌∷◌, [], length, slice_get, Option, Some, None, Bool, true, false, if◌then◌else◌, refl, sym, ap, ◌∙◌, subst, arith, inl, inr}
 use Rattle.std.proofs.lemmas.Bool.{le-leb, lt-leb}
 use Rattle.gv_base.specs.declared.constant.Const.{Const}
-use Rattle.gv_base.specs.declared.constant.Kind.{Kind}
-use Rattle.gv_base.specs.declared.constant.Kind.TheVariants as k
 use Rattle.mark_walk.specs.Asks.{Adds, Stays}
 use Rattle.type_model.specs.declared.term.TypeName.{TypeName}
 use Rattle.type_model.specs.declared.term.TypeId.{TypeId}
@@ -15,7 +13,8 @@ use Rattle.type_model.specs.GoTypes.{GoType, BasicType, DefinedType, type_number
 use Rattle.type_model.specs.Tables.{types_in, terms_in, count, IsTable, declarations_in, IsAdded, Extends}
 use Rattle.typed_tree.specs.declared.mark.Mode.{Mode}
 use Rattle.typed_tree.specs.declared.mark.Mode.TheVariants.{Constant}
-use Rattle.typed_tree.specs.Basics.{HasBasics, number_of_kind, error_number}
+use Rattle.typed_tree.specs.Basics.{HasBasics}
+use Rattle.typed_tree.proofs.BasicLaws.{grown_basics}
 use Rattle.typed_tree.specs.Universe.{error_name}
 use Rattle.typed_marks.specs.declared.item.Item.{Item}
 use Rattle.typed_marks.specs.declared.mark.ConstId.{ConstId}
@@ -50,34 +49,6 @@ kept_scene u s next i mark scene none plain state table adds = record {
   env = subst (λ (t : TypeTable). Extends u.env.now.types.now (terms_in t)) (sym table) scene.env;
   step = λ name. ap (λ (t : TypeTable). declarations_in t name) table ∙ scene.step name
       ∙ sym (adds_declared (unit_of u) (so_far s) (so_far next) i (said s mark) none (plain_told s mark plain) adds name);
-}
-
-below : (kind : Kind) → number_of_kind kind < error_number
-below k.Bool = omega arith
-below k.Int = omega arith
-below k.Int8 = omega arith
-below k.Int16 = omega arith
-below k.Int32 = omega arith
-below k.Int64 = omega arith
-below k.Uint = omega arith
-below k.Uint8 = omega arith
-below k.Uint16 = omega arith
-below k.Uint32 = omega arith
-below k.Uint64 = omega arith
-below k.Uintptr = omega arith
-below k.Text = omega arith
-below k.UntypedBool = omega arith
-below k.UntypedInt = omega arith
-below k.UntypedRune = omega arith
-below k.UntypedText = omega arith
-below k.UntypedNil = omega arith
-
-pub grown_basics : (old new : TypeTable) → HasBasics old → IsTable new → Extends (terms_in old) (terms_in new) → HasBasics new
-grown_basics old new has table extends = record {
-  table = table;
-  basic = λ kind. (extends (number_of_kind kind) (let low = below kind in let many : error_number < count old = has.many in omega arith)).1 ∙ has.basic kind;
-  error = (extends error_number has.many).1 ∙ has.error;
-  many = (extends error_number has.many).0;
 }
 
 pub grown_scene : (u : Subject) (s next : State) → IsScene u s → HasGrown s next → IsScene u next

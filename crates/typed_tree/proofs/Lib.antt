@@ -1,2 +1,3 @@
+pub mod BasicLaws
 pub mod UniverseLaws
 mod SpecificationFacts

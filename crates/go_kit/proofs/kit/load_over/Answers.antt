@@ -3,7 +3,7 @@ use Rattle.std.proofs.lemmas.Result.{err_from_is_err_and}
 use Rattle.face_table.specs.Fitting.{given}
 use Rattle.package_faces.specs.Interfaces.{faces_of}
 use Rattle.package_faces.proofs.FaceLaws.{faces_stay, interfaces_grow}
-use Rattle.go_kit.proofs.BasicLemmas.{grown_basics}
+use Rattle.typed_tree.proofs.BasicLaws.{grown_basics}
 use Rattle.type_model.specs.Tables.{terms_in, types_in}
 use Rattle.action_graph.specs.Judging.{AreInterfaces, Env, load_text}
 use Rattle.go_kit.proofs.LoadLemmas.{files-spelled, files-small, few-trees, outcome-of, readable, stuck-of, unfit}

@@ -1,5 +1,5 @@
 use Rattle.std.proofs.Common.{◌∙◌}
-use Rattle.go_kit.proofs.BasicLemmas.{grown_basics}
+use Rattle.typed_tree.proofs.BasicLaws.{grown_basics}
 use Rattle.go_kit.proofs.kit.load_trees.Goals as goal
 
 pub load_env-requires-clause-basics : goal.load_env-requires-clause-basics
