@@ -1,18 +1,20 @@
 -- What is still to be put into a row.
-use Rattle.std.proofs.Common.{◌≡◌, ℕ, zero, suc, ◌+◌, ◌-◌, ◌<◌, ◌≤◌, List, [], ◌∷◌, ◌++◌, length, take, get_or, Some, refl, sym, ap, ◌∙◌, arith}
+use Rattle.std.proofs.Common.{◌≡◌, ℕ, zero, suc, ◌+◌, ◌-◌, ◌*◌, ◌<◌, ◌≤◌, List, [], ◌∷◌, ◌++◌, length, take, get_or, Some, refl, sym, ap, ◌∙◌, arith}
 use Rattle.std.specs.Prelude.{All}
 use Rattle.std.proofs.lemmas.List.{take_more, append-nil}
 use Rattle.std.proofs.lemmas.List.Elements.{All-append, All-pop}
 use Rattle.type_model.specs.declared.term.TypeId.{TypeId}
 use Rattle.type_model.specs.declared.term.Field.{Field}
 use Rattle.type_model.specs.declared.term.Method.{Method}
-use Rattle.type_model.specs.GoTypes.{GoType, type_at, types_at, fields_of, methods_of}
+use Rattle.type_model.specs.GoTypes.{GoType, GoSignature, GoTypes, GoFields, GoMethods, BasicType, DefinedType, PointerTo, SliceOf, ArrayOf, MapOf, ChanOf, FuncOf, StructOf, InterfaceOf, From, NoType, AndType, NoField, AndField, NoMethod, AndMethod, type_at, types_at, fields_of, methods_of}
 use Rattle.type_texts.specs.declared.pieces.Piece.{Piece}
+use Rattle.type_texts.specs.declared.pieces.Piece.TheVariants as piece
 use Rattle.type_texts.specs.declared.type_rows.Todo.{Todo}
+use Rattle.type_texts.specs.declared.type_rows.Todo.TheVariants as todo
 use Rattle.type_texts.specs.Texts.{type_count, field_count, method_count, type_text}
-use Rattle.type_texts.specs.Rows.{type_row, types_row, fields_row, methods_row}
+use Rattle.type_texts.specs.Rows.{type_row, signature_row, types_row, fields_row, methods_row}
 use Rattle.type_texts.specs.Pieces.{pieces_text}
-use Rattle.type_texts.specs.Pending.{field_row, method_row, one_row, pending, IsIn, AreIn}
+use Rattle.type_texts.specs.Pending.{field_row, method_row, one_row, pending, IsIn, AreIn, one_piece, piece_count, steps_left}
 use Rattle.type_texts.proofs.TypeRows.{row_text}
 
 pub pending_last : (types : List GoType) (todos : List Todo) (t : Todo) (rest : List Piece) → pending types (todos ++ t ∷ []) rest ≡ one_row types t (pending types todos rest)
@@ -35,6 +37,12 @@ types_counted types (id ∷ ids) = omega (arith, types_counted types ids)
 pub fields_counted : (types : List GoType) (fields : List Field) → field_count (fields_of types fields) ≡ length fields
 fields_counted types [] = refl
 fields_counted types (f ∷ fields) = omega (arith, fields_counted types fields)
+
+-- ---- pieces among what is still to come
+
+pub pieces_last : (todos : List Todo) (t : Todo) → piece_count (todos ++ t ∷ []) ≡ piece_count todos + one_piece t
+pieces_last [] t = omega arith
+pieces_last (x ∷ todos) t = omega (arith, pieces_last todos t)
 
 single : {A : Type 0} (P : A → Type 0) (x : A) → P x → All P (x ∷ [])
 single P x p zero d lt = p
@@ -114,3 +122,58 @@ popped_next n all new next is h = (All-pop (IsIn n) all new (Some next) is h.eac
 -- the row of a type is its text
 pub row_spelled : (t : GoType) → pieces_text (type_row t []) ≡ type_text t
 row_spelled t = row_text t [] ∙ append-nil (type_text t)
+
+-- ---- the steps that are left
+
+mutual
+  row_longer : (t : GoType) (rest : List Piece) → length rest ≤ length (type_row t rest)
+  row_longer (BasicType k) rest = omega arith
+  row_longer (DefinedType name) rest = omega arith
+  row_longer (PointerTo of) rest = omega (arith, row_longer of rest)
+  row_longer (SliceOf of) rest = omega (arith, row_longer of rest)
+  row_longer (ArrayOf size of) rest = omega (arith, row_longer of rest)
+  row_longer (MapOf key of) rest = omega (arith, row_longer key (type_row of rest), row_longer of rest)
+  row_longer (ChanOf direction of) rest = omega (arith, row_longer of rest)
+  row_longer (FuncOf of) rest = omega (arith, signature_longer of rest)
+  row_longer (StructOf fields) rest = omega (arith, fields_longer fields rest)
+  row_longer (InterfaceOf methods) rest = omega (arith, methods_longer methods rest)
+
+  signature_longer : (s : GoSignature) (rest : List Piece) → length rest ≤ length (signature_row s rest)
+  signature_longer (From params results variadic) rest =
+      omega (arith, types_longer params (piece.List (type_count results) ∷ types_row results rest), types_longer results rest)
+
+  types_longer : (ts : GoTypes) (rest : List Piece) → length rest ≤ length (types_row ts rest)
+  types_longer NoType rest = omega arith
+  types_longer (AndType of types) rest = omega (arith, row_longer of (types_row types rest), types_longer types rest)
+
+  fields_longer : (fs : GoFields) (rest : List Piece) → length rest ≤ length (fields_row fs rest)
+  fields_longer NoField rest = omega arith
+  fields_longer (AndField name owner embedded of tag fields) rest = omega (arith, row_longer of (piece.Tag tag ∷ fields_row fields rest), fields_longer fields rest)
+
+  methods_longer : (ms : GoMethods) (rest : List Piece) → length rest ≤ length (methods_row ms rest)
+  methods_longer NoMethod rest = omega arith
+  methods_longer (AndMethod name owner pointer of methods) rest = omega (arith, signature_longer of (methods_row methods rest), methods_longer methods rest)
+
+todo_longer : (types : List GoType) (t : Todo) (rest : List Piece) → one_piece t + length rest ≤ length (one_row types t rest)
+todo_longer types (todo.Type id) rest = omega (arith, row_longer (type_at types id) rest)
+todo_longer types (todo.Piece p) rest = omega arith
+
+-- each piece among them is still to come
+pieces_to_come : (types : List GoType) (todos : List Todo) (rest : List Piece) → piece_count todos + length rest ≤ length (pending types todos rest)
+pieces_to_come types [] rest = omega arith
+pieces_to_come types (t ∷ todos) rest = omega (arith, pieces_to_come types todos (one_row types t rest), todo_longer types t rest)
+
+pub taken_fewer : (types : List GoType) (todos new : List Todo) (p : Piece) → new ≡ todos → steps_left types new < steps_left types (todos ++ todo.Piece p ∷ [])
+unfolding steps_left
+taken_fewer types todos new p same =
+    let come : length (pending types (todos ++ todo.Piece p ∷ []) []) ≡ length (p ∷ pending types todos []) = ap length (pending_last types todos (todo.Piece p) []) in
+    let kept : steps_left types new ≡ steps_left types todos = ap (λ (z : List Todo). steps_left types z) same in
+    omega (arith, come, kept, pieces_last todos (todo.Piece p), pieces_to_come types todos [])
+
+pub opened_fewer : (types : List GoType) (todos new : List Todo) (id : TypeId) → pending types new [] ≡ type_row (type_at types id) (pending types todos [])
+    → piece_count todos < piece_count new → steps_left types new < steps_left types (todos ++ todo.Type id ∷ [])
+unfolding steps_left
+opened_fewer types todos new id opened more =
+    let come : length (pending types (todos ++ todo.Type id ∷ []) []) ≡ length (type_row (type_at types id) (pending types todos [])) = ap length (pending_last types todos (todo.Type id) []) in
+    let kept : length (pending types new []) ≡ length (type_row (type_at types id) (pending types todos [])) = ap length opened in
+    omega (arith, come, kept, more, pieces_last todos (todo.Type id), pieces_to_come types new [])

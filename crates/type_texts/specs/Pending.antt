@@ -1,5 +1,5 @@
 -- What of a numbered type is still to be put into its row: types and pieces, the last one first.
-use Rattle.std.specs.Prelude.{ℕ, ◌<◌, ◌+◌, List, [], ◌∷◌, All}
+use Rattle.std.specs.Prelude.{ℕ, ◌<◌, ◌+◌, ◌-◌, ◌*◌, List, [], ◌∷◌, length, All}
 use Rattle.type_model.specs.declared.term.TypeId.{TypeId}
 use Rattle.type_model.specs.declared.term.Field.{Field}
 use Rattle.type_model.specs.declared.term.Method.{Method}
@@ -36,6 +36,20 @@ IsIn n (todo.Piece p) = Unit {0}
 
 pub record AreIn (n : ℕ) (todos : List Todo) : Type 0 where
   pub each : All (IsIn n) todos
+
+-- how many of them are pieces
+abbrev pub one_piece : Todo → ℕ
+one_piece (todo.Type id) = 0
+one_piece (todo.Piece p) = 1
+
+abbrev pub piece_count : List Todo → ℕ
+piece_count [] = 0
+piece_count (t ∷ todos) = one_piece t + piece_count todos
+
+-- More than the steps that are left. Each piece that is still to come counts two, less one where it stands there by itself: a step that
+-- takes a piece takes one, and a step that opens a type leaves the same pieces to come, of which at least one more stands by itself.
+unfoldable pub steps_left : List GoType → List Todo → ℕ
+steps_left types todos = 2 * length (pending types todos []) - piece_count todos
 
 -- how many pieces of a row count as nodes of its type
 abbrev pub node_of : Piece → ℕ

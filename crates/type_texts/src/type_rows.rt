@@ -7,7 +7,7 @@ ghost use Rattle.type_texts.specs.declared.pieces.Piece.TheVariants as piece;
 ghost use Rattle.type_texts.specs.Texts.{field_count, method_count};
 ghost use Rattle.type_texts.specs.Answers.{Tells};
 ghost use Rattle.type_texts.specs.Rows.{type_row, signature_row, types_row, fields_row, methods_row};
-ghost use Rattle.type_texts.specs.Pending.{list_row, field_row, method_row, one_row, pending, IsIn, AreIn, node_of, todo_nodes, nodes_in};
+ghost use Rattle.type_texts.specs.Pending.{list_row, field_row, method_row, one_row, pending, IsIn, AreIn, one_piece, piece_count, steps_left, node_of, todo_nodes, nodes_in};
 
 use crate::pieces::Piece;
 use gv_base::NoMemory;
@@ -23,10 +23,11 @@ pub enum Todo {
 }
 
 /// Comes before all that is still to come.
-#[tactic(auto, using(crate::proofs::PendingLaws::pending_last, crate::proofs::PendingLaws::in_last))]
+#[tactic(auto, using(crate::proofs::PendingLaws::pending_last, crate::proofs::PendingLaws::in_last, crate::proofs::PendingLaws::pieces_last))]
 fn push_todo(todo: &mut Vec<Todo>, next: Todo) -> Result<(), NoMemory>
     ensures pending { OnOk result ((types : List GoType) (rest : List Piece) → pending types todo.new.items rest ≡ one_row types next (pending types todo.old.items rest)) }
     ensures within { OnOk result ((n : ℕ) → IsIn n next → AreIn n todo.old.items → AreIn n todo.new.items) }
+    ensures pieces { OnOk result (piece_count todo.new.items ≡ piece_count todo.old.items + one_piece next) }
 {
     todo.push(next)?;
     Ok(())
@@ -35,6 +36,7 @@ fn push_todo(todo: &mut Vec<Todo>, next: Todo) -> Result<(), NoMemory>
 fn push_types(todo: &mut Vec<Todo>, ids: &[TypeId]) -> Result<(), NoMemory>
     ensures pending { OnOk result ((types : List GoType) (rest : List Piece) → pending types todo.new.items rest ≡ types_row (types_at types ids.now) (pending types todo.old.items rest)) }
     ensures within { OnOk result ((n : ℕ) → AreBelow n ids.now → AreIn n todo.old.items → AreIn n todo.new.items) }
+    ensures pieces { OnOk result (piece_count todo.old.items ≤ piece_count todo.new.items) }
 {
     for k in 0..ids.len() {
         push_todo(todo, Todo::Type(ids[ids.len() - 1 - k]))?;
@@ -47,6 +49,7 @@ fn push_types(todo: &mut Vec<Todo>, ids: &[TypeId]) -> Result<(), NoMemory>
 fn push_list(todo: &mut Vec<Todo>, ids: &[TypeId]) -> Result<(), NoMemory>
     ensures pending { OnOk result ((types : List GoType) (rest : List Piece) → pending types todo.new.items rest ≡ list_row types ids.now (pending types todo.old.items rest)) }
     ensures within { OnOk result ((n : ℕ) → AreBelow n ids.now → AreIn n todo.old.items → AreIn n todo.new.items) }
+    ensures pieces { OnOk result (piece_count todo.old.items < piece_count todo.new.items) }
 {
     push_types(todo, ids)?;
     push_todo(todo, Todo::Piece(Piece::List(ids.len() as u64)))?;
@@ -57,6 +60,7 @@ fn push_list(todo: &mut Vec<Todo>, ids: &[TypeId]) -> Result<(), NoMemory>
 fn push_signature(todo: &mut Vec<Todo>, of: &Signature) -> Result<(), NoMemory>
     ensures pending { OnOk result ((types : List GoType) (rest : List Piece) → pending types todo.new.items rest ≡ signature_row (signature_of types of.now) (pending types todo.old.items rest)) }
     ensures within { OnOk result ((n : ℕ) → SignatureBelow n of.now → AreIn n todo.old.items → AreIn n todo.new.items) }
+    ensures pieces { OnOk result (piece_count todo.old.items ≤ piece_count todo.new.items) }
 {
     push_list(todo, of.results.as_slice())?;
     push_list(todo, of.params.as_slice())?;
@@ -67,6 +71,7 @@ fn push_signature(todo: &mut Vec<Todo>, of: &Signature) -> Result<(), NoMemory>
 fn push_field(alloc: Global, todo: &mut Vec<Todo>, field: &Field) -> Result<(), NoMemory>
     ensures pending { OnOk result ((types : List GoType) (rest : List Piece) → pending types todo.new.items rest ≡ field_row types field.now (pending types todo.old.items rest)) }
     ensures within { OnOk result ((n : ℕ) → field.now.of.0 < n → AreIn n todo.old.items → AreIn n todo.new.items) }
+    ensures pieces { OnOk result (piece_count todo.old.items < piece_count todo.new.items) }
 {
     let tag = field.tag.copy(alloc)?;
     let name = field.name.copy(alloc)?;
@@ -83,6 +88,7 @@ fn push_field(alloc: Global, todo: &mut Vec<Todo>, field: &Field) -> Result<(), 
 fn push_fields(alloc: Global, todo: &mut Vec<Todo>, fields: &[Field]) -> Result<(), NoMemory>
     ensures pending { OnOk result ((types : List GoType) (rest : List Piece) → pending types todo.new.items rest ≡ fields_row (fields_of types fields.now) (pending types todo.old.items rest)) }
     ensures within { OnOk result ((n : ℕ) → FieldsBelow n fields.now → AreIn n todo.old.items → AreIn n todo.new.items) }
+    ensures pieces { OnOk result (piece_count todo.old.items ≤ piece_count todo.new.items) }
 {
     for k in 0..fields.len() {
         push_field(alloc, todo, &fields[fields.len() - 1 - k])?;
@@ -94,6 +100,7 @@ fn push_fields(alloc: Global, todo: &mut Vec<Todo>, fields: &[Field]) -> Result<
 fn push_method(alloc: Global, todo: &mut Vec<Todo>, method: &Method) -> Result<(), NoMemory>
     ensures pending { OnOk result ((types : List GoType) (rest : List Piece) → pending types todo.new.items rest ≡ method_row types method.now (pending types todo.old.items rest)) }
     ensures within { OnOk result ((n : ℕ) → SignatureBelow n method.now.of → AreIn n todo.old.items → AreIn n todo.new.items) }
+    ensures pieces { OnOk result (piece_count todo.old.items < piece_count todo.new.items) }
 {
     let name = method.name.copy(alloc)?;
     let package = method.package.copy(alloc)?;
@@ -109,6 +116,7 @@ fn push_method(alloc: Global, todo: &mut Vec<Todo>, method: &Method) -> Result<(
 fn push_methods(alloc: Global, todo: &mut Vec<Todo>, methods: &[Method]) -> Result<(), NoMemory>
     ensures pending { OnOk result ((types : List GoType) (rest : List Piece) → pending types todo.new.items rest ≡ methods_row (methods_of types methods.now) (pending types todo.old.items rest)) }
     ensures within { OnOk result ((n : ℕ) → MethodsBelow n methods.now → AreIn n todo.old.items → AreIn n todo.new.items) }
+    ensures pieces { OnOk result (piece_count todo.old.items ≤ piece_count todo.new.items) }
 {
     for k in 0..methods.len() {
         push_method(alloc, todo, &methods[methods.len() - 1 - k])?;
@@ -133,6 +141,7 @@ fn name_piece(alloc: Global, name: &TypeName) -> Result<Piece, NoMemory>
 fn push_over(todo: &mut Vec<Todo>, front: Piece, of: TypeId) -> Result<(), NoMemory>
     ensures pending { OnOk result ((types : List GoType) (rest : List Piece) → pending types todo.new.items rest ≡ front ∷ type_row (type_at types of) (pending types todo.old.items rest)) }
     ensures within { OnOk result ((n : ℕ) → of.0 < n → AreIn n todo.old.items → AreIn n todo.new.items) }
+    ensures pieces { OnOk result (piece_count todo.old.items < piece_count todo.new.items) }
 {
     push_todo(todo, Todo::Type(of))?;
     push_todo(todo, Todo::Piece(front))?;
@@ -142,6 +151,7 @@ fn push_over(todo: &mut Vec<Todo>, front: Piece, of: TypeId) -> Result<(), NoMem
 fn push_map(todo: &mut Vec<Todo>, key: TypeId, of: TypeId) -> Result<(), NoMemory>
     ensures pending { OnOk result ((types : List GoType) (rest : List Piece) → pending types todo.new.items rest ≡ piece.Map ∷ type_row (type_at types key) (type_row (type_at types of) (pending types todo.old.items rest))) }
     ensures within { OnOk result ((n : ℕ) → key.0 < n → of.0 < n → AreIn n todo.old.items → AreIn n todo.new.items) }
+    ensures pieces { OnOk result (piece_count todo.old.items < piece_count todo.new.items) }
 {
     push_todo(todo, Todo::Type(of))?;
     push_over(todo, Piece::Map, key)?;
@@ -151,6 +161,7 @@ fn push_map(todo: &mut Vec<Todo>, key: TypeId, of: TypeId) -> Result<(), NoMemor
 fn push_func(todo: &mut Vec<Todo>, of: &Signature) -> Result<(), NoMemory>
     ensures pending { OnOk result ((types : List GoType) (rest : List Piece) → pending types todo.new.items rest ≡ piece.Func of.now.variadic ∷ signature_row (signature_of types of.now) (pending types todo.old.items rest)) }
     ensures within { OnOk result ((n : ℕ) → SignatureBelow n of.now → AreIn n todo.old.items → AreIn n todo.new.items) }
+    ensures pieces { OnOk result (piece_count todo.old.items < piece_count todo.new.items) }
 {
     push_signature(todo, of)?;
     push_todo(todo, Todo::Piece(Piece::Func(of.variadic)))?;
@@ -161,6 +172,7 @@ fn push_func(todo: &mut Vec<Todo>, of: &Signature) -> Result<(), NoMemory>
 fn push_struct(alloc: Global, todo: &mut Vec<Todo>, fields: &[Field]) -> Result<(), NoMemory>
     ensures pending { OnOk result ((types : List GoType) (rest : List Piece) → pending types todo.new.items rest ≡ piece.Struct (field_count (fields_of types fields.now)) ∷ fields_row (fields_of types fields.now) (pending types todo.old.items rest)) }
     ensures within { OnOk result ((n : ℕ) → FieldsBelow n fields.now → AreIn n todo.old.items → AreIn n todo.new.items) }
+    ensures pieces { OnOk result (piece_count todo.old.items < piece_count todo.new.items) }
 {
     push_fields(alloc, todo, fields)?;
     push_todo(todo, Todo::Piece(Piece::Struct(fields.len() as u64)))?;
@@ -171,6 +183,7 @@ fn push_struct(alloc: Global, todo: &mut Vec<Todo>, fields: &[Field]) -> Result<
 fn push_interface(alloc: Global, todo: &mut Vec<Todo>, methods: &[Method]) -> Result<(), NoMemory>
     ensures pending { OnOk result ((types : List GoType) (rest : List Piece) → pending types todo.new.items rest ≡ piece.Interface (method_count (methods_of types methods.now)) ∷ methods_row (methods_of types methods.now) (pending types todo.old.items rest)) }
     ensures within { OnOk result ((n : ℕ) → MethodsBelow n methods.now → AreIn n todo.old.items → AreIn n todo.new.items) }
+    ensures pieces { OnOk result (piece_count todo.old.items < piece_count todo.new.items) }
 {
     push_methods(alloc, todo, methods)?;
     push_todo(todo, Todo::Piece(Piece::Interface(methods.len() as u64)))?;
@@ -181,6 +194,7 @@ fn push_interface(alloc: Global, todo: &mut Vec<Todo>, methods: &[Method]) -> Re
 fn push_term(alloc: Global, todo: &mut Vec<Todo>, term: &Term) -> Result<(), NoMemory>
     ensures pending { OnOk result ((types : List GoType) (rest : List Piece) → pending types todo.new.items rest ≡ type_row (type_of types term.now) (pending types todo.old.items rest)) }
     ensures within { OnOk result ((n : ℕ) → IsOver n term.now → AreIn n todo.old.items → AreIn n todo.new.items) }
+    ensures pieces { OnOk result (piece_count todo.old.items < piece_count todo.new.items) }
 {
     match term {
         Term::Basic(kind) => {
@@ -285,6 +299,7 @@ fn step(
     ensures pending { OnOk result ((rest : List Piece) → row.new.items ++ pending (types_in table.now) todo.new.items rest ≡ row.old.items ++ one_row (types_in table.now) next (pending (types_in table.now) todo.old.items rest)) }
     ensures nodes { OnOk result (nodes_in row.new.items ≡ nodes_in row.old.items + todo_nodes next) }
     ensures within { OnOk result (AreIn (count table.now) todo.old.items → AreIn (count table.now) todo.new.items) }
+    ensures fewer { OnOk result (steps_left (types_in table.now) todo.new.items < steps_left (types_in table.now) (todo.old.items ++ next ∷ [])) }
 {
     match next {
         Todo::Piece(piece) => {
@@ -317,8 +332,7 @@ fn function_todo(alloc: Global, of: &Signature) -> Result<Vec<Todo>, NoMemory>
     Ok(todo)
 }
 
-/// All that is still to come, of at most 10,000 nodes. A type has an end, so there are fewer than 2^64 steps; if there were more,
-/// the answer would be want of memory.
+/// All that is still to come, of at most 10,000 nodes.
 fn rest_of(alloc: Global, table: &TypeTable, todo: Vec<Todo>) -> Result<Vec<Piece>, Unread>
     requires table { IsTable table.now }
     requires within { AreIn (count table.now) todo.items }
@@ -328,15 +342,12 @@ fn rest_of(alloc: Global, table: &TypeTable, todo: Vec<Todo>) -> Result<Vec<Piec
     let mut todo = todo;
     let mut row = Vec::new(alloc);
     let mut left = 10_000;
-    for _ in 0..u64::MAX {
-        let Some(next) = todo.pop() else {
-            return Ok(row);
-        };
+    while let Some(next) = todo.pop() {
         let less = left_with(&next, left)?;
         left = less;
         step(alloc, table, next, &mut todo, &mut row)?;
     }
-    Err(Unread::Memory)
+    Ok(row)
 }
 
 /// The pieces of a numbered type. It has at most 10,000 nodes.

@@ -12,4 +12,5 @@ loop-k-preserved c = record {
   within = λ n below h. c.in_ok-push_field.ensures.within n
       (subst (λ (f : Field). f.of.0 < n) (sym c.index-fields-fields.is) (below (length c.args.fields.now - 1 - c.loop-k.k) c.index-fields-fields.result (omega (arith, c.loop-k-test.true))))
       (c.loop-k.invariant.within n below h);
+  pieces = omega (arith, c.in_ok-push_field.ensures.pieces, c.loop-k.invariant.pieces);
 }

@@ -13,4 +13,5 @@ loop-k-preserved c = record {
   within = λ n below h. c.in_ok-push_method.ensures.within n
       (subst (λ (f : Method). SignatureBelow n f.of) (sym c.index-methods-methods.is) (below (length c.args.methods.now - 1 - c.loop-k.k) c.index-methods-methods.result (omega (arith, c.loop-k-test.true))))
       (c.loop-k.invariant.within n below h);
+  pieces = omega (arith, c.in_ok-push_method.ensures.pieces, c.loop-k.invariant.pieces);
 }

@@ -7,4 +7,5 @@ pub loop-k-preserved : goal.loop-k-preserved
 loop-k-preserved c = record {
   pending = types_step c.args.ids.now c.loop-k.k _ c.args.todo.now.items c.loop-k.todo.items c.push_todo.new.todo.items c.loop-k-test.true c.loop-k.invariant.pending c.in_ok-push_todo.ensures.pending;
   within = λ n below h. c.in_ok-push_todo.ensures.within n (below (length c.args.ids.now - 1 - c.loop-k.k) _ (omega (arith, c.loop-k-test.true))) (c.loop-k.invariant.within n below h);
+  pieces = omega (arith, c.in_ok-push_todo.ensures.pieces, c.loop-k.invariant.pieces);
 }
