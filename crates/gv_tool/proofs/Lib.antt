@@ -12,5 +12,6 @@ pub mod Course
 pub mod PrefixLaws
 pub mod DueLaws
 pub mod OutputLaws
+pub mod ReadingLaws
 pub mod ExistenceLaws
 pub mod HeadlineLaws
