@@ -250,8 +250,8 @@ fn bytes_of(env: &[(Text, Bytes)]) -> usize {
     bytes
 }
 
-/// What a load goes on with, and what is put aside meanwhile. A table is taken up again where it has no more types than the export texts have
-/// bytes, so that going over it takes no longer than reading them does.
+/// What a load goes on with, and what is put aside meanwhile. A table is taken up again where it has no more types than a thirty-second of the
+/// bytes of the export texts: so much longer does it take to go over a type and to copy it than to read a byte.
 fn chosen(kept: Option<Kept>, env: &[(Text, Bytes)]) -> (Option<Kept>, Option<Kept>)
     requires { IsStore kept }
     ensures on { IsStore result.0 }
@@ -259,7 +259,7 @@ fn chosen(kept: Option<Kept>, env: &[(Text, Bytes)]) -> (Option<Kept>, Option<Ke
 {
     match kept {
         Some(old) => {
-            if old.table.terms().len() <= bytes_of(env) {
+            if old.table.terms().len() <= bytes_of(env) / 32 {
                 (Some(old), None)
             } else {
                 (None, Some(old))
