@@ -16,7 +16,7 @@ use std::alloc::Global;
 fn no_answers(alloc: Global, count: usize) -> Result<Vec<Option<usize>>, NoMemory>
     ensures { IfOk result (λ found. AreTops count None found.items) }
 {
-    let mut found = Vec::new(alloc);
+    let mut found = Vec::with_capacity(alloc, count)?;
     for n in 0..count {
         found.push(None)?;
     }

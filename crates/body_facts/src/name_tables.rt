@@ -68,7 +68,7 @@ pub(crate) fn meant_of(
     requires { count ≤ 2 ^ 32 }
     ensures { IfOk result (λ found. AreValues (meant_at (cell meant.now.items) file) None count found.items) }
 {
-    let mut found = Vec::new(alloc);
+    let mut found = Vec::with_capacity(alloc, count)?;
     for n in 0..count {
         let value = meant_at(meant, file, n);
         found.push(value)?;

@@ -18,7 +18,7 @@ fn nothing(alloc: Global, count: usize) -> Result<Vec<Option<usize>>, NoMemory>
     ensures size { IfOk result (λ table. length table.items ≡ count) }
     ensures each { IfOk result (λ table. (n : ℕ) → get_or table.items n None ≡ None) }
 {
-    let mut table = Vec::new(alloc);
+    let mut table = Vec::with_capacity(alloc, count)?;
     for n in 0..count {
         table.push(None)?;
     }
@@ -60,7 +60,7 @@ pub(crate) fn latest_of(
     ensures { IfOk result (λ found. AreLatest nodes.now blocks.now (length nodes.now) found.items) }
 {
     let mut table = nothing(alloc, nodes.len())?;
-    let mut found = Vec::new(alloc);
+    let mut found = Vec::with_capacity(alloc, nodes.len())?;
     for n in 0..nodes.len() {
         let latest = latest_in(&table, number_at(blocks, n));
         found.push(latest)?;

@@ -111,7 +111,7 @@ pub fn spec_row(
     ensures size { IfOk result (λ row. length row.items ≡ length nodes.now) }
     ensures each { IfOk result (λ row. (n : ℕ) → n < length nodes.now → slice_index_or row.items n None ≡ first_from n specs.now) }
 {
-    let mut row = Vec::new(alloc);
+    let mut row = Vec::with_capacity(alloc, nodes.len())?;
     let mut at = 0;
     for n in 0..nodes.len() {
         at = next_from(specs, at, n);

@@ -43,7 +43,7 @@ pub(crate) fn number_all(
 pub(crate) fn all_uses(alloc: Global, numbers: &[usize]) -> Result<Vec<Use>, NoMemory>
     ensures { IfOk result (λ uses. AreAll numbers.now uses.items) }
 {
-    let mut uses = Vec::new(alloc);
+    let mut uses = Vec::with_capacity(alloc, numbers.len())?;
     for at in 0..numbers.len() {
         uses.push(Use {
             name: numbers[at],

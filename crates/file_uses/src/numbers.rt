@@ -118,7 +118,7 @@ pub fn number_names(alloc: Global, bytes: &[u8], tree: &FileTree) -> Result<Numb
     ensures { IfOk result (λ numbers. IsNumbering (name_in bytes.now tree.now) (length tree.now.nodes) numbers.of.items numbers.count) }
 {
     let mut names: HashMap<&[u8], usize> = HashMap::new(alloc);
-    let mut of = Vec::new(alloc);
+    let mut of = Vec::with_capacity(alloc, count_nodes(tree))?;
     let mut next = 1;
     for at in 0..count_nodes(tree) {
         let number = number_at(&mut names, bytes, tree, at, next)?;

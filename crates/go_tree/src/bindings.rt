@@ -84,6 +84,13 @@ impl Bindings {
         Bindings { uses }
     }
 
+    /// The uses, each with what it denotes, in order of file and node.
+    pub fn entries(&self) -> &[(NodeRef, Object)]
+        ensures { result.now ≡ self.now }
+    {
+        self.uses.as_slice()
+    }
+
     /// What the node denotes; `None` exactly where the list has nothing for it. It takes no memory.
     pub fn declaration(&self, at: NodeRef) -> Option<Object>
         ensures { Has self.now at result }

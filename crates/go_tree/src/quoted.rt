@@ -67,7 +67,7 @@ fn push_added(text: &mut Vec<u8>, state: Escape, b: u8) -> Result<(), NoMemory>
 fn quoted_value(alloc: Global, body: &[u8]) -> Result<Vec<u8>, NoMemory>
     ensures { IfOk result (λ text. text.items ≡ text_from Plain body.now) }
 {
-    let mut text = Vec::new(alloc);
+    let mut text = Vec::with_capacity(alloc, body.len())?;
     let mut state = Escape::Plain;
     for b in body {
         push_added(&mut text, state, *b)?;

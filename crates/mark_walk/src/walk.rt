@@ -27,7 +27,7 @@ pub struct Walk<I> {
 fn no_notes(alloc: Global, count: usize) -> Result<Vec<bool>, NoMemory>
     ensures { IfOk result (λ notes. notes.items ≡ replicate count false) }
 {
-    let mut notes = Vec::new(alloc);
+    let mut notes = Vec::with_capacity(alloc, count)?;
     for n in 0..count {
         let _ = n;
         notes.push(false)?;

@@ -21,7 +21,7 @@ pub fn fill<X, A: Copy + Drop, R: Fills<X, A>>(
 ) -> Result<Vec<A>, NoMemory>
     ensures { IfOk result (λ found. found.items ≡ values (R.rule rule.now) nodes.now) }
 {
-    let mut found = Vec::new(alloc);
+    let mut found = Vec::with_capacity(alloc, nodes.len())?;
     for n in 0..nodes.len() {
         let value = rule.value(&found, &nodes[n]);
         found.push(value)?;

@@ -36,7 +36,7 @@ fn mark(flags: &mut Vec<bool>, t: Option<usize>)
 fn no_flags(alloc: Global, count: usize) -> Result<Vec<bool>, NoMemory>
     ensures { IfOk result (λ flags. AreTops count false flags.items) }
 {
-    let mut flags = Vec::new(alloc);
+    let mut flags = Vec::with_capacity(alloc, count)?;
     for n in 0..count {
         flags.push(false)?;
     }

@@ -56,7 +56,7 @@ fn handed<A: Copy + Drop, R: Hands<A>>(
 fn all_tops<A: Copy + Drop>(alloc: Global, count: usize, top: A) -> Result<Vec<A>, NoMemory>
     ensures { IfOk result (λ found. AreTops count top found.items) }
 {
-    let mut found = Vec::new(alloc);
+    let mut found = Vec::with_capacity(alloc, count)?;
     for n in 0..count {
         found.push(top)?;
     }

@@ -38,7 +38,7 @@ fn row_of(
     requires { end ≤ 2 ^ 32 }
     ensures { IfOk result (λ row. IsRowBy (DenotesName b.now) file row.items end) }
 {
-    let mut row = Vec::new(alloc);
+    let mut row = Vec::with_capacity(alloc, end)?;
     for node in 0..end {
         let at = NodeRef {
             file,

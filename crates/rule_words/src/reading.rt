@@ -93,7 +93,7 @@ pub fn parts(
     ensures is { IfOk result (λ found. told_by (λ (v : Vec Seen). parts_in s.now v.items) found ≡ tell (so_far s.now) (parts_ask (unit_of u.now) stage block list.now)) }
     ensures over { IfOk result (λ found. IfFound found (λ v. AreSeenOf s.now v.items)) }
 {
-    let mut out = Vec::new(alloc);
+    let mut out = Vec::with_capacity(alloc, list.len())?;
     for i in 0..list.len() {
         let read = read_at(list, i);
         match part(u, s, stage, block, read) {

@@ -152,7 +152,7 @@ fn no_scopes(alloc: Global, names: usize) -> Result<Vec<Vec<usize>>, NoMemory>
     ensures size { IfOk result (λ stacks. length stacks.items ≡ names) }
     ensures empty { IfOk result (λ stacks. AllEmpty stacks.items) }
 {
-    let mut stacks = Vec::new(alloc);
+    let mut stacks = Vec::with_capacity(alloc, names)?;
     for _name in 0..names {
         let stack: Vec<usize> = Vec::new(alloc);
         stacks.push(stack)?;
@@ -176,7 +176,7 @@ pub fn denoted(
 {
     let mut visible = no_scopes(alloc, names)?;
     let mut next = 0;
-    let mut answers = Vec::new(alloc);
+    let mut answers = Vec::with_capacity(alloc, uses.len())?;
     for sought in uses {
         next = advance(declarations, first, &mut visible, next, sought.at)?;
         let answer = innermost(declarations, &mut visible, next, *sought);

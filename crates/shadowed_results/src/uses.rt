@@ -24,7 +24,7 @@ pub(crate) fn numbers_of(
 ) -> Result<Vec<usize>, NoMemory>
     ensures { IfOk result (λ numbers. numbers.items ≡ map (or_total total) functions.now) }
 {
-    let mut numbers = Vec::new(alloc);
+    let mut numbers = Vec::with_capacity(alloc, functions.len())?;
     for function in functions {
         numbers.push(or_total(total, *function))?;
     }
@@ -35,7 +35,7 @@ pub(crate) fn numbers_of(
 pub(crate) fn all_uses(alloc: Global, numbers: &[usize]) -> Result<Vec<Use>, NoMemory>
     ensures { IfOk result (λ uses. AreAll numbers.now uses.items) }
 {
-    let mut uses = Vec::new(alloc);
+    let mut uses = Vec::with_capacity(alloc, numbers.len())?;
     for at in 0..numbers.len() {
         uses.push(Use {
             name: numbers[at],

@@ -294,12 +294,15 @@ fn one_wanted(alloc: Global) -> Result<Vec<Run>, NoMemory>
     Ok(wants)
 }
 
+/// Room for the pieces of most types.
+const ROOM: usize = 8;
+
 /// The pieces of the type at the front, and the bytes after it. Each takes a byte at least.
 pub(crate) fn pieces_of(alloc: Global, bytes: &[u8]) -> Result<(Vec<Piece>, &[u8]), Unread>
     ensures { Gives (λ x. (x.0.items, x.1.now)) result (pieces_at (length bytes.now) (OneType ∷ []) bytes.now) }
 {
     let mut wants = one_wanted(alloc)?;
-    let mut row = Vec::new(alloc);
+    let mut row = Vec::with_capacity(alloc, ROOM)?;
     let mut rest = bytes;
     for _ in 0..bytes.len() {
         let next = next_wanted(&mut wants)?;

@@ -13,7 +13,7 @@ fn blank(alloc: Global, count: usize) -> Result<Vec<Vec<NodeRef>>, NoMemory>
     ensures size { IfOk result (λ groups. length groups.items ≡ count) }
     ensures empty { IfOk result (λ groups. (k : ℕ) → group_in groups.items k ≡ []) }
 {
-    let mut groups = Vec::new(alloc);
+    let mut groups = Vec::with_capacity(alloc, count)?;
     for _n in 0..count {
         groups.push(Vec::new(alloc))?;
     }

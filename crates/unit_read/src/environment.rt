@@ -28,7 +28,7 @@ pub struct Environment<'a> {
 fn path_list(alloc: Global, interfaces: &[Interface]) -> Result<Vec<&[u8]>, NoMemory>
     ensures { IfOk result (λ list. texts_of list.items ≡ interface_paths interfaces.now) }
 {
-    let mut list = Vec::new(alloc);
+    let mut list = Vec::with_capacity(alloc, interfaces.len())?;
     for interface in interfaces {
         list.push(interface.path.as_str().as_bytes())?;
     }
@@ -51,7 +51,7 @@ pub fn path_index(
 fn name_list(alloc: Global, objects: &[Exported]) -> Result<Vec<&[u8]>, NoMemory>
     ensures { IfOk result (λ list. texts_of list.items ≡ names_of objects.now) }
 {
-    let mut list = Vec::new(alloc);
+    let mut list = Vec::with_capacity(alloc, objects.len())?;
     for object in objects {
         list.push(object.name.as_str().as_bytes())?;
     }

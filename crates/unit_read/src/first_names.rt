@@ -32,7 +32,7 @@ pub fn add_name<'a, X: Copy>(
 pub fn index<'a>(alloc: Global, list: &[&'a [u8]]) -> Result<HashMap<&'a [u8], usize>, NoMemory>
     ensures { IfOk result (λ names. (q : List ℕ) → found names q ≡ place_of (texts_of list.now) q) }
 {
-    let mut names = HashMap::new(alloc);
+    let mut names = HashMap::with_capacity(alloc, list.len())?;
     for place in 0..list.len() {
         add_name(&mut names, list[place], place)?;
     }

@@ -1,16 +1,16 @@
 -- Flags of what stands in a list.
-use Rattle.std.proofs.Common.{◌≡◌, ℕ, zero, suc, ◌+◌, ◌||◌, Bool, true, false, cond, List, [], ◌∷◌, length, map, slice_get, slice_index_or, is_some, Option, Some, None, option_and_then, option_map, refl, sym, ap, ◌∙◌}
+use Rattle.std.proofs.Common.{◌≡◌, ℕ, zero, suc, ◌+◌, ◌||◌, Bool, true, false, cond, List, [], ◌∷◌, length, map, slice_get, slice_index_or, is_some, Option, Some, None, option_and_then, option_map, refl, sym, ap, ◌∙◌, arith}
 use Rattle.std.specs.Global.{Vec}
 use Rattle.std.specs.List.{position_from}
 use Rattle.std.specs.Option.{option_map_or}
-use Rattle.std.proofs.lemmas.Option.{slice_get-map}
+use Rattle.std.proofs.lemmas.Option.{slice_get-map, slice_get_past}
 use Rattle.go_tree.specs.declared.tree.FileTree.{FileTree}
 use Rattle.go_tree.specs.declared.tree.Node.{Node}
 use Rattle.go_tree.specs.declared.tree.NodeRef.{NodeRef}
 use Rattle.object_order.specs.Views.{same_key}
 use Rattle.unit_read.specs.Rows.{AreRows}
 use Rattle.unit_read.specs.Subjects.{cell, flag}
-use Rattle.unit_read.specs.Units.{is_this, is_among}
+use Rattle.unit_read.specs.Units.{nodes_of, is_this, is_among}
 use Rattle.unit_rows.specs.Rows.{first_in}
 use Rattle.unit_rows.specs.Tables.{some_node, items_of, flags_of, is_listed}
 use Rattle.unit_rows.proofs.ReadLemmas.{firsts_read, first_at, in_tree}
@@ -49,6 +49,19 @@ among at (o ∷ list) i = by (same_key (at.file, at.node) (o.file, o.node)) (amo
       → is_some (cond b (Some i) (position_from (is_this at) (i + 1) (map some_node list))) ≡ (b || is_among at list)
   by true later = refl
   by false later = later
+
+-- in an empty list nothing does
+none_in : (at : NodeRef) (o : Option Node) → option_map_or (λ (node : Node). is_among at []) o false ≡ false
+none_in at None = refl
+none_in at (Some node) = refl
+
+pub none_listed : (trees : List FileTree) (list : List NodeRef) (flags : List (Vec Bool)) (at : NodeRef) → length list ≡ 0 → flags ≡ [] → flag flags at ≡ is_listed trees list at
+none_listed trees list flags at empty none =
+    ap (λ (rows : List (Vec Bool)). flag rows at) none
+    ∙ (ap (λ (o : Option (Vec Bool)). option_map_or (λ (row : Vec Bool). slice_index_or row.items at.node false) o false) (slice_get_past [] at.file (omega arith)) ∙ sym (by list empty)) where
+      by : (xs : List NodeRef) → length xs ≡ 0 → is_listed trees xs at ≡ false
+      by [] e = none_in at (slice_get (nodes_of (slice_get trees at.file)) at.node)
+      by (x ∷ xs) e = absurd (omega (arith, e))
 
 pub listed_read : (trees : List FileTree) (list : List NodeRef) (nodes : List (Option NodeRef)) (rows : List (Vec (Option ℕ))) (flags : List (Vec Bool)) → nodes ≡ map some_node list
     → AreRows (first_in nodes) trees rows (length trees) → map items_of flags ≡ map flags_of rows → (at : NodeRef) → flag flags at ≡ is_listed trees list at

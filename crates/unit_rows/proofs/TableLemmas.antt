@@ -14,7 +14,7 @@ use Rattle.unit_rows.specs.Tables.{row_in, PutsAt, PutsIn}
 use Rattle.unit_rows.proofs.ListLemmas.{got}
 
 -- what is said of the nodes of a file
-abbrev pub of_node : (NodeRef → Option ℕ) → ℕ → FileTree → ℕ → Option ℕ
+abbrev pub of_node : {X : Type 0} → (NodeRef → Option X) → ℕ → FileTree → ℕ → Option X
 of_node says f tree n = says (place f n)
 
 pub not_put : {X : Type 0} (o : Option X) (x : X) → put_at o false x ≡ o
@@ -28,7 +28,7 @@ first_put (Some y) true x = refl
 first_put (Some y) false x = refl
 
 -- the same is said
-pub rows_same : (trees : List FileTree) (rows : List (Vec (Option ℕ))) (count : ℕ) (was now : NodeRef → Option ℕ) → ((q : NodeRef) → now q ≡ was q)
+pub rows_same : {X : Type 0} (trees : List FileTree) (rows : List (Vec (Option X))) (count : ℕ) (was now : NodeRef → Option X) → ((q : NodeRef) → now q ≡ was q)
     → AreRows (of_node was) trees rows count → AreRows (of_node now) trees rows count
 rows_same trees rows count was now same are = record {
   size = are.size;
@@ -41,15 +41,15 @@ rows_same trees rows count was now same are = record {
 abbrev key_of : NodeRef → ℕ × ℕ
 key_of at = (at.file, at.node)
 
-module _ (trees : List FileTree) (old new : List (Vec (Option ℕ))) (at : NodeRef) (value : ℕ) (was now : NodeRef → Option ℕ)
+module _ {X : Type 0} (trees : List FileTree) (old new : List (Vec (Option X))) (at : NodeRef) (value : X) (was now : NodeRef → Option X)
     (are : AreRows (of_node was) trees old (length trees)) (puts : PutsIn old new at.file at.node value)
     (says : (q : NodeRef) → now q ≡ put_at (was q) (same_key (key_of at) (key_of q)) value)
-    (f : ℕ) (tree : FileTree) (row before : Vec (Option ℕ)) (there : slice_get trees f ≡ Some tree) (stands : slice_get new f ≡ Some row) (stood : slice_get old f ≡ Some before) where
+    (f : ℕ) (tree : FileTree) (row before : Vec (Option X)) (there : slice_get trees f ≡ Some tree) (stands : slice_get new f ≡ Some row) (stood : slice_get old f ≡ Some before) where
   new_row : row_in new f ≡ row.items
-  new_row = ap (λ (o : Option (Vec (Option ℕ))). option_map_or (λ (r : Vec (Option ℕ)). r.items) o []) stands
+  new_row = ap (λ (o : Option (Vec (Option X))). option_map_or (λ (r : Vec (Option X)). r.items) o []) stands
 
   old_row : row_in old f ≡ before.items
-  old_row = ap (λ (o : Option (Vec (Option ℕ))). option_map_or (λ (r : Vec (Option ℕ)). r.items) o []) stood
+  old_row = ap (λ (o : Option (Vec (Option X))). option_map_or (λ (r : Vec (Option X)). r.items) o []) stood
 
   row_before : IsRow (λ n. was (place f n)) before.items (length tree.nodes)
   row_before = are.each f tree before there stood
@@ -59,15 +59,15 @@ module _ (trees : List FileTree) (old new : List (Vec (Option ℕ))) (at : NodeR
   here_at is =
       let same : at.file ≡ f = eqb-true at.file f is in
       let moved : PutsAt (row_in old f) (row_in new f) at.node value = subst (λ (g : ℕ). PutsAt (row_in old g) (row_in new g) at.node value) same puts.here in
-      subst (λ (xs : List (Option ℕ)). PutsAt before.items xs at.node value) new_row
-      (subst (λ (xs : List (Option ℕ)). PutsAt xs (row_in new f) at.node value) old_row moved)
+      subst (λ (xs : List (Option X)). PutsAt before.items xs at.node value) new_row
+      (subst (λ (xs : List (Option X)). PutsAt xs (row_in new f) at.node value) old_row moved)
 
   here : nat_eq at.file f ≡ true → IsRow (λ n. now (place f n)) row.items (length tree.nodes)
   here is = record {
     size = (here_at is).size ∙ row_before.size;
     each = λ n low.
         (here_at is).each n (let s = row_before.size in omega arith)
-        ∙ (ap (λ (o : Option ℕ). put_at o (at.node == n) value) (row_before.each n low)
+        ∙ (ap (λ (o : Option X). put_at o (at.node == n) value) (row_before.each n low)
         ∙ sym (says (place f n) ∙ ap (λ (b : Bool). put_at (was (place f n)) (b && nat_eq at.node n) value) is));
   }
 
@@ -79,7 +79,7 @@ module _ (trees : List FileTree) (old new : List (Vec (Option ℕ))) (at : NodeR
   elsewhere is = record {
     size = ap length (sym (same_row is)) ∙ row_before.size;
     each = λ n low.
-        ap (λ (xs : List (Option ℕ)). slice_index_or xs n None) (sym (same_row is))
+        ap (λ (xs : List (Option X)). slice_index_or xs n None) (sym (same_row is))
         ∙ (row_before.each n low
         ∙ sym (says (place f n) ∙ (ap (λ (b : Bool). put_at (was (place f n)) (b && nat_eq at.node n) value) is ∙ not_put (was (place f n)) value)));
   }
@@ -92,7 +92,7 @@ module _ (trees : List FileTree) (old new : List (Vec (Option ℕ))) (at : NodeR
   put_row = by_file (nat_eq at.file f) refl
 
 -- one value more
-pub put_more : (trees : List FileTree) (old new : List (Vec (Option ℕ))) (at : NodeRef) (value : ℕ) (was now : NodeRef → Option ℕ) → AreRows (of_node was) trees old (length trees)
+pub put_more : {X : Type 0} (trees : List FileTree) (old new : List (Vec (Option X))) (at : NodeRef) (value : X) (was now : NodeRef → Option X) → AreRows (of_node was) trees old (length trees)
     → PutsIn old new at.file at.node value → ((q : NodeRef) → now q ≡ put_at (was q) (same_key (key_of at) (key_of q)) value) → AreRows (of_node now) trees new (length trees)
 put_more trees old new at value was now are puts says = record {
   size = puts.size ∙ are.size;

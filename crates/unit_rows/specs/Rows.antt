@@ -1,6 +1,6 @@
 -- What is said of the nodes of a package's files.
-use Rattle.std.specs.Prelude.{◌≡◌, ℕ, ◌+◌, if◌then◌else◌, List, Option, Some, option_map}
-use Rattle.std.specs.List.{Contains, position_from}
+use Rattle.std.specs.Prelude.{ℕ, ◌+◌, if◌then◌else◌, List, Option, Some, option_map}
+use Rattle.std.specs.List.{position_from}
 use Rattle.go_tree.specs.declared.bindings.Object.{Object}
 use Rattle.go_tree.specs.declared.tree.FileTree.{FileTree}
 use Rattle.go_tree.specs.declared.tree.NodeRef.{NodeRef}
@@ -10,10 +10,6 @@ use Rattle.const_tree.specs.Constants.{specs_in, first_from}
 use Rattle.unit_read.specs.declared.place.Place.{Place}
 use Rattle.unit_read.specs.Places.{place_of}
 use Rattle.unit_read.specs.Units.{Unit, object_in, is_this, is_top, first_place}
-
--- the uses have one object for a node at most
-abbrev pub AreSingle : List (NodeRef × Object) → Type 0
-AreSingle uses = (at : NodeRef) (one other : Object) → Contains uses (at, one) → Contains uses (at, other) → one ≡ other
 
 -- ---- what is said of the node of a number in a file
 

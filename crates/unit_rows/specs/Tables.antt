@@ -12,18 +12,18 @@ abbrev pub row_in : {X : Type 0} → List (Vec X) → ℕ → List X
 row_in {X} rows f = option_map_or (λ (row : Vec X). row.items) (slice_get rows f) []
 
 -- the value stands in the row at this number, unless one stood there
-pub record PutsAt (old new : List (Option ℕ)) (n value : ℕ) : Type 0 where
+pub record PutsAt {X : Type 0} (old new : List (Option X)) (n : ℕ) (value : X) : Type 0 where
   pub size : length new ≡ length old
   pub each : (m : ℕ) → m < length old → slice_index_or new m None ≡ put_at (slice_index_or old m None) (n == m) value
 
 -- the value stands in the row of this file, and the other rows are as they were
-pub record PutsIn (old new : List (Vec (Option ℕ))) (f n value : ℕ) : Type 0 where
+pub record PutsIn {X : Type 0} (old new : List (Vec (Option X))) (f n : ℕ) (value : X) : Type 0 where
   pub size : length new ≡ length old
   pub here : PutsAt (row_in old f) (row_in new f) n value
   pub others : (g : ℕ) → (g ≡ f → ⊥) → row_in new g ≡ row_in old g
 
 -- nothing is said of any node
-abbrev pub nothing : ℕ → FileTree → ℕ → Option ℕ
+abbrev pub nothing : {X : Type 0} → ℕ → FileTree → ℕ → Option X
 nothing f tree n = None
 
 -- what stands next in a list has its place put

@@ -58,7 +58,7 @@ fn named_row(
     requires few { end ≤ 2 ^ 32 }
     ensures { IfOk result (λ row. IsRow (λ n. named_at (unit_of s.now) (place file n)) row.items end) }
 {
-    let mut row = Vec::new(alloc);
+    let mut row = Vec::with_capacity(alloc, end)?;
     for node in 0..end {
         let at = NodeRef {
             file,

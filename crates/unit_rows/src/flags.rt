@@ -54,7 +54,7 @@ fn flag_rows(alloc: Global, rows: &[Vec<Option<usize>>]) -> Result<Vec<Vec<bool>
     Ok(flags)
 }
 
-/// For each node of each file whether it stands in a list.
+/// For each node of each file whether it stands in a list. Of an empty list nothing is kept.
 pub fn listed_rows(
     alloc: Global,
     trees: &[FileTree],
@@ -62,6 +62,9 @@ pub fn listed_rows(
 ) -> Result<Vec<Vec<bool>>, NoMemory>
     ensures { IfOk result (λ flags. (at : NodeRef) → flag flags.items at ≡ is_listed trees.now list.now at) }
 {
+    if list.is_empty() {
+        return Ok(Vec::new(alloc));
+    }
     let nodes = some_nodes(alloc, list)?;
     let rows = first_rows(alloc, trees, &nodes)?;
     let flags = flag_rows(alloc, &rows)?;

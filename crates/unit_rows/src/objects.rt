@@ -1,68 +1,43 @@
 //! What the nodes of a package denote.
-ghost use Rattle.std.specs.Prelude.{◌≡◌, ◌≤◌, ◌^◌, IfOk, length};
-ghost use Rattle.object_order.specs.Spots.{place};
-ghost use Rattle.unit_read.specs.Rows.{IsRow, AreRows};
-ghost use Rattle.unit_read.specs.Units.{object_in};
-ghost use Rattle.package_objects.specs.Declares.{AreSmall};
-ghost use Rattle.unit_rows.specs.Rows.{AreSingle, object_for};
+ghost use Rattle.std.specs.Prelude.{◌≡◌, IfOk, length};
+ghost use Rattle.unit_read.specs.Rows.{AreRows};
+ghost use Rattle.unit_rows.specs.Rows.{object_for};
+ghost use Rattle.unit_rows.specs.Tables.{PutsIn};
 
+use crate::tables::{blank_rows, put_in};
 use go_tree::{Bindings, FileTree, NodeRef, Object};
 use gv_base::NoMemory;
 use std::alloc::Global;
 
-/// What a node denotes.
-fn object_of(uses: &Bindings, file: u32, node: u32) -> Option<Object>
-    requires { AreSingle uses.now }
-    ensures { result ≡ object_in uses.now (place file node) }
+/// Puts what a use denotes.
+fn put_use(rows: &mut Vec<Vec<Option<Object>>>, entry: (NodeRef, Object))
+    ensures { PutsIn rows.old.items rows.new.items entry.0.file entry.0.node entry.1 }
 {
-    uses.declaration(NodeRef { file, node })
+    put_in(rows, entry.0, entry.1);
 }
 
-fn row_of(
+fn rows_of(
     alloc: Global,
-    uses: &Bindings,
-    file: u32,
-    end: usize,
-) -> Result<Vec<Option<Object>>, NoMemory>
-    requires single { AreSingle uses.now }
-    requires few { end ≤ 2 ^ 32 }
-    ensures { IfOk result (λ row. IsRow (λ n. object_in uses.now (place file n)) row.items end) }
+    entries: &[(NodeRef, Object)],
+    trees: &[FileTree],
+) -> Result<Vec<Vec<Option<Object>>>, NoMemory>
+    ensures { IfOk result (λ rows. AreRows (object_for entries.now) trees.now rows.items (length trees.now)) }
 {
-    let mut row = Vec::with_capacity(alloc, end)?;
-    for node in 0..end {
-        row.push(object_of(uses, file, node as u32))?;
+    let mut rows = blank_rows(alloc, trees)?;
+    for k in 0..entries.len() {
+        put_use(&mut rows, entries[k]);
     }
-    Ok(row)
+    Ok(rows)
 }
 
-fn tree_row(
-    alloc: Global,
-    uses: &Bindings,
-    file: u32,
-    tree: &FileTree,
-) -> Result<Vec<Option<Object>>, NoMemory>
-    requires single { AreSingle uses.now }
-    requires small { length tree.now.nodes ≤ 2 ^ 32 }
-    ensures { IfOk result (λ row. IsRow (object_for uses.now file tree.now) row.items (length tree.now.nodes)) }
-{
-    let row = row_of(alloc, uses, file, tree.nodes.as_slice().len())?;
-    Ok(row)
-}
-
-/// For each node of each file what it denotes.
+/// For each node of each file what it denotes. One walk over the uses puts each into its cell.
 pub fn object_rows(
     alloc: Global,
     uses: &Bindings,
     trees: &[FileTree],
 ) -> Result<Vec<Vec<Option<Object>>>, NoMemory>
-    requires single { AreSingle uses.now }
-    requires small { AreSmall trees.now }
-    requires few { length trees.now ≤ 2 ^ 32 }
     ensures { IfOk result (λ rows. AreRows (object_for uses.now) trees.now rows.items (length trees.now)) }
 {
-    let mut rows = Vec::new(alloc);
-    for file in 0..trees.len() {
-        rows.push(tree_row(alloc, uses, file as u32, &trees[file])?)?;
-    }
+    let rows = rows_of(alloc, uses.entries(), trees)?;
     Ok(rows)
 }

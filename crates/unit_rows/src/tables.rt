@@ -7,7 +7,7 @@ use go_tree::{FileTree, NodeRef};
 use gv_base::NoMemory;
 use std::alloc::Global;
 
-fn blank_row(alloc: Global, count: usize) -> Result<Vec<Option<usize>>, NoMemory>
+fn blank_row<T: Copy>(alloc: Global, count: usize) -> Result<Vec<Option<T>>, NoMemory>
     ensures { IfOk result (λ row. IsRow (λ n. None) row.items count) }
 {
     let mut row = Vec::with_capacity(alloc, count)?;
@@ -17,7 +17,7 @@ fn blank_row(alloc: Global, count: usize) -> Result<Vec<Option<usize>>, NoMemory
     Ok(row)
 }
 
-fn tree_blanks(alloc: Global, tree: &FileTree) -> Result<Vec<Option<usize>>, NoMemory>
+fn tree_blanks<T: Copy>(alloc: Global, tree: &FileTree) -> Result<Vec<Option<T>>, NoMemory>
     ensures { IfOk result (λ row. IsRow (λ n. None) row.items (length tree.now.nodes)) }
 {
     let row = blank_row(alloc, tree.nodes.as_slice().len())?;
@@ -25,10 +25,13 @@ fn tree_blanks(alloc: Global, tree: &FileTree) -> Result<Vec<Option<usize>>, NoM
 }
 
 /// For each node of each file nothing.
-pub fn blank_rows(alloc: Global, trees: &[FileTree]) -> Result<Vec<Vec<Option<usize>>>, NoMemory>
+pub fn blank_rows<T: Copy>(
+    alloc: Global,
+    trees: &[FileTree],
+) -> Result<Vec<Vec<Option<T>>>, NoMemory>
     ensures { IfOk result (λ rows. AreRows nothing trees.now rows.items (length trees.now)) }
 {
-    let mut rows = Vec::new(alloc);
+    let mut rows = Vec::with_capacity(alloc, trees.len())?;
     for file in 0..trees.len() {
         rows.push(tree_blanks(alloc, &trees[file])?)?;
     }
@@ -36,7 +39,7 @@ pub fn blank_rows(alloc: Global, trees: &[FileTree]) -> Result<Vec<Vec<Option<us
 }
 
 /// Puts a value into a row, unless one stands there.
-fn put(row: &mut Vec<Option<usize>>, n: usize, value: usize)
+fn put<T: Copy>(row: &mut Vec<Option<T>>, n: usize, value: T)
     ensures { PutsAt row.old.items row.new.items n value }
 {
     if n < row.len() && row[n].is_none() {
@@ -44,7 +47,7 @@ fn put(row: &mut Vec<Option<usize>>, n: usize, value: usize)
     }
 }
 
-fn put_row(rows: &mut Vec<Vec<Option<usize>>>, file: usize, n: usize, value: usize)
+fn put_row<T: Copy>(rows: &mut Vec<Vec<Option<T>>>, file: usize, n: usize, value: T)
     requires { file < length rows.old.items }
     ensures { PutsIn rows.old.items rows.new.items file n value }
 {
@@ -52,7 +55,7 @@ fn put_row(rows: &mut Vec<Vec<Option<usize>>>, file: usize, n: usize, value: usi
 }
 
 /// Puts a value into the table at a node, unless one stands there or there is no such node.
-pub fn put_in(rows: &mut Vec<Vec<Option<usize>>>, at: NodeRef, value: usize)
+pub fn put_in<T: Copy>(rows: &mut Vec<Vec<Option<T>>>, at: NodeRef, value: T)
     ensures { PutsIn rows.old.items rows.new.items at.file at.node value }
 {
     if (at.file as usize) < rows.len() {

@@ -37,7 +37,7 @@ fn opened_node(alloc: Global, node: &Node) -> Result<Node, NoMemory>
 fn opened_nodes(alloc: Global, nodes: &[Node]) -> Result<Vec<Node>, NoMemory>
     ensures { IfOk result (λ list. list.items ≡ map opened_node nodes.now) }
 {
-    let mut list = Vec::new(alloc);
+    let mut list = Vec::with_capacity(alloc, nodes.len())?;
     for node in nodes {
         let one = opened_node(alloc, node)?;
         list.push(one)?;

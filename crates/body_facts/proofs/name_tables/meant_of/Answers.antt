@@ -5,7 +5,7 @@ use Rattle.body_facts.proofs.ValueLemmas.{no_values, value_more, value_all}
 use Rattle.body_facts.proofs.name_tables.meant_of.Goals as goal
 
 pub loop-n-init : goal.loop-n-init
-loop-n-init c = no_values (meant_at (cell c.args.meant.now.items) c.args.file) None c.new-found.result.items c.new-found.ensures.items
+loop-n-init c = no_values (meant_at (cell c.args.meant.now.items) c.args.file) None c.in_ok-found.found.items c.in_ok-found.ensures.items
 
 pub loop-n-preserved : goal.loop-n-preserved
 loop-n-preserved c =

@@ -8,7 +8,7 @@ loop-sought-init c = record {
   size = c.in_ok-visible.ensures.size;
   within = omega arith;
   walked = walk_begins c.args.declarations.now c.args.uses.now c.in_ok-visible.visible.items c.in_ok-visible.ensures.empty;
-  count = omega (arith, c.new-answers.ensures.len);
+  count = omega (arith, c.in_ok-answers.ensures.len);
   so_far = λ j v never is. absurd (omega arith);
 }
 

@@ -4,16 +4,12 @@ use Rattle.unit_read.specs.Index.{texts_of}
 use Rattle.unit_read.specs.Subjects.{top_name}
 use Rattle.unit_read.specs.Units.{named_by, type_name_at}
 use Rattle.unit_rows.specs.Drafts.{package_unit}
-use Rattle.unit_rows.proofs.UseLemmas.{single_in_order}
 use Rattle.unit_rows.proofs.NumberLemmas.{local_there}
 use Rattle.unit_rows.proofs.ReadLemmas.{objects_read, places_read, specs_read, leads_read, copies_read, locals_read}
 use Rattle.unit_read.specs.Entries.{entry}
 use Rattle.type_model.specs.declared.term.TypeName.{TypeName}
 use Rattle.go_tree.specs.declared.tree.NodeRef.{NodeRef}
 use Rattle.unit_rows.proofs.reader.read_unit.Goals as goal
-
-pub object_rows-requires-clause-single : goal.object_rows-requires-clause-single
-object_rows-requires-clause-single c = single_in_order c.args.uses.now c.requires.uses
 
 pub local_rows-requires : goal.local_rows-requires
 local_rows-requires c =
