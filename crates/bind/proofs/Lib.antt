@@ -8,3 +8,4 @@ pub mod ImportLemmas
 pub mod StepLemmas
 pub mod ReadLemmas
 pub mod BindLemmas
+pub mod UndeclaredLemmas

@@ -3,6 +3,7 @@ pub mod Imports
 pub mod Regions
 pub mod Universe
 pub mod Denoting
+pub mod Undeclared
 pub mod Tables
 pub mod Package
 pub mod Places

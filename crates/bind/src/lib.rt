@@ -9,8 +9,10 @@ mod places;
 mod table;
 mod tops;
 mod universe;
+mod unknown;
 mod uses;
 
 pub use imports::{last_segment, specs_in};
 pub use laws::one_binding;
+pub use unknown::undeclared;
 pub use uses::bind;
