@@ -1,0 +1,8 @@
+//! Lock types: those whose values must not be copied once they are in use.
+#![tactic(auto)]
+
+mod flags;
+mod parts;
+mod plain;
+
+pub use flags::lock_types;
