@@ -1,0 +1,4 @@
+pub mod EachLemmas
+pub mod OneLemmas
+pub mod StandLemmas
+pub mod FreeLemmas

@@ -1,0 +1,9 @@
+//! The analyzers, by their numbers.
+#![tactic(auto)]
+
+mod free;
+mod laws;
+mod suite;
+
+pub use laws::{findings_stand, fixes_are_own, one_found};
+pub use suite::run;
