@@ -1,0 +1,59 @@
+-- Flags of all types of a table, and what they tell of an argument.
+use Rattle.std.specs.Prelude.{◌≡◌, ◌↔◌, ℕ, Bool, true, false, List}
+use Rattle.std.specs.Option.{option_map_or}
+use Rattle.gv_base.specs.Kinds.{is_integer}
+use Rattle.type_model.specs.declared.table.TypeTable.{TypeTable}
+use Rattle.type_model.specs.GoTypes.{GoType, BasicType, DefinedType, PointerTo, SliceOf, ArrayOf, MapOf, ChanOf, FuncOf, StructOf, InterfaceOf}
+use Rattle.type_model.specs.Declarations.{Declarations, under_of}
+use Rattle.type_model.specs.Tables.{count, declarations_in}
+use Rattle.vet_printf.specs.declared.asking.Wanted.TheVariants as w
+use Rattle.vet_printf.specs.declared.fault.Argument.{Argument}
+use Rattle.vet_printf.specs.declared.flagged.Flags.{Flags}
+use Rattle.vet_printf.specs.declared.verb.Class.{Class}
+use Rattle.vet_printf.specs.declared.verb.Class.TheVariants as c
+use Rattle.vet_printf.specs.Faults.{in_class}
+use Rattle.vet_printf.specs.Fitting.{Has, Suits}
+use Rattle.vet_printf.specs.InTable.{AreEach, ty, IsSuited}
+
+-- ---- what an argument of a type is
+
+abbrev pub is_integer_form : GoType → Bool
+is_integer_form (BasicType kind) = is_integer kind
+is_integer_form (DefinedType name) = false
+is_integer_form (PointerTo of) = false
+is_integer_form (SliceOf of) = false
+is_integer_form (ArrayOf size of) = false
+is_integer_form (MapOf key of) = false
+is_integer_form (ChanOf direction of) = false
+is_integer_form (FuncOf of) = false
+is_integer_form (StructOf fields) = false
+is_integer_form (InterfaceOf methods) = false
+
+abbrev pub is_integer_type : Declarations → GoType → Bool
+is_integer_type ds of = option_map_or is_integer_form (under_of ds of) false
+
+-- Which verbs take an argument of the type.
+pub record IsArgumentOf (ds : Declarations) (of : GoType) (x : Argument) : Type 0 where
+  pub integer : x.integer ≡ is_integer_type ds of
+  pub error : (x.error ≡ true) ↔ Has ds of w.Error
+  pub classes : (class : Class) → (in_class x.classes class ≡ true) ↔ Suits ds class of
+
+-- ---- flags
+
+abbrev pub IsErrorAt : TypeTable → ℕ → Bool → Type 0
+IsErrorAt t n b = (b ≡ true) ↔ Has (declarations_in t) (ty t n) w.Error
+
+abbrev pub row_in : Flags → Class → List Bool
+row_in x c.Boolean = x.boolean.items
+row_in x c.Integer = x.integer.items
+row_in x c.IntegerPointer = x.integer_pointer.items
+row_in x c.IntegerTextPointer = x.integer_text_pointer.items
+row_in x c.IntegerText = x.integer_text.items
+row_in x c.Text = x.text.items
+row_in x c.Reference = x.reference.items
+row_in x c.Nothing = x.nothing.items
+
+-- the flags of all types
+pub record AreFlags (t : TypeTable) (x : Flags) : Type 0 where
+  pub errors : AreEach (IsErrorAt t) (count t) x.errors.items
+  pub rows : (class : Class) → AreEach (IsSuited t class) (count t) (row_in x class)

@@ -1,0 +1,32 @@
+-- What is said of a fault.
+use Rattle.std.specs.Prelude.{ℕ, List, [], ◌∷◌, ◌++◌, codes, encode_utf8}
+use Rattle.std.specs.Fmt.{decimal}
+use Rattle.vet_printf.specs.declared.fault.Fault.{Fault}
+use Rattle.vet_printf.specs.declared.fault.Fault.TheVariants as f
+
+abbrev pub unknown_text : ℕ → List ℕ
+unknown_text verb = codes "format has unknown verb %" ++ encode_utf8 verb
+
+abbrev pub verb_text : ℕ → List ℕ → List ℕ
+verb_text verb rest = codes "format %" ++ (encode_utf8 verb ++ rest)
+
+abbrev pub flag_rest : ℕ → List ℕ
+flag_rest flag = codes " does not take flag " ++ flag ∷ []
+
+abbrev pub reads_text : ℕ → ℕ → List ℕ
+reads_text n count = codes "format reads argument #" ++ (decimal n ++ (codes ", but call has " ++ decimal count))
+
+abbrev pub star_text : List ℕ → List ℕ
+star_text name = codes "format * has argument " ++ (name ++ codes " that is not int")
+
+abbrev pub type_rest : List ℕ → List ℕ
+type_rest name = codes " has argument " ++ (name ++ codes " of wrong type")
+
+-- the text of a fault, where the argument that has it is spelled so
+abbrev pub fault_text : List ℕ → Fault → List ℕ
+fault_text name (f.Unknown verb) = unknown_text verb
+fault_text name (f.Flag verb flag) = verb_text verb (flag_rest flag)
+fault_text name f.Errorf = codes "format %w is only for errorf"
+fault_text name (f.Reads n count) = reads_text n count
+fault_text name (f.Star n) = star_text name
+fault_text name (f.WrongType verb n) = verb_text verb (type_rest name)

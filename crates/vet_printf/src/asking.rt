@@ -1,0 +1,158 @@
+//! Which methods that print types have.
+ghost use Rattle.std.specs.Prelude.{◌≡◌, ◌<◌, ◌^◌, ◌&&◌, ◌||◌, codes, map, IfOk};
+ghost use Rattle.std.specs.List.{list_any};
+ghost use Rattle.std.specs.Str.{bytes_eq};
+ghost use Rattle.type_model.specs.GoTypes.{type_at, types_at, signature_of, AreBelow, SignatureBelow, MethodsBelow};
+ghost use Rattle.type_model.specs.Parts.{method_of};
+ghost use Rattle.type_model.specs.Tables.{IsTable, types_in, count};
+ghost use Rattle.vet_printf.specs.Fitting.{is_text_kind, is_text, are_none, are_one_text, gives_text, is_wanted};
+ghost use Rattle.vet_printf.specs.InTable.{AreEach, IsAsked};
+
+use gv_base::{Kind, NoMemory};
+use method_sets::method_set;
+use std::alloc::Global;
+use type_model::{Method, Signature, Term, TypeId, TypeTable};
+
+/// A method that is asked for.
+#[derive(Clone, Copy, Drop)]
+pub enum Wanted {
+    Format,
+    /// `Error() string` or `String() string`.
+    Text,
+    /// `Error() string`.
+    Error,
+}
+
+/// Which of them a type has.
+#[derive(Clone, Copy, Drop)]
+pub struct Asked {
+    pub format: bool,
+    pub text: bool,
+    pub error: bool,
+}
+
+// ---- a method
+
+fn is_text_kind(kind: Kind) -> bool
+    ensures { result ≡ is_text_kind kind }
+{
+    matches!(kind, Kind::Text)
+}
+
+fn is_text(t: &TypeTable, of: TypeId) -> bool
+    requires table { IsTable t.now }
+    requires within { of.0 < count t.now }
+    ensures { result ≡ is_text (type_at (types_in t.now) of) }
+{
+    match t.term(of) {
+        Term::Basic(kind) => is_text_kind(*kind),
+        Term::Defined(_) => false,
+        Term::Pointer(_) => false,
+        Term::Slice(_) => false,
+        Term::Array(_, _) => false,
+        Term::Map(_, _) => false,
+        Term::Chan(_, _) => false,
+        Term::Func(_) => false,
+        Term::Struct(_) => false,
+        Term::Interface(_) => false,
+    }
+}
+
+#[tactic(auto, using(crate::proofs::AskLemmas::none_counted))]
+fn are_none(t: &TypeTable, types: &[TypeId]) -> bool
+    ensures { result ≡ are_none (types_at (types_in t.now) types.now) }
+{
+    let _ = t;
+    types.len() == 0
+}
+
+fn are_one_text(t: &TypeTable, types: &[TypeId]) -> bool
+    requires table { IsTable t.now }
+    requires below { AreBelow (count t.now) types.now }
+    ensures { result ≡ are_one_text (types_at (types_in t.now) types.now) }
+{
+    match types {
+        [] => false,
+        [of, rest @ ..] => is_text(t, *of) && are_none(t, rest),
+    }
+}
+
+fn gives_text(t: &TypeTable, of: &Signature) -> bool
+    requires table { IsTable t.now }
+    requires below { SignatureBelow (count t.now) of.now }
+    ensures { result ≡ gives_text (signature_of (types_in t.now) of.now) }
+{
+    are_none(t, of.params.as_slice()) && are_one_text(t, of.results.as_slice())
+}
+
+fn is_named(m: &Method, name: &str) -> bool
+    ensures { result ≡ bytes_eq m.now.name name.now }
+{
+    m.name.as_str() == name
+}
+
+fn is_printing(m: &Method) -> bool
+    ensures { result ≡ (bytes_eq m.now.name (codes "Error") || bytes_eq m.now.name (codes "String")) }
+{
+    is_named(m, "Error") || is_named(m, "String")
+}
+
+fn is_wanted(t: &TypeTable, wanted: Wanted, m: &Method) -> bool
+    requires table { IsTable t.now }
+    requires below { SignatureBelow (count t.now) m.now.of }
+    ensures { result ≡ is_wanted wanted (method_of (types_in t.now) m.now) }
+{
+    match wanted {
+        Wanted::Format => is_named(m, "Format"),
+        Wanted::Text => is_printing(m) && gives_text(t, &m.of),
+        Wanted::Error => is_named(m, "Error") && gives_text(t, &m.of),
+    }
+}
+
+// ---- the methods of a type
+
+fn any_wanted(t: &TypeTable, wanted: Wanted, methods: &[Method]) -> bool
+    requires table { IsTable t.now }
+    requires below { MethodsBelow (count t.now) methods.now }
+    ensures { result ≡ list_any (is_wanted wanted) (map (method_of (types_in t.now)) methods.now) }
+{
+    for m in methods {
+        if is_wanted(t, wanted, m) {
+            return true;
+        }
+    }
+    false
+}
+
+fn asked_of(alloc: Global, t: &TypeTable, id: TypeId) -> Result<Asked, NoMemory>
+    requires table { IsTable t.now }
+    requires within { id.0 < count t.now }
+    ensures { IfOk result (IsAsked t.now id.0) }
+{
+    let methods = method_set(alloc, t, id)?;
+    Ok(Asked {
+        format: any_wanted(t, Wanted::Format, &methods),
+        text: any_wanted(t, Wanted::Text, &methods),
+        error: any_wanted(t, Wanted::Error, &methods),
+    })
+}
+
+pub(crate) fn count_types(t: &TypeTable) -> usize
+    ensures { result ≡ count t.now }
+{
+    t.terms().len()
+}
+
+/// For each type of the table the methods that it has.
+pub(crate) fn all_asked(alloc: Global, t: &TypeTable) -> Result<Vec<Asked>, NoMemory>
+    requires table { IsTable t.now }
+    requires few { count t.now < 2 ^ 32 }
+    ensures { IfOk result (λ list. AreEach (IsAsked t.now) (count t.now) list.items) }
+{
+    let mut list = Vec::new(alloc);
+    for n in 0..count_types(t) {
+        let one = asked_of(alloc, t, TypeId(n as u32))?;
+        list.push(one)?;
+    }
+    Ok(list)
+}
