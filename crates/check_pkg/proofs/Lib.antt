@@ -14,6 +14,7 @@ pub mod InitialLemmas
 pub mod LateLemmas
 pub mod BodyLemmas
 pub mod PackageLemmas
+pub mod TypedLaws
 pub mod ReadLemmas
 pub mod StandLemmas
 pub mod Uniqueness

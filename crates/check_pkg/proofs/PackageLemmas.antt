@@ -1,5 +1,5 @@
 -- A package and the unit that is judged.
-use Rattle.std.proofs.Common.{◌≡◌, ◌⊎◌, ◌↔◌, ℕ, true, List, [], map, Option, Some, None, unwrap_or, refl, sym, ap, ◌∙◌, subst, inl, inr, arith}
+use Rattle.std.proofs.Common.{◌≡◌, ◌⊎◌, ◌↔◌, ℕ, Bool, true, List, [], map, Option, Some, None, unwrap_or, refl, sym, ap, ◌∙◌, subst, inl, inr, arith}
 use Rattle.std.proofs.Math.Path.{fun_ext}
 use Rattle.std.specs.List.{Contains}
 use Rattle.face_table.specs.Fitting.{given}
@@ -7,48 +7,47 @@ use Rattle.package_faces.specs.Faces.{Face, ObjectOut}
 use Rattle.package_faces.specs.declared.interface.Interface.{Interface}
 use Rattle.std.specs.Global.{Vec}
 use Rattle.std.specs.Option.{option_or, option_map_or}
-use Rattle.package_faces.specs.declared.interface.Exported.{Exported}
-use Rattle.package_faces.specs.Interfaces.{faces_of, AreObjectsIn}
-use Rattle.package_faces.specs.Orders.{object_before, rises}
+use Rattle.package_faces.specs.Interfaces.{faces_of}
 use Rattle.type_model.specs.declared.term.Term.{Term}
 use Rattle.type_model.specs.declared.term.TypeName.{TypeName}
 use Rattle.type_model.specs.GoTypes.{types_of}
-use Rattle.type_model.specs.Tables.{count, types_in}
 use Rattle.type_questions.specs.Over.{declared}
 use Rattle.go_tree.specs.Bindings.{AreInOrder}
 use Rattle.go_tree.specs.declared.bindings.Object.{Object}
 use Rattle.go_tree.specs.declared.tree.FileTree.{FileTree}
 use Rattle.go_tree.specs.declared.tree.NodeRef.{NodeRef}
-use Rattle.mark_walk.specs.Asks.{IsTheAnnotation, filled}
+use Rattle.mark_walk.specs.Asks.{filled}
 use Rattle.bind.specs.Denoting.{AreBindings}
 use Rattle.bind.specs.Sources.{Sources, AreFiles}
 use Rattle.typed_marks.specs.declared.item.Item.{Item}
-use Rattle.typed_marks.specs.declared.state.State.{State}
 use Rattle.typed_marks.specs.Meanings.{Meaning, Quiet}
 use Rattle.typed_marks.specs.States.{so_far}
 use Rattle.unit_read.specs.declared.subject.Subject.{Subject}
-use Rattle.unit_read.specs.Subjects.{unit_of}
+use Rattle.unit_read.specs.Subjects.{cell, flag, unit_of}
 use Rattle.unit_read.specs.declared.environment.Environment.{Environment}
 use Rattle.unit_read.specs.Environments.{faces_in}
 use Rattle.unit_read.specs.Units.{Unit, name_at, base_of}
 use Rattle.rule_words.specs.Asking.{Rule, type_item, declaration_told}
-use Rattle.rule_words.specs.Scenes.{IsScene}
-use Rattle.elaborate.specs.Walks.{item_rule}
-use Rattle.type_answers.specs.Answering.{says_of}
-use Rattle.check_pkg.specs.declared.judging.Checked.{Checked}
+use Rattle.elaborate.specs.Elaborated.{IsAnnotated}
+use Rattle.check_pkg.specs.declared.judging.Found.{Found}
+use Rattle.check_pkg.specs.declared.judging.Judged.{Judged}
+use Rattle.check_pkg.specs.declared.judging.Judged.TheVariants as j
 use Rattle.check_pkg.specs.declared.judging.Outcome.{Outcome}
 use Rattle.check_pkg.specs.declared.refusal.Refusal.{Refusal}
-use Rattle.check_pkg.specs.Checks.{IsChecked, IsOutcomeBy, IsOutcomeOf}
-use Rattle.check_pkg.specs.Faults.{fault_in, IsOrdered}
+use Rattle.check_pkg.specs.declared.typing.Flags.{Flags}
+use Rattle.check_pkg.specs.Checks.{HasTypes, IsChecked, IsOutcomeBy, IsOutcomeOf}
+use Rattle.check_pkg.specs.Faults.{fault_in}
 use Rattle.check_pkg.specs.Gains.{Gains}
 use Rattle.check_pkg.specs.ImportLists.{RefusesAllImports}
 use Rattle.check_pkg.specs.Imports.{IsRefusedImport}
 use Rattle.check_pkg.specs.Items.{IsRefusedItem}
 use Rattle.check_pkg.specs.Late.{IsRefusedLate}
-use Rattle.check_pkg.specs.Exports.{outs_in}
 use Rattle.check_pkg.specs.Interfaces.{form_of, object_item, declarations_of, IsExported}
+use Rattle.check_pkg.specs.Judgings.{IsFound, IsJudged, outcome_in}
 use Rattle.check_pkg.specs.Packages.{package_of, text_of, known_of}
+use Rattle.check_pkg.specs.Readings.{IsUnitOf}
 use Rattle.check_pkg.specs.Refusals.{IsRefused}
+use Rattle.check_pkg.specs.Typings.{AreFlagsOf, IsTyped}
 use Rattle.check_pkg.proofs.GainLemmas.{gains_then}
 use Rattle.std.proofs.lemmas.Option.{slice_get_within}
 
@@ -93,40 +92,64 @@ told_at u so_far name = ap (option_or (base_of u name)) (by (type_item u name)) 
   by None = refl
   by (Some i) = at i (so_far i) refl
 
-pub is_checked : (rule : Unit → Item → Rule) (u : Subject) (s : State) (refused : Vec Refusal) (exports : Vec Exported) → IsScene u s
-    → IsTheAnnotation (says_of (unit_of u)) (item_rule rule (unit_of u)) (filled Quiet (so_far s))
-    → ((x : Refusal) → Contains refused.items x ↔ IsRefused (unit_of u) (filled Quiet (so_far s)) x) → IsOrdered refused.items
-    → (refused.items ≡ [] → rises object_before (outs_in s exports.items) ≡ true)
-    → (refused.items ≡ [] → (out : ObjectOut) → Contains (outs_in s exports.items) out ↔ IsExported (unit_of u) (filled Quiet (so_far s)) out)
-    → (refused.items ≡ [] → AreObjectsIn (unit_of u).path (count s.table) (types_in s.table) exports.items) → (¬ (refused.items ≡ []) → exports.items ≡ [])
-    → IsChecked rule (unit_of u) (record { refused = refused; exports = exports; table = s.table })
-is_checked rule u s refused exports scene the all ordered rise exported within nothing = record {
+-- what is kept of a unit that is read and marked
+is_typed : (rule : Unit → Item → Rule) (u : Subject) (f : Found) (uses : List (NodeRef × Object)) (flags : Flags) → IsFound rule u f → u.uses.now ≡ uses → AreFlagsOf u flags
+    → IsTyped rule (unit_of u) (record { uses = uses; flags = flags; state = f.state })
+is_typed rule u f uses flags found same are = record {
+  uses = sym same;
+  redeclared = ap (λ (rows : Vec (Vec Bool)). flag rows.items) are.redeclared;
+  cyclic = ap (λ (rows : Vec (Vec Bool)). flag rows.items) are.cyclic;
+  circular = ap (λ (rows : Vec (Vec Bool)). flag rows.items) are.circular;
+  owner = ap (λ (rows : Vec (Vec (Option NodeRef))). cell rows.items) are.owners;
+  state = found.scene.state;
+  basics = found.scene.basics;
+  step = found.scene.step;
+  annotated = found.annotated;
+}
+
+is_checked : (rule : Unit → Item → Rule) (u : Subject) (f : Found) (uses : List (NodeRef × Object)) (flags : Flags) → IsFound rule u f → u.uses.now ≡ uses → AreFlagsOf u flags
+    → IsChecked rule (unit_of u) (record { refused = f.refused; exports = f.exports; typed = record { uses = uses; flags = flags; state = f.state } })
+is_checked rule u f uses flags found same are = record {
   marks = record {
     marks = marks;
     annotated = the.is;
     each = λ other is x. (
-      λ h. refused_alike (unit_of u) marks other (λ i. sym (the.alone other is i)) x ((all x).0 h),
-      λ h. (all x).1 (refused_alike (unit_of u) other marks (λ i. the.alone other is i) x h),
+      λ h. refused_alike (unit_of u) marks other (λ i. sym (the.alone other is i)) x ((found.all x).0 h),
+      λ h. (found.all x).1 (refused_alike (unit_of u) other marks (λ i. the.alone other is i) x h),
     );
   };
-  ordered = ordered;
+  ordered = found.ordered;
   exports = λ empty. record {
-    table = scene.state.table;
-    within = within empty;
+    table = found.scene.state.table;
+    within = found.within empty;
     objects = record {
-      rise = rise empty;
+      rise = found.rise empty;
       each = λ other is out. (
-        λ h. exported_alike (unit_of u) marks other (λ i. sym (the.alone other is i)) out ((exported empty out).0 h),
-        λ h. (exported empty out).1 (exported_alike (unit_of u) other marks (λ i. the.alone other is i) out h),
+        λ h. exported_alike (unit_of u) marks other (λ i. sym (the.alone other is i)) out ((found.exported empty out).0 h),
+        λ h. (found.exported empty out).1 (exported_alike (unit_of u) other marks (λ i. the.alone other is i) out h),
       );
     };
     declared = λ other is name.
-        scene.step name ∙ (told_at (unit_of u) (so_far s) name ∙ ap (λ (m : Item → Meaning). declarations_of (unit_of u) m name) (fun_ext (λ i. sym (the.alone other is i))));
+        found.scene.step name ∙ (told_at (unit_of u) (so_far f.state) name ∙ ap (λ (m : Item → Meaning). declarations_of (unit_of u) m name) (fun_ext (λ i. sym (the.alone other is i))));
   };
-  nothing = nothing;
+  nothing = found.nothing;
+  typed = is_typed rule u f uses flags found same are;
 } where
   marks : Item → Meaning
-  marks = filled Quiet (so_far s)
+  marks = filled Quiet (so_far f.state)
+
+  the : IsAnnotated rule u f.state
+  the = found.annotated
+
+-- what comes of a package that has been read
+pub read_outcome : (rule : Unit → Item → Rule) (u : Subject) (judged : Judged) (flags : Flags) (path : List ℕ) (texts : List (List ℕ)) (trees : List FileTree) (uses : List (NodeRef × Object)) (env : List Face)
+    → IsUnitOf path texts trees uses env (unit_of u) → IsJudged rule u judged → AreFlagsOf u flags → IsOutcomeBy rule path texts trees uses env (outcome_in judged uses flags)
+read_outcome rule u (j.Found f) flags path texts trees uses env of is are = record { unit = unit_of u; «is» = of; comes = is_checked rule u f uses flags is of.uses are }
+read_outcome rule u j.Circle flags path texts trees uses env of is are = record { unit = unit_of u; «is» = of; comes = is }
+
+pub read_types : (rule : Unit → Item → Rule) (u : Subject) (judged : Judged) (flags : Flags) (uses : List (NodeRef × Object)) → IsJudged rule u judged → HasTypes u.env.now.types.now (outcome_in judged uses flags)
+read_types rule u (j.Found f) flags uses is = (is.scene.basics, is.scene.env)
+read_types rule u j.Circle flags uses is = tt
 
 -- ---- all that is refused
 

@@ -1,6 +1,7 @@
 -- What comes of a package.
 use Rattle.std.specs.Prelude.{◌≡◌, ℕ, List, [], map, Option}
 use Rattle.package_faces.specs.Interfaces.{object_in, AreObjectsIn}
+use Rattle.type_model.specs.declared.table.TypeTable.{TypeTable}
 use Rattle.type_model.specs.declared.term.TypeName.{TypeName}
 use Rattle.type_model.specs.declared.term.Term.{Term}
 use Rattle.type_model.specs.Tables.{IsTable, Extends, count, terms_in, types_in, declarations_in}
@@ -20,23 +21,30 @@ use Rattle.check_pkg.specs.Interfaces.{HasObjects, declarations_of}
 use Rattle.check_pkg.specs.Packages.{Package, Env, IsUnit}
 use Rattle.check_pkg.specs.Readings.{IsUnitOf}
 use Rattle.check_pkg.specs.Refusals.{HasMarks, IsAnnotation}
+use Rattle.check_pkg.specs.Typings.{IsTyped}
 use Rattle.go_tree.specs.declared.bindings.Object.{Object}
 use Rattle.go_tree.specs.declared.tree.FileTree.{FileTree}
 use Rattle.go_tree.specs.declared.tree.NodeRef.{NodeRef}
 
+-- the table of what is kept
+abbrev pub table_of : Checked → TypeTable
+table_of c = c.typed.state.table
+
 -- the objects are what the unit exports, over the table, which declares what every annotation does
 pub record HasExported (rule : Unit → Item → Rule) (u : Unit) (c : Checked) : Type 0 where
-  pub table : IsTable c.table
-  pub within : AreObjectsIn u.path (count c.table) (types_in c.table) c.exports.items
-  pub objects : HasObjects rule u (map (λ e. object_in (types_in c.table) e) c.exports.items)
-  pub declared : (marks : Item → Meaning) → IsAnnotation rule u marks → (name : TypeName) → declarations_in c.table name ≡ declarations_of u marks name
+  pub table : IsTable (table_of c)
+  pub within : AreObjectsIn u.path (count (table_of c)) (types_in (table_of c)) c.exports.items
+  pub objects : HasObjects rule u (map (λ e. object_in (types_in (table_of c)) e) c.exports.items)
+  pub declared : (marks : Item → Meaning) → IsAnnotation rule u marks → (name : TypeName) → declarations_in (table_of c) name ≡ declarations_of u marks name
 
--- The list has all that refuses the unit, in order and each once; and where nothing refuses it the exports are what it exports.
+-- The list has all that refuses the unit, in order and each once; where nothing refuses it the exports are what it exports; and what is kept
+-- is kept of this unit, with its one annotation.
 pub record IsChecked (rule : Unit → Item → Rule) (u : Unit) (c : Checked) : Type 0 where
   pub marks : HasMarks rule u c.refused.items
   pub ordered : IsOrdered c.refused.items
   pub exports : c.refused.items ≡ [] → HasExported rule u c
   pub nothing : ¬ (c.refused.items ≡ []) → c.exports.items ≡ []
+  pub typed : IsTyped rule u c.typed
 
 -- Over marks that every annotation has, an item waits for itself.
 pub record HasCircle (rule : Unit → Item → Rule) (u : Unit) : Type 0 where
@@ -51,7 +59,7 @@ IsOutcome rule u o.Circle = HasCircle rule u
 
 -- the table that comes back has the predeclared types, and these under their numbers
 abbrev pub HasTypes : List Term → Outcome → Type 0
-HasTypes terms (o.Checked c) = HasBasics c.table × Extends terms (terms_in c.table)
+HasTypes terms (o.Checked c) = HasBasics (table_of c) × Extends terms (terms_in (table_of c))
 HasTypes terms o.Circle = Prim.Unit {0}
 
 -- what comes of the package of this path, of these texts, trees, uses and interfaces

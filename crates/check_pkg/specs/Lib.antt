@@ -15,3 +15,5 @@ pub mod References
 pub mod Initial
 pub mod InBodies
 pub mod Late
+pub mod Typings
+pub mod Judgings

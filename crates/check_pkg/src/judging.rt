@@ -21,10 +21,11 @@ ghost use Rattle.rule_words.specs.Scenes.{IsScene};
 ghost use Rattle.body_facts.specs.Bodies.{AreBodies};
 ghost use Rattle.unit_read.specs.Units.{base_of};
 ghost use Rattle.check_pkg.specs.declared.refusal.Refusal.{Refusal as OneRefusal};
-ghost use Rattle.check_pkg.specs.Checks.{HasTypes, IsOutcome, IsOutcomeBy, IsOutcomeOf};
+ghost use Rattle.check_pkg.specs.Checks.{HasTypes, IsOutcomeBy, IsOutcomeOf};
 ghost use Rattle.check_pkg.specs.Faults.{IsOrdered};
 ghost use Rattle.check_pkg.specs.Exports.{outs_in};
 ghost use Rattle.check_pkg.specs.Interfaces.{IsExported};
+ghost use Rattle.check_pkg.specs.Judgings.{IsJudged, outcome_in};
 ghost use Rattle.check_pkg.specs.Names.{IsBlock};
 ghost use Rattle.check_pkg.specs.Packages.{package_of, text_of};
 ghost use Rattle.check_pkg.specs.Refusals.{IsRefused};
@@ -35,9 +36,10 @@ use crate::faults::refuse_items;
 use crate::import_refusals::refuse_imports;
 use crate::late_rules::refuse_late;
 use crate::order::{distinct, sort};
-use crate::read::read;
+use crate::read::{Reading, read};
 use crate::refusal::Refusal;
 use crate::sources::{known, texts};
+use crate::typing::{Flags, Typed, flags_of};
 use bind::bind;
 use elaborate::{Elaborated, Rules, Stretch, elaborate};
 use go_tree::{Bindings, FileTree};
@@ -56,8 +58,8 @@ pub struct Checked {
     pub refused: Vec<Refusal>,
     /// The objects that the package exports, in byte order of the names. Nothing where the package is refused.
     pub exports: Vec<Exported>,
-    /// The table by whose numbers they have their types, and in which the package's defined types are declared.
-    pub table: TypeTable,
+    /// What is kept of the package, with the table by whose numbers they have their types, and in which the package's defined types are declared.
+    pub typed: Typed,
 }
 
 /// What comes of a package.
@@ -65,6 +67,21 @@ pub struct Checked {
 pub enum Outcome {
     Checked(Checked),
     /// The rule of an item waits for that item's own mark: nothing is said of the package.
+    Circle,
+}
+
+/// What has been found of a package that has been read, and its marks.
+#[derive(Drop)]
+pub struct Found {
+    pub refused: Vec<Refusal>,
+    pub exports: Vec<Exported>,
+    pub state: State,
+}
+
+/// What comes of a package that has been read.
+#[derive(Drop)]
+pub enum Judged {
+    Found(Found),
     Circle,
 }
 
@@ -164,7 +181,7 @@ fn judge_unit<R: Rules>(
     u: &Subject,
     table: TypeTable,
     first: &[Stretch],
-) -> Result<Outcome, NoMemory>
+) -> Result<Judged, NoMemory>
     requires read { IsRead u.now }
     requires small { AreSmall u.now.trees.now }
     requires few { length u.now.trees.now < 2 ^ 32 }
@@ -172,20 +189,37 @@ fn judge_unit<R: Rules>(
     requires basics { HasBasics table }
     requires env { Extends u.now.env.now.types.now (terms_in table) }
     requires base { (name : AName) → declarations_in table name ≡ base_of (unit_of u.now) name }
-    ensures is { IfOk result (IsOutcome R.rule (unit_of u.now)) }
-    ensures types { IfOk result (HasTypes u.now.env.now.types.now) }
+    ensures { IfOk result (IsJudged R.rule u.now) }
 {
     let elaborated = elaborate(alloc, rules, u, table, first)?;
     match elaborated {
         Elaborated::Marked(state) => {
             let (refused, exports) = judge(alloc, u, &state)?;
-            Ok(Outcome::Checked(Checked {
+            Ok(Judged::Found(Found {
                 refused,
                 exports,
-                table: state.table,
+                state,
             }))
         }
-        Elaborated::Circle(_, _) => Ok(Outcome::Circle),
+        Elaborated::Circle(_, _) => Ok(Judged::Circle),
+    }
+}
+
+/// What comes of a package, with what is kept of it.
+fn outcome_of(judged: Judged, uses: Bindings, flags: Flags) -> Outcome
+    ensures { result ≡ outcome_in judged uses flags }
+{
+    match judged {
+        Judged::Found(found) => Outcome::Checked(Checked {
+            refused: found.refused,
+            exports: found.exports,
+            typed: Typed {
+                uses,
+                flags,
+                state: found.state,
+            },
+        }),
+        Judged::Circle => Outcome::Circle,
     }
 }
 
@@ -196,7 +230,7 @@ fn judge_read<R: Rules>(
     path: &[u8],
     sources: &[&[u8]],
     trees: &[FileTree],
-    uses: &Bindings,
+    uses: Bindings,
     table: TypeTable,
     env: &Environment<'_>,
 ) -> Result<Outcome, NoMemory>
@@ -204,17 +238,18 @@ fn judge_read<R: Rules>(
     requires small { AreSmall trees.now }
     requires few { length trees.now < 2 ^ 32 }
     requires bodies { AreBodies (texts_of sources.now) trees.now }
-    requires uses { AreInOrder uses.now }
+    requires uses { AreInOrder uses }
     requires env { IsEnvironment env.now }
     requires basics { HasBasics table }
     requires types { env.now.types.now ≡ terms_in table }
     requires base { (name : AName) → declarations_in table name ≡ given path.now (faces_in env.now) name }
-    ensures is { IfOk result (IsOutcomeBy R.rule path.now (texts_of sources.now) trees.now uses.now (faces_in env.now)) }
+    ensures is { IfOk result (IsOutcomeBy R.rule path.now (texts_of sources.now) trees.now uses (faces_in env.now)) }
     ensures types { IfOk result (HasTypes (terms_in table)) }
 {
-    let reading = read(alloc, path, sources, trees, uses, env)?;
-    let outcome = judge_unit(alloc, rules, &reading.subject, table, &reading.first)?;
-    Ok(outcome)
+    let Reading { subject, first } = read(alloc, path, sources, trees, &uses, env)?;
+    let judged = judge_unit(alloc, rules, &subject, table, &first)?;
+    let flags = flags_of(subject);
+    Ok(outcome_of(judged, uses, flags))
 }
 
 /// Judges a package by its files, of which is known what their uses denote.
@@ -224,7 +259,7 @@ fn judge_files<R: Rules>(
     path: &[u8],
     files: &[(Text, Bytes)],
     trees: &[FileTree],
-    uses: &Bindings,
+    uses: Bindings,
     table: TypeTable,
     types: &[Term],
     env: &[Interface],
@@ -233,12 +268,12 @@ fn judge_files<R: Rules>(
     requires small { AreSmall trees.now }
     requires few { length trees.now < 2 ^ 32 }
     requires spelled { AreSpelled trees.now files.now }
-    requires uses { AreInOrder uses.now }
+    requires uses { AreInOrder uses }
     requires basics { HasBasics table }
     requires types { types.now ≡ terms_in table }
     requires within { AreInterfacesIn (count table) (types_in table) env.now }
     requires base { (name : AName) → declarations_in table name ≡ given path.now (faces_of (types_in table) env.now) name }
-    ensures is { IfOk result (IsOutcomeBy R.rule path.now (map text_of files.now) trees.now uses.now (faces_of (types_in table) env.now)) }
+    ensures is { IfOk result (IsOutcomeBy R.rule path.now (map text_of files.now) trees.now uses (faces_of (types_in table) env.now)) }
     ensures types { IfOk result (HasTypes (terms_in table)) }
 {
     let environment = Environment::new(alloc, env, types)?;
@@ -259,7 +294,7 @@ fn judge_files<R: Rules>(
 /// Checks a package by rules. It is given by its path, by the paths and the bytes of its files in order of their paths, and by their trees,
 /// over an environment: the interfaces of the packages to which its imports lead, and the table by whose numbers they have their types and in
 /// which these are declared (`face_table`). Of two interfaces of one path the first counts; what an import that leads to none means is for the
-/// rules to say. The table comes back, also where the package is refused: its types keep their numbers.
+/// rules to say. The table comes back with what is kept of the package, also where it is refused: its types keep their numbers.
 pub fn check<R: Rules>(
     alloc: Global,
     rules: &R,
@@ -281,6 +316,6 @@ pub fn check<R: Rules>(
     let types = copied_terms(alloc, table.terms())?;
     let named = known(alloc, env)?;
     let uses = bind(alloc, trees, files, &named)?;
-    let outcome = judge_files(alloc, rules, path, files, trees, &uses, table, &types, env)?;
+    let outcome = judge_files(alloc, rules, path, files, trees, uses, table, &types, env)?;
     Ok(outcome)
 }

@@ -1,5 +1,5 @@
-//! What refuses a package, by the marks of its items, by its imports and by late rules, in order and each once; and what an accepted package
-//! exports. The marks are those of any rules.
+//! What refuses a package, by the marks of its items, by its imports and by late rules, in order and each once; what an accepted package
+//! exports; and what is kept of it. The marks are those of any rules.
 #![tactic(auto)]
 
 mod ahead;
@@ -19,7 +19,10 @@ mod read;
 mod references;
 mod refusal;
 mod sources;
+mod typing;
 mod used;
 
 pub use judging::{Checked, Outcome, check};
 pub use refusal::{Fault, Refusal, limit_number};
+pub use sources::{known, texts};
+pub use typing::{Flags, Typed};

@@ -33,6 +33,6 @@ judge_read-requires-clause-base g c = λ name.
 pub returns-clause-is : goal.returns-clause-is
 returns-clause-is g c =
     let rule = g.R.Rules.rule in
-    subst (λ (texts : List (List ℕ)). IsOutcomeBy rule c.args.path.now texts c.args.trees.now c.args.uses.now (faces_of (types_of (terms_in c.args.table)) c.args.env.now) c.in_ok-outcome.outcome) (ap texts_of c.deref.ensures.value ∙ c.in_ok-sources.ensures)
-    (subst (λ (faces : List Face). IsOutcomeBy rule c.args.path.now (texts_of c.deref.result.now) c.args.trees.now c.args.uses.now faces c.in_ok-outcome.outcome)
+    subst (λ (texts : List (List ℕ)). IsOutcomeBy rule c.args.path.now texts c.args.trees.now c.args.uses (faces_of (types_of (terms_in c.args.table)) c.args.env.now) c.in_ok-outcome.outcome) (ap texts_of c.deref.ensures.value ∙ c.in_ok-sources.ensures)
+    (subst (λ (faces : List Face). IsOutcomeBy rule c.args.path.now (texts_of c.deref.result.now) c.args.trees.now c.args.uses faces c.in_ok-outcome.outcome)
     (faces_are c.in_ok-environment.environment c.args.env.now (terms_in c.args.table) c.in_ok-environment.ensures.of (c.in_ok-environment.ensures.types ∙ c.requires.types)) c.in_ok-outcome.ensures.is)
