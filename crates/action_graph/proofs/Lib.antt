@@ -3,5 +3,13 @@ pub mod OneList
 pub mod OneFinding
 pub mod Standing
 pub mod JudgingLaws
+mod NodeTokens
+mod PieceTokens
+mod ListParts
+mod TokenOrder
+mod UnitNodes
+mod NodeStanding
 pub mod NodeLemmas
 mod ReadyLemmas
+pub mod RunLaws
+pub mod OutcomeLaws

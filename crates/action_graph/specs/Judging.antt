@@ -204,3 +204,8 @@ pub record IsOutcomeOf (texts : List (List ℕ)) (text : List ℕ) : Type 0 wher
 abbrev pub load_text : {L : Type 0} → Load L → List ℕ
 load_text (Accepted loaded export) = accepted_text export
 load_text (Refused marks) = refused_text marks
+
+-- the package as it was accepted
+abbrev pub IfAccepted : {L : Type 0} → Load L → (L → Type 0) → Type 0
+IfAccepted (Accepted loaded export) P = P loaded
+IfAccepted (Refused marks) P = Unit {0}

@@ -4,3 +4,6 @@ pub mod Work
 pub mod Ready
 pub mod Flags
 pub mod Judging
+pub mod Analyzing
+pub mod Outcomes
+pub mod Standing

@@ -1,6 +1,8 @@
-//! What types packages.
+//! What types packages, and runs analyzers over them.
 ghost use Rattle.std.specs.Prelude.{◌≡◌, ◌+◌, ◌<◌, ◌^◌, ℕ, Err, IfOk, OnOk, OnErr};
-ghost use Rattle.action_graph.specs.Judging.{IsLawful, IsOutcome, IsStuck, load_text};
+ghost use Rattle.action_graph.specs.Judging.{IfAccepted, IsLawful, IsOutcome, IsStuck, load_text};
+ghost use Rattle.action_graph.specs.Analyzing.{IsRunLawful, IsRunOutcome};
+ghost use Rattle.action_graph.specs.Outcomes.{run_text};
 
 use gv_base::{Bytes, NoMemory, Row, Text};
 
@@ -13,6 +15,26 @@ pub struct LoadInput {
     pub files: Row<(Text, Bytes)>,
     /// The path and the export text of each package of its environment, by path.
     pub env: Row<(Text, Bytes)>,
+}
+
+/// All that the run of an analyzer reads.
+#[derive(Drop)]
+pub struct RunInput {
+    /// The analyzer's number.
+    pub analyzer: u8,
+    /// What the load of its package reads.
+    pub load: LoadInput,
+    /// The path and the fact text of each package whose facts are read, by path.
+    pub facts: Row<(Text, Bytes)>,
+}
+
+/// What comes of a run.
+#[derive(Drop)]
+pub struct RunOutcome {
+    /// The text of what was found.
+    pub findings: Bytes,
+    /// The text of the facts.
+    pub facts: Bytes,
 }
 
 /// What comes of a load.
@@ -51,8 +73,10 @@ impl From<NoMemory> for Unloaded {
     }
 }
 
-/// What loads packages, and counts its loads.
+/// What loads packages and runs analyzers over them, and counts both.
 pub trait Kit {
+    ghost use Rattle.action_graph.specs.declared.kit.LoadInput.{LoadInput};
+
     /// A package as it is loaded.
     type Loaded: Drop;
 
@@ -64,6 +88,12 @@ pub trait Kit {
 
     /// What holds of that which it keeps from load to load.
     ghost holds: { Self → Type 0 };
+
+    /// This is what a load of this input accepted.
+    ghost is_of: { Self.Loaded → LoadInput → Type 0 };
+
+    /// This is what some load accepted, and can be taken back.
+    ghost keeps: { Self.Loaded → Type 0 };
 
     /// Forgets what it keeps from load to load.
     fn clear(&mut self)
@@ -77,8 +107,30 @@ pub trait Kit {
         requires holds { holds self.old }
         ensures holds { holds self.new }
         ensures right { IsLawful input.now → IfOk result (λ answer. IsOutcome input.now (load_text answer)) }
+        ensures is_of { IfOk result (λ answer. IfAccepted answer (λ loaded. is_of loaded input.now)) }
+        ensures keeps { IfOk result (λ answer. IfAccepted answer keeps) }
         ensures circle { result ≡ Err Unloaded.Stuck → IsStuck input.now }
         ensures counted { OnOk result (loads self.new ≡ loads self.old + 1) }
         ensures refused { OnErr result (loads self.new ≡ loads self.old) }
+        ensures runs { runs self.new ≡ runs self.old };
+
+    /// Runs an analyzer over a package that was loaded. What comes of it is by the input alone.
+    fn analyze(&mut self, loaded: &Self::Loaded, input: &RunInput) -> Result<RunOutcome, NoMemory>
+        requires runs { runs self.old < 2 ^ 63 }
+        requires holds { holds self.old }
+        requires is_of { is_of loaded.now input.now.load }
+        requires keeps { keeps loaded.now }
+        ensures holds { holds self.new }
+        ensures right { IsRunLawful input.now → IfOk result (λ outcome. IsRunOutcome input.now (run_text outcome)) }
+        ensures counted { OnOk result (runs self.new ≡ runs self.old + 1) }
+        ensures refused { OnErr result (runs self.new ≡ runs self.old) }
+        ensures loads { loads self.new ≡ loads self.old };
+
+    /// Takes back what a load gave, when the runs over it are done.
+    fn release(&mut self, loaded: Self::Loaded)
+        requires holds { holds self.old }
+        requires keeps { keeps loaded }
+        ensures holds { holds self.new }
+        ensures loads { loads self.new ≡ loads self.old }
         ensures runs { runs self.new ≡ runs self.old };
 }

@@ -6,12 +6,17 @@ mod done;
 mod kit;
 mod laws;
 mod marks;
+mod outcome;
 mod texts;
 mod work;
 
 pub use choose::ready;
-pub use kit::{Kit, Load, LoadInput, Unloaded};
-pub use laws::{marks_stand, one_finding, one_load_input, one_marks_text, one_outcome};
+pub use kit::{Kit, Load, LoadInput, RunInput, RunOutcome, Unloaded};
+pub use laws::{
+    findings_stand, marks_stand, one_finding, one_load_input, one_marks_text, one_outcome,
+    one_run_input, one_run_outcome, outcome_is_read,
+};
 pub use marks::{MarkLine, read_marks, write_marks};
-pub use texts::{texts_of_load, texts_of_parts};
+pub use outcome::{facts_in, findings_in, write_outcome};
+pub use texts::{texts_of_load, texts_of_parts, texts_of_run_parts};
 pub use work::{ActionNode, PackageLine};

@@ -1,6 +1,6 @@
 //! The texts beside which an outcome is kept.
 ghost use Rattle.std.specs.Prelude.{◌≡◌, ◌++◌, ◌∷◌, [], IfOk, OnOk};
-ghost use Rattle.action_graph.specs.Nodes.{pairs, load_texts};
+ghost use Rattle.action_graph.specs.Nodes.{pairs, load_texts, run_texts};
 
 use crate::kit::LoadInput;
 use gv_base::{Bytes, NoMemory, Text};
@@ -54,6 +54,22 @@ pub fn texts_of_parts(
     push_pairs(alloc, &mut texts, files)?;
     push_text(alloc, &mut texts, b"")?;
     push_pairs(alloc, &mut texts, env)?;
+    Ok(texts)
+}
+
+/// The texts of what a run reads: those of the load, and the facts.
+pub fn texts_of_run_parts(
+    alloc: Global,
+    path: &str,
+    files: &[(Text, Bytes)],
+    env: &[(Text, Bytes)],
+    facts: &[(Text, Bytes)],
+) -> Result<Vec<Bytes>, NoMemory>
+    ensures { IfOk result (λ v. v.items ≡ run_texts (record { analyzer = 0; load = record { path = path.now; files = files.now; env = env.now }; facts = facts.now })) }
+{
+    let mut texts = texts_of_parts(alloc, path, files, env)?;
+    push_text(alloc, &mut texts, b"")?;
+    push_pairs(alloc, &mut texts, facts)?;
     Ok(texts)
 }
 

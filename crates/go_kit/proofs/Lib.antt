@@ -3,4 +3,5 @@ mod GivenLemmas
 mod SeenLemmas
 mod TellLemmas
 mod LoadLemmas
+mod RunLemmas
 pub mod KnownLemmas

@@ -1,17 +1,27 @@
 -- What comes of a load.
-use Rattle.std.proofs.Common.{◌≡◌, ℕ, zero, suc, ◌<◌, ◌≤◌, ◌^◌, List, [], ◌∷◌, length, map, Some, slice_get, slice_index_or, All, refl, ap, sym, subst, arith}
+use Rattle.std.proofs.Common.{◌≡◌, ℕ, zero, suc, ◌<◌, ◌≤◌, ◌^◌, List, [], ◌∷◌, length, map, Option, Some, None, IfSome, slice_get, slice_index_or, All, refl, ap, sym, ◌∙◌, subst, arith}
 use Rattle.std.proofs.lemmas.List.{length-map}
 use Rattle.std.proofs.lemmas.List.Elements.{All-head, All-tail}
 use Rattle.std.proofs.lemmas.Option.{same_Some, slice_get_within}
 use Rattle.go_tree.specs.declared.tree.FileTree.{FileTree}
 use Rattle.bind.specs.Answers.{AreSpelled, AreSmall}
+use Rattle.package_faces.specs.declared.interface.Interface.{Interface}
+use Rattle.package_faces.specs.Interfaces.{faces_of, AreInterfacesIn}
+use Rattle.package_faces.proofs.FaceLaws.{faces_stay, interfaces_grow}
+use Rattle.type_model.specs.declared.table.TypeTable.{TypeTable}
+use Rattle.type_model.specs.declared.term.Term.{Term}
+use Rattle.type_model.specs.Tables.{Extends, count, terms_in, types_in}
+use Rattle.check_pkg.specs.declared.typing.Typed.{Typed}
 use Rattle.check_pkg.specs.Packages.{package_of}
+use Rattle.action_graph.specs.declared.kit.Load.{Load}
+use Rattle.action_graph.specs.declared.kit.Load.TheVariants.{Accepted, Refused}
 use Rattle.action_graph.specs.declared.kit.LoadInput.{LoadInput}
 use Rattle.action_graph.specs.Nodes.{Named}
 use Rattle.face_table.specs.Fitting.{AreFit}
-use Rattle.action_graph.specs.Judging.{Env, Judges, AreParsed, HasNothing, IsPackageOf, AreInterfaces, IsReadable, IsOutcome, IsStuckOver, IsStuck, text_of}
+use Rattle.action_graph.specs.Judging.{Env, IfAccepted, Judges, AreParsed, HasNothing, IsPackageOf, AreInterfaces, IsReadable, IsOutcome, IsStuckOver, IsStuck, text_of}
 use Rattle.action_graph.proofs.JudgingLaws.{faces_once}
 use Rattle.action_graph.proofs.OneFinding.{package-spelled}
+use Rattle.go_kit.specs.Loading.{IsAcceptedOf, IsTypedOver}
 use Rattle.go_kit.specs.Reading.{AreFilesOf, IsShort, TellsOf}
 
 parsed : (texts : List (List ℕ)) (trees : List FileTree) → AreFilesOf texts trees → AreParsed texts trees
@@ -130,3 +140,40 @@ pub unread : (input : LoadInput) (files : List Named) (text : List ℕ) → file
     → ((trees : List FileTree) → AreFilesOf (map text_of files) trees → ⊥) → IsReadable input → IsOutcome input text
 unread input files text here none r =
     absurd (none r.pack.trees (subst (λ (xs : List Named). AreFilesOf (map text_of xs) r.pack.trees) (sym here) (readable-files input r)))
+
+-- ---- packages that are accepted
+
+pub accepted-so : {L : Type 0} (load : Load L) (P Q : L → Type 0) → ((l : L) → P l → Q l) → IfAccepted load P → IfAccepted load Q
+accepted-so (Accepted loaded export) P Q so h = so loaded h
+accepted-so (Refused marks) P Q so h = tt
+
+pub accepted-both : {L : Type 0} (load : Load L) (P Q R : L → Type 0) → ((l : L) → P l → Q l → R l) → IfAccepted load P → IfAccepted load Q → IfAccepted load R
+accepted-both (Accepted loaded export) P Q R so h g = so loaded h g
+accepted-both (Refused marks) P Q R so h g = tt
+
+pub some-so : {X : Type 0} (o : Option X) (P Q : X → Type 0) → ((x : X) → P x → Q x) → IfSome o P → IfSome o Q
+some-so None P Q so h = tt
+some-so (Some x) P Q so h = so x h
+
+pub extends-then : (a b c : List Term) → Extends a b → Extends b c → Extends a c
+extends-then a b c one other i low =
+    let first = one i low in
+    let then_so = other i first.0 in
+    (then_so.0, then_so.1 ∙ first.1)
+
+-- what is kept of a package over the interfaces that an input's export texts spell, whose types stand in the table under their numbers
+pub typed-over : (input : LoadInput) (files : List Named) (trees : List FileTree) (path : List ℕ) (first mid : TypeTable) (env : List Interface) (t : Typed) → files ≡ input.files → path ≡ input.path
+    → Extends (terms_in first) (terms_in mid) → Extends (terms_in mid) (terms_in t.state.table) → AreInterfacesIn (count first) (types_in first) env → AreInterfaces input.env (faces_of (types_in first) env)
+    → IsAcceptedOf (package_of path files trees) (faces_of (types_in mid) env) t → IsTypedOver input trees env t
+typed-over input files trees path first mid env t here its begins ends within read accepted =
+    let whole = extends-then (terms_in first) (terms_in mid) (terms_in t.state.table) begins ends in
+    let stay : faces_of (types_in t.state.table) env ≡ faces_of (types_in first) env = faces_stay (terms_in first) (terms_in t.state.table) whole env within in
+    let half : faces_of (types_in mid) env ≡ faces_of (types_in first) env = faces_stay (terms_in first) (terms_in mid) begins env within in
+    record {
+      within = interfaces_grow (terms_in first) (terms_in t.state.table) whole env within;
+      faces = subst (λ (faces : Env). AreInterfaces input.env faces) (sym stay) read;
+      accepted =
+          subst (λ (faces : Env). IsAcceptedOf (package_of input.path input.files trees) faces t) (half ∙ sym stay)
+          (subst (λ (xs : List Named). IsAcceptedOf (package_of input.path xs trees) (faces_of (types_in mid) env) t) here
+          (subst (λ (q : List ℕ). IsAcceptedOf (package_of q files trees) (faces_of (types_in mid) env) t) its accepted));
+    }

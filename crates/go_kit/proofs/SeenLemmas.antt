@@ -25,7 +25,7 @@ use Rattle.unit_read.specs.Units.{base_of}
 use Rattle.check_pkg.specs.declared.judging.Checked.{Checked}
 use Rattle.check_pkg.specs.declared.judging.Outcome.TheVariants as outcome
 use Rattle.check_pkg.specs.declared.refusal.Refusal.{Refusal}
-use Rattle.check_pkg.specs.Checks.{HasExported, IsOutcomeOf as Comes}
+use Rattle.check_pkg.specs.Checks.{HasExported, table_of, IsOutcomeOf as Comes}
 use Rattle.check_pkg.specs.Interfaces.{HasExports, HasObjects, declarations_of, unit_name}
 use Rattle.check_pkg.specs.Packages.{Package, package_name}
 use Rattle.check_pkg.specs.Refusals.{IsAnnotation}
@@ -86,12 +86,12 @@ module _ (p : Package) (env : Env) (c : Checked) (comes : Comes rule p env (outc
       ap (λ (texts : List (List ℕ)). spelled_at (record { texts = texts; trees = comes.unit.trees }) 0 0) comes.is.texts
       ∙ ap (λ (trees : List FileTree). spelled_at (record { texts = map (λ (file : List ℕ × List ℕ). file.1) p.files; trees = trees }) 0 0) comes.is.trees
 
-  declares : (marks : Item → Meaning) → IsAnnotation rule comes.unit marks → declarations_in c.table ≡ declarations_of comes.unit marks
+  declares : (marks : Item → Meaning) → IsAnnotation rule comes.unit marks → declarations_in (table_of c) ≡ declarations_of comes.unit marks
   declares marks annotated = fun_ext (exported.declared marks annotated)
 
   -- its exports stand in the table
   pub stands : Stands p.path c
-  stands = record { table = exported.table; within = subst (λ (q : List ℕ). AreObjectsIn q (count c.table) (types_in c.table) c.exports.items) comes.is.path exported.within }
+  stands = record { table = exported.table; within = subst (λ (q : List ℕ). AreObjectsIn q (count (table_of c)) (types_in (table_of c)) c.exports.items) comes.is.path exported.within }
 
   -- what is seen by the table is what the unit exports
   pub seen-exports : (place : List ℕ → Option ℕ) (f : Face) → IsSeenOf p.path (package_name p) place c f → HasExports rule comes.unit f
@@ -100,7 +100,7 @@ module _ (p : Package) (env : Env) (c : Checked) (comes : Comes rule p env (outc
     types = seen.value.1.1.1.1;
     methods = have_sorted f seen.value;
     reached = λ marks annotated.
-        exported-as (declarations_in c.table) (declarations_of comes.unit marks) p.path comes.unit.path (package_name p) (unit_name comes.unit) (objects_of c) f.objects f
+        exported-as (declarations_in (table_of c)) (declarations_of comes.unit marks) p.path comes.unit.path (package_name p) (unit_name comes.unit) (objects_of c) f.objects f
         (declares marks annotated) (sym comes.is.path) (sym name-is) (sym seen.export.objects_are) seen.export;
   }
 
@@ -110,7 +110,7 @@ module _ (p : Package) (env : Env) (c : Checked) (comes : Comes rule p env (outc
       let marks = comes.comes.marks in
       record {
         export =
-            exported-as (declarations_of comes.unit marks.marks) (declarations_in c.table) comes.unit.path p.path (unit_name comes.unit) (package_name p) f.objects (objects_of c) f
+            exported-as (declarations_of comes.unit marks.marks) (declarations_in (table_of c)) comes.unit.path p.path (unit_name comes.unit) (package_name p) f.objects (objects_of c) f
             (sym (declares marks.marks marks.annotated)) comes.is.path name-is
             (one-objects comes.unit marks.marks marks.annotated f.objects (objects_of c) exports.objects exported.objects) (exports.reached marks.marks marks.annotated);
         value = value;
@@ -121,30 +121,30 @@ module _ (p : Package) (env : Env) (c : Checked) (comes : Comes rule p env (outc
   plain : (place : List ℕ → Option ℕ) (f : Face) → IsSeenOf p.path (package_name p) place c f → (d : DefinedOut) → Contains f.types d → is_defined d.under ≡ false
   plain place f seen d has =
       let x = seen.export.declared d has in
-      subst (λ (t : GoType). is_defined t ≡ false) (sym x.under) (declared_plain c.table (own_name p.path d.name) x.declaration exported.table x.is)
+      subst (λ (t : GoType). is_defined t ≡ false) (sym x.under) (declared_plain (table_of c) (own_name p.path d.name) x.declaration exported.table x.is)
 
-  from-base : (name : TypeName) (d : Declaration) → base_of comes.unit name ≡ Some d → declarations_in c.table name ≡ Some d
+  from-base : (name : TypeName) (d : Declaration) → base_of comes.unit name ≡ Some d → declarations_in (table_of c) name ≡ Some d
   from-base name d base =
       let marks = comes.comes.marks in
       exported.declared marks.marks marks.annotated name ∙ or-first (base_of comes.unit name) _ d base
 
   -- what is given with this package is declared in the table: its own types as they are seen, `error` and the types of others by `base_of`
-  given-same : (place : List ℕ → Option ℕ) (f : Face) → IsSeenOf p.path (package_name p) place c f → SameUnder (given [] (f ∷ env)) (declarations_in c.table)
+  given-same : (place : List ℕ → Option ℕ) (f : Face) → IsSeenOf p.path (package_name p) place c f → SameUnder (given [] (f ∷ env)) (declarations_in (table_of c))
   given-same place f seen name d is = elim (given_from comes.unit env f name d (seen.export.path_is ∙ sym comes.is.path) comes.is.env is) [
     | inl base ↦ (d, from-base name d base, refl)
     | inr (x, has, named, it) ↦
         let y = seen.export.declared x has in
         let called : name ≡ own_name p.path x.name = sym named ∙ ap (λ (q : List ℕ). own_name q x.name) seen.export.path_is in
-        (y.declaration, ap (declarations_in c.table) called ∙ y.is, ap (λ (e : Declaration). e.under) (sym it) ∙ y.under)
+        (y.declaration, ap (declarations_in (table_of c)) called ∙ y.is, ap (λ (e : Declaration). e.under) (sym it) ∙ y.under)
   ]
 
   ends : (place : List ℕ → Option ℕ) (f : Face) → IsSeenOf p.path (package_name p) place c f → (d : DefinedOut) → Contains f.types d → Meets (given [] (f ∷ env)) (own_name f.path d.name) d.under → ⊥
   ends place f seen d has met =
       let x = seen.export.declared d has in
-      let there : Meets (declarations_in c.table) (own_name f.path d.name) d.under = meets-same (given [] (f ∷ env)) (declarations_in c.table) (own_name f.path d.name) d.under (given-same place f seen) met in
-      let named : Meets (declarations_in c.table) (own_name p.path d.name) d.under = subst (λ (q : List ℕ). Meets (declarations_in c.table) (own_name q d.name) d.under) seen.export.path_is there in
-      none_holds_itself (declarations_in c.table) exported.table.ends (own_name p.path d.name) x.declaration x.is
-      (subst (λ (t : GoType). Meets (declarations_in c.table) (own_name p.path d.name) t) x.under named)
+      let there : Meets (declarations_in (table_of c)) (own_name f.path d.name) d.under = meets-same (given [] (f ∷ env)) (declarations_in (table_of c)) (own_name f.path d.name) d.under (given-same place f seen) met in
+      let named : Meets (declarations_in (table_of c)) (own_name p.path d.name) d.under = subst (λ (q : List ℕ). Meets (declarations_in (table_of c)) (own_name q d.name) d.under) seen.export.path_is there in
+      none_holds_itself (declarations_in (table_of c)) exported.table.ends (own_name p.path d.name) x.declaration x.is
+      (subst (λ (t : GoType). Meets (declarations_in (table_of c)) (own_name p.path d.name) t) x.under named)
 
   pub fit : (place : List ℕ → Option ℕ) (f : Face) → ((q : List ℕ) → place q ≡ place_of (paths_in env) q) → IsSeenOf p.path (package_name p) place c f → IsFit p env f
   fit place f places seen = record {

@@ -8,6 +8,7 @@ use Rattle.package_faces.specs.Reaching.{IsExportOf}
 use Rattle.parse_file.specs.Verdict.{IsParsed}
 use Rattle.type_model.specs.Tables.{IsTable, count, declarations_in, types_in}
 use Rattle.check_pkg.specs.declared.judging.Checked.{Checked}
+use Rattle.check_pkg.specs.Checks.{table_of}
 use Rattle.check_pkg.specs.Packages.{Package}
 use Rattle.action_graph.specs.Nodes.{Named}
 use Rattle.action_graph.specs.declared.kit.LoadInput.{LoadInput}
@@ -40,16 +41,16 @@ pub record IsFaceOf (pair : Named) (f : Face) : Type 0 where
 
 -- the objects that it exports, over the table of what was found
 abbrev pub objects_of : Checked → List ObjectOut
-objects_of c = map (λ e. object_in (types_in c.table) e) c.exports.items
+objects_of c = map (λ e. object_in (types_in (table_of c)) e) c.exports.items
 
 -- their types are in this table
 pub record Stands (path : List ℕ) (c : Checked) : Type 0 where
-  pub table : IsTable c.table
-  pub within : AreObjectsIn path (count c.table) (types_in c.table) c.exports.items
+  pub table : IsTable (table_of c)
+  pub within : AreObjectsIn path (count (table_of c)) (types_in (table_of c)) c.exports.items
 
 -- this is seen of it, as the table has its types declared; it has a text, and mentions packages that have a place
 pub record IsSeenOf (path name : List ℕ) (place : List ℕ → Option ℕ) (c : Checked) (f : Face) : Type 0 where
-  pub export : IsExportOf (declarations_in c.table) path name (objects_of c) f
+  pub export : IsExportOf (declarations_in (table_of c)) path name (objects_of c) f
   pub value : IsFace f
   pub known : AllKnown place f
 

@@ -1,11 +1,18 @@
-//! Loads packages by the typing rules of Go.
+//! Loads packages by the typing rules of Go, and runs analyzers over them.
 #![tactic(auto)]
 
+mod analyzing;
 mod env;
 mod kept;
 mod kit;
 mod known;
+mod laws;
+mod loaded;
+mod loading;
 mod read;
+mod storing;
 mod tell;
 
 pub use kit::GoKit;
+pub use laws::one_loaded;
+pub use loaded::Loaded;

@@ -1,5 +1,5 @@
 //! What a load answers of a package.
-ghost use Rattle.std.specs.Prelude.{◌≡◌, ◌<◌, ◌^◌, ℕ, List, true, false, [], map, length, slice_index_or, Contains, Err, IfOk, None};
+ghost use Rattle.std.specs.Prelude.{◌≡◌, ◌<◌, ◌^◌, ℕ, List, true, false, [], map, length, slice_index_or, Contains, Err, IfOk, IfSome, None};
 ghost use Rattle.bind.specs.Answers.{AreSpelled, AreSmall};
 ghost use Rattle.export_text.specs.Faces.{IsFace};
 ghost use Rattle.face_table.specs.Fitting.{given};
@@ -12,12 +12,14 @@ ghost use Rattle.typed_tree.specs.Basics.{HasBasics};
 ghost use Rattle.unit_read.specs.Index.{found};
 ghost use Rattle.check_pkg.specs.declared.judging.Outcome.TheVariants as outcome;
 ghost use Rattle.check_pkg.specs.Packages.{package_of, package_name, text_of};
-ghost use Rattle.action_graph.specs.Judging.{AllKnown, HasNothing, Tells, accepted_text, fault_line, line_of, load_text};
+ghost use Rattle.action_graph.specs.Judging.{AllKnown, HasNothing, IfAccepted, Tells, accepted_text, fault_line, line_of, load_text, refused_text};
 ghost use Rattle.action_graph.specs.Judging.Judged.{Accepts, Refuses};
+ghost use Rattle.go_kit.specs.Loading.{IsAcceptedOf, kept_with};
 ghost use Rattle.go_kit.specs.Reading.{IsSeenOf, Stands, TellsOf};
 
+use crate::loaded::table_in;
 use action_graph::{Load, MarkLine, Unloaded, write_marks};
-use check_pkg::{Checked, Fault, Outcome, Refusal, check, limit_number};
+use check_pkg::{Checked, Fault, Outcome, Refusal, Typed, check, limit_number};
 use export_text::{gather, mentions, write};
 use go_rules::GoRules;
 use go_tree::{FileTree, token_text};
@@ -58,15 +60,21 @@ fn lines_of(alloc: Global, refused: &[Refusal]) -> Result<Vec<MarkLine>, NoMemor
     Ok(lines)
 }
 
-/// The answer that refuses a package, with its refusals.
-pub(crate) fn refuse(alloc: Global, refused: &[Refusal]) -> Result<Load<()>, NoMemory>
-    ensures { IfOk result (λ load. Tells (Refuses (map line_of refused.now)) (load_text load)) }
+/// The marks text of what refuses a package.
+pub(crate) fn marks_text(alloc: Global, refused: &[Refusal]) -> Result<Bytes, NoMemory>
+    ensures { IfOk result (λ marks. Tells (Refuses (map line_of refused.now)) (refused_text marks)) }
 {
     let lines = lines_of(alloc, refused)?;
     let marks = write_marks(alloc, &lines)?;
-    Ok(Load::Refused {
-        marks: Bytes::new(marks),
-    })
+    Ok(Bytes::new(marks))
+}
+
+/// The answer that refuses a package, with its refusals.
+fn refuse(alloc: Global, refused: &[Refusal]) -> Result<Load<()>, NoMemory>
+    ensures { IfOk result (λ load. Tells (Refuses (map line_of refused.now)) (load_text load)) }
+{
+    let marks = marks_text(alloc, refused)?;
+    Ok(Load::Refused { marks })
 }
 
 /// The bytes of the first file.
@@ -160,9 +168,9 @@ fn accept(
     name: &[u8],
     places: &HashMap<&[u8], usize>,
     checked: Checked,
-) -> Result<(Load<()>, TypeTable), Unloaded>
+) -> Result<(Load<()>, Typed), Unloaded>
     requires stands { Stands path.now checked }
-    ensures table { IfOk result (λ r. r.1 ≡ checked.table) }
+    ensures typed { IfOk result (λ r. r.1 ≡ checked.typed) }
     ensures told { IfOk result (λ r. (f : Face) × IsSeenOf path.now name.now (λ q. found places.now q) checked f × Tells (Accepts f) (load_text r.0)) }
     ensures untold { result ≡ Err Unloaded.Stuck → (f : Face) → IsSeenOf path.now name.now (λ q. found places.now q) checked f → ⊥ }
 {
@@ -171,12 +179,12 @@ fn accept(
     };
     let path = Text::of(alloc, path)?;
     let name = Text::of(alloc, name)?;
-    let table = checked.table;
+    let typed = checked.typed;
     let objects = Row::new(checked.exports);
-    match gather(alloc, &table, path, name, objects) {
+    match gather(alloc, &typed.state.table, path, name, objects) {
         Ok(seen) => {
-            let load = tell_seen(alloc, &table, &seen, places)?;
-            Ok((load, table))
+            let load = tell_seen(alloc, &typed.state.table, &seen, places)?;
+            Ok((load, typed))
         }
         Err(Unread::Unspelled) => Err(Unloaded::Stuck),
         Err(Unread::Memory) => Err(Unloaded::NoMemory),
@@ -191,9 +199,9 @@ fn told(
     trees: &[FileTree],
     places: &HashMap<&[u8], usize>,
     checked: Checked,
-) -> Result<(Load<()>, TypeTable), Unloaded>
+) -> Result<(Load<()>, Typed), Unloaded>
     requires stands { checked.refused.items ≡ [] → Stands path.now checked }
-    ensures table { IfOk result (λ r. r.1 ≡ checked.table) }
+    ensures typed { IfOk result (λ r. r.1 ≡ checked.typed) }
     ensures accepted { IfOk result (λ r. checked.refused.items ≡ [] → (f : Face) × IsSeenOf path.now (package_name (package_of path.now files.now trees.now)) (λ q. found places.now q) checked f × Tells (Accepts f) (load_text r.0)) }
     ensures refused { IfOk result (λ r. (checked.refused.items ≡ [] → ⊥) → Tells (Refuses (map line_of checked.refused.items)) (load_text r.0)) }
     ensures none { result ≡ Err Unloaded.Stuck → checked.refused.items ≡ [] }
@@ -201,14 +209,30 @@ fn told(
 {
     if !are_none(&checked.refused) {
         let load = refuse(alloc, &checked.refused)?;
-        return Ok((load, checked.table));
+        return Ok((load, checked.typed));
     }
     let told = accept(alloc, path, package_name(files, trees), places, checked)?;
     Ok(told)
 }
 
+/// An accepted package with what is kept of it; or a refused one, and its table.
+fn with_kept(load: Load<()>, typed: Typed) -> (Load<Typed>, Option<TypeTable>)
+    ensures { result ≡ kept_with load typed }
+{
+    match load {
+        Load::Accepted { loaded: _, export } => (
+            Load::Accepted {
+                loaded: typed,
+                export,
+            },
+            None,
+        ),
+        Load::Refused { marks } => (Load::Refused { marks }, Some(table_in(typed))),
+    }
+}
+
 /// The answer for a package of this path, by its files and their trees, over the interfaces of other packages, whose types are declared in the
-/// table; and the table, whose types keep their numbers.
+/// table: an accepted package as it is typed; of a refused one the table, too. The types of the table keep their numbers.
 pub(crate) fn judge(
     alloc: Global,
     path: &str,
@@ -216,7 +240,7 @@ pub(crate) fn judge(
     trees: &[FileTree],
     table: TypeTable,
     env: &[Interface],
-) -> Result<(Load<()>, TypeTable), Unloaded>
+) -> Result<(Load<Typed>, Option<TypeTable>), Unloaded>
     requires spelled { AreSpelled trees.now files.now }
     requires small { AreSmall trees.now }
     requires few { length trees.now < 2 ^ 32 }
@@ -224,16 +248,18 @@ pub(crate) fn judge(
     requires within { AreInterfacesIn (count table) (types_in table) env.now }
     requires base { (name : AName) → declarations_in table name ≡ given path.now (faces_of (types_in table) env.now) name }
     ensures told { IfOk result (λ r. TellsOf (package_of path.now files.now trees.now) (faces_of (types_in table) env.now) (load_text r.0)) }
-    ensures basics { IfOk result (λ r. HasBasics r.1) }
-    ensures extends { IfOk result (λ r. Extends (terms_in table) (terms_in r.1)) }
+    ensures accepted { IfOk result (λ r. IfAccepted r.0 (IsAcceptedOf (package_of path.now files.now trees.now) (faces_of (types_in table) env.now))) }
+    ensures grown { IfOk result (λ r. IfAccepted r.0 (λ t. Extends (terms_in table) (terms_in t.state.table))) }
+    ensures basics { IfOk result (λ r. IfSome r.1 HasBasics) }
+    ensures extends { IfOk result (λ r. IfSome r.1 (λ t. Extends (terms_in table) (terms_in t))) }
     ensures circle { result ≡ Err Unloaded.Stuck → HasNothing (package_of path.now files.now trees.now) (faces_of (types_in table) env.now) }
 {
     let places = path_index(alloc, env)?;
     let outcome = check(alloc, &GoRules, path.as_bytes(), files, trees, table, env)?;
     match outcome {
         Outcome::Checked(checked) => {
-            let told = told(alloc, path, files, trees, &places, checked)?;
-            Ok(told)
+            let (load, typed) = told(alloc, path, files, trees, &places, checked)?;
+            Ok(with_kept(load, typed))
         }
         Outcome::Circle => Err(Unloaded::Stuck),
     }

@@ -9,7 +9,7 @@ use Rattle.go_kit.proofs.tell.accept.Goals as goal
 
 pub returns-in-Ok-gather-clause-told : goal.returns-in-Ok-gather-clause-told
 returns-in-Ok-gather-clause-told c =
-    let t = c.args.checked.table in
+    let t = c.args.checked.typed.state.table in
     let told = c.in_ok-load-in-Ok-gather.ensures.told in (
       face_of (types_in t) c.in-Ok-gather.seen,
       seen-of c.args.path.now c.args.name.now c.in_ok-path.path c.in_ok-name.name (map (λ (o : Exported). object_in (types_in t) o) c.new-objects.result) (λ q. found c.args.places.now q) c.args.checked
@@ -20,7 +20,7 @@ returns-in-Ok-gather-clause-told c =
 
 pub returns-in_err-load-in-Ok-gather-clause-untold : goal.returns-in_err-load-in-Ok-gather-clause-untold
 returns-in_err-load-in-Ok-gather-clause-untold c =
-    let t = c.args.checked.table in
+    let t = c.args.checked.typed.state.table in
     let p = err_from_is_err_and c.from_residual-in_err-load-in-Ok-gather.result c.from_residual-in_err-load-in-Ok-gather.ensures.1 in
     rw (p.1, p.2) (λ e.
     none-seen c.args.path.now c.args.name.now c.in_ok-path.path c.in_ok-name.name (map (λ (o : Exported). object_in (types_in t) o) c.new-objects.result) (λ q. found c.args.places.now q) c.args.checked
@@ -29,7 +29,7 @@ returns-in_err-load-in-Ok-gather-clause-untold c =
 
 pub returns-in-Err-Unspelled-clause-untold : goal.returns-in-Err-Unspelled-clause-untold
 returns-in-Err-Unspelled-clause-untold c = λ e.
-    let t = c.args.checked.table in
+    let t = c.args.checked.typed.state.table in
     not-gathered c.args.path.now c.args.name.now c.in_ok-path.path c.in_ok-name.name (map (λ (o : Exported). object_in (types_in t) o) c.new-objects.result) (λ q. found c.args.places.now q) c.args.checked
     c.in_ok-path.ensures (c.in_ok-name.ensures ∙ c.in-Ok.ensures.cases.0) (ap (map (λ (o : Exported). object_in (types_in t) o)) c.new-objects.ensures)
     (rw c.in-Err-Unspelled.field-0-is at c.in-Err-Unspelled.ensures.tells)

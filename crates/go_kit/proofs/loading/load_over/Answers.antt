@@ -4,11 +4,13 @@ use Rattle.face_table.specs.Fitting.{given}
 use Rattle.package_faces.specs.Interfaces.{faces_of}
 use Rattle.package_faces.proofs.FaceLaws.{faces_stay, interfaces_grow}
 use Rattle.typed_tree.proofs.BasicLaws.{grown_basics}
-use Rattle.type_model.specs.Tables.{terms_in, types_in}
-use Rattle.action_graph.specs.Judging.{AreInterfaces, Env, load_text}
-use Rattle.go_kit.proofs.LoadLemmas.{files-spelled, files-small, few-trees, outcome-of, readable, stuck-of, unfit}
+use Rattle.type_model.specs.Tables.{Extends, terms_in, types_in}
+use Rattle.check_pkg.specs.Packages.{package_of}
+use Rattle.action_graph.specs.Judging.{AreInterfaces, Env, load_text, refused_text}
+use Rattle.go_kit.specs.Loading.{IsAcceptedOf, IsTypedOver}
+use Rattle.go_kit.proofs.LoadLemmas.{accepted-both, accepted-so, extends-then, some-so, typed-over, files-spelled, files-small, few-trees, outcome-of, readable, stuck-of, unfit}
 use Rattle.go_kit.proofs.TellLemmas.{err_as}
-use Rattle.go_kit.proofs.kit.load_over.Goals as goal
+use Rattle.go_kit.proofs.loading.load_over.Goals as goal
 
 pub judge-requires-clause-spelled : goal.judge-requires-clause-spelled
 judge-requires-clause-spelled c = files-spelled c.as_slice-files.result.now c.args.input.now.files c.args.trees.now c.as_slice-files.ensures c.requires.files
@@ -38,23 +40,23 @@ judge-requires-clause-base c = λ name.
 
 pub returns-then-not-fit-clause-read : goal.returns-then-not-fit-clause-read
 returns-then-not-fit-clause-read c = λ r.
-    unfit c.args.input.now (faces_of (types_in c.args.table) c.args.env.now) c.as_bytes.result.now (load_text c.in_ok-unread.unread) c.requires.read (c.as_bytes.ensures.value ∙ c.as_str-path.ensures)
+    unfit c.args.input.now (faces_of (types_in c.args.table) c.args.env.now) c.as_bytes.result.now (refused_text c.in_ok-marks.marks) c.requires.read (c.as_bytes.ensures.value ∙ c.as_str-path.ensures)
     (c.in_ok-fit.ensures.unfit c.if-not-fit.true) r
 
 pub returns-clause-read : goal.returns-clause-read
 returns-clause-read c = λ r.
     let declares = c.in_ok-fit.ensures.given c.if-not-fit.false in
     let stay = faces_stay (terms_in c.args.table) (terms_in c.declare_faces.new.t) declares.extends c.args.env.now c.requires.within in
-    outcome-of c.args.input.now c.as_slice-files.result.now c.args.trees.now (faces_of (types_in c.declare_faces.new.t) c.args.env.now) c.as_str-path.result.now (load_text c.in_ok-load.load)
-    c.requires.files (subst (λ (faces : Env). AreInterfaces c.args.input.now.env faces) (sym stay) c.requires.read) c.as_slice-files.ensures c.as_str-path.ensures c.in_ok-load.ensures.told
+    outcome-of c.args.input.now c.as_slice-files.result.now c.args.trees.now (faces_of (types_in c.declare_faces.new.t) c.args.env.now) c.as_str-path.result.now (load_text c.in_ok-loaded.loaded.0)
+    c.requires.files (subst (λ (faces : Env). AreInterfaces c.args.input.now.env faces) (sym stay) c.requires.read) c.as_slice-files.ensures c.as_str-path.ensures c.in_ok-loaded.ensures.told
 
-pub returns-in_err-load-clause-circle : goal.returns-in_err-load-clause-circle
-returns-in_err-load-clause-circle c =
-    let p = err_from_is_err_and c.from_residual-in_err-load.result c.from_residual-in_err-load.ensures.1 in
+pub returns-in_err-loaded-clause-circle : goal.returns-in_err-loaded-clause-circle
+returns-in_err-loaded-clause-circle c =
+    let p = err_from_is_err_and c.from_residual-in_err-loaded.result c.from_residual-in_err-loaded.ensures.1 in
     let declares = c.in_ok-fit.ensures.given c.if-not-fit.false in
     let stay = faces_stay (terms_in c.args.table) (terms_in c.declare_faces.new.t) declares.extends c.args.env.now c.requires.within in
     rw (p.1, p.2) (λ e. stuck-of c.args.input.now c.as_slice-files.result.now c.args.trees.now (faces_of (types_in c.declare_faces.new.t) c.args.env.now) c.as_str-path.result.now
-    c.requires.files (subst (λ (faces : Env). AreInterfaces c.args.input.now.env faces) (sym stay) c.requires.read) c.as_slice-files.ensures c.as_str-path.ensures (c.in_err-load.ensures.circle (err_as _ _ e)))
+    c.requires.files (subst (λ (faces : Env). AreInterfaces c.args.input.now.env faces) (sym stay) c.requires.read) c.as_slice-files.ensures c.as_str-path.ensures (c.in_err-loaded.ensures.circle (err_as _ _ e)))
 
 pub returns-clause-unread : goal.returns-clause-unread
 returns-clause-unread c = λ unread.
@@ -62,7 +64,23 @@ returns-clause-unread c = λ unread.
     (c.as_bytes.ensures.value ∙ c.as_str-path.ensures) (c.in_ok-fit.ensures.are_fit c.if-not-fit.false)))
 
 pub returns-clause-extends : goal.returns-clause-extends
-returns-clause-extends c = λ i low.
-    let first = (c.in_ok-fit.ensures.given c.if-not-fit.false).extends i low in
-    let then_so = c.in_ok-load.ensures.extends i first.0 in
-    (then_so.0, then_so.1 ∙ first.1)
+returns-clause-extends c =
+    let declares = c.in_ok-fit.ensures.given c.if-not-fit.false in
+    some-so c.in_ok-loaded.loaded.1 (λ t. Extends (terms_in c.declare_faces.new.t) (terms_in t)) (λ t. Extends (terms_in c.args.table) (terms_in t))
+    (λ t more. extends-then (terms_in c.args.table) (terms_in c.declare_faces.new.t) (terms_in t) declares.extends more) c.in_ok-loaded.ensures.extends
+
+pub returns-clause-grown : goal.returns-clause-grown
+returns-clause-grown c =
+    let declares = c.in_ok-fit.ensures.given c.if-not-fit.false in
+    accepted-so c.in_ok-loaded.loaded.0 (λ t. Extends (terms_in c.declare_faces.new.t) (terms_in t.state.table)) (λ t. Extends (terms_in c.args.table) (terms_in t.state.table))
+    (λ t more. extends-then (terms_in c.args.table) (terms_in c.declare_faces.new.t) (terms_in t.state.table) declares.extends more) c.in_ok-loaded.ensures.grown
+
+pub returns-clause-accepted : goal.returns-clause-accepted
+returns-clause-accepted c =
+    let declares = c.in_ok-fit.ensures.given c.if-not-fit.false in
+    let faces = faces_of (types_in c.declare_faces.new.t) c.args.env.now in
+    accepted-both c.in_ok-loaded.loaded.0 (IsAcceptedOf (package_of c.as_str-path.result.now c.as_slice-files.result.now c.args.trees.now) faces) (λ t. Extends (terms_in c.declare_faces.new.t) (terms_in t.state.table))
+    (IsTypedOver c.args.input.now c.args.trees.now c.args.env.now)
+    (λ t accepted more. typed-over c.args.input.now c.as_slice-files.result.now c.args.trees.now c.as_str-path.result.now c.args.table c.declare_faces.new.t c.args.env.now t c.as_slice-files.ensures c.as_str-path.ensures
+    declares.extends more c.requires.within c.requires.read accepted)
+    c.in_ok-loaded.ensures.accepted c.in_ok-loaded.ensures.grown

@@ -1,5 +1,5 @@
 use Rattle.go_kit.proofs.KnownLemmas.{all_grow}
-use Rattle.go_kit.proofs.kit.again.Goals as goal
+use Rattle.go_kit.proofs.storing.again.Goals as goal
 
 pub returns-clause-kept : goal.returns-clause-kept
 returns-clause-kept c = record {

@@ -1,6 +1,6 @@
 use Rattle.std.proofs.Common.{◌∙◌}
 use Rattle.typed_tree.proofs.BasicLaws.{grown_basics}
-use Rattle.go_kit.proofs.kit.load_trees.Goals as goal
+use Rattle.go_kit.proofs.loading.load_trees.Goals as goal
 
 pub load_env-requires-clause-basics : goal.load_env-requires-clause-basics
 load_env-requires-clause-basics c = grown_basics c.args.kept.table c.read_env.new.table c.requires.kept.basics c.in_ok-read.ensures.grown.table c.in_ok-read.ensures.grown.extends

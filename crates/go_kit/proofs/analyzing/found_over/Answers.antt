@@ -1,0 +1,60 @@
+use Rattle.std.proofs.Common.{◌≡◌, ℕ, ◌≤◌, ◌^◌, List, length, map, sym, ap, ◌∙◌, subst, arith}
+use Rattle.go_tree.specs.declared.tree.FileTree.{FileTree}
+use Rattle.bind.specs.Answers.{AreSmall}
+use Rattle.unit_read.specs.declared.environment.Environment.{Environment}
+use Rattle.unit_read.specs.Environments.{faces_in}
+use Rattle.unit_read.specs.Index.{texts_of}
+use Rattle.unit_read.specs.Subjects.{unit_of}
+use Rattle.unit_read.specs.Units.{Unit}
+use Rattle.check_pkg.specs.Typings.{marks_of}
+use Rattle.vet_suite.specs.Free.{path_of}
+use Rattle.vet_suite.specs.Suite.{FoundBy}
+use Rattle.action_graph.specs.Nodes.{Named}
+use Rattle.go_kit.specs.Loading.{unit_loaded}
+use Rattle.go_kit.proofs.RunLemmas.{few-files, given-of, ordered-uses, read-as, scene-of, small-trees}
+use Rattle.go_kit.proofs.analyzing.found_over.Goals as goal
+
+pub subject-requires-clause-small : goal.subject-requires-clause-small
+subject-requires-clause-small c = subst (λ (trees : List FileTree). AreSmall trees) (sym c.deref.ensures.value) (small-trees c.args.loaded.now c.args.load.now c.requires.of)
+
+pub subject-requires-clause-few : goal.subject-requires-clause-few
+subject-requires-clause-few c =
+    let few = few-files c.args.loaded.now c.args.load.now c.requires.of in
+    subst (λ (trees : List FileTree). length trees ≤ 2 ^ 32) (sym c.deref.ensures.value) (omega (arith, few))
+
+pub subject-requires-clause-uses : goal.subject-requires-clause-uses
+subject-requires-clause-uses c = ordered-uses c.args.loaded.now c.args.load.now c.requires.of
+
+pub found_in-requires-clause-pass : goal.found_in-requires-clause-pass
+found_in-requires-clause-pass c =
+    let l = c.args.loaded.now in
+    let input = c.args.load.now in
+    let same : unit_of c.in_ok-subject.subject ≡ unit_loaded l input =
+    read-as l input c.requires.of (unit_of c.in_ok-subject.subject) c.as_bytes-path.result.now (texts_of c.args.texts.now) c.deref.result.now (faces_in c.args.env.now) c.in_ok-subject.ensures.of
+    (c.as_bytes-path.ensures.value ∙ c.as_str.ensures) c.requires.texts c.deref.ensures.value c.requires.faces in
+    let trees : c.in_ok-subject.subject.trees.now ≡ l.trees.items = ap (λ (u : Unit). u.trees) same in
+    let few = few-files l input c.requires.of in
+    record {
+      scene = scene-of l input c.requires.of c.in_ok-subject.subject c.in_ok-subject.ensures.read same (ap (λ (e : Environment). e.types.now) c.in_ok-subject.ensures.env ∙ c.requires.types);
+      small = subst (λ (ts : List FileTree). AreSmall ts) (sym trees) (small-trees l input c.requires.of);
+      few = subst (λ (ts : List FileTree). length ts ≤ 2 ^ 32) (sym trees) (omega (arith, few));
+    }
+
+pub found_in-requires-clause-given : goal.found_in-requires-clause-given
+found_in-requires-clause-given c =
+    let l = c.args.loaded.now in
+    let input = c.args.load.now in
+    let same : unit_of c.in_ok-subject.subject ≡ unit_loaded l input =
+    read-as l input c.requires.of (unit_of c.in_ok-subject.subject) c.as_bytes-path.result.now (texts_of c.args.texts.now) c.deref.result.now (faces_in c.args.env.now) c.in_ok-subject.ensures.of
+    (c.as_bytes-path.ensures.value ∙ c.as_str.ensures) c.requires.texts c.deref.ensures.value c.requires.faces in
+    given-of l input c.requires.of (unit_of c.in_ok-subject.subject) c.as_slice-files.result.now c.args.named.now same c.as_slice-files.ensures c.requires.named
+
+pub returns : goal.returns
+returns c =
+    let l = c.args.loaded.now in
+    let input = c.args.load.now in
+    let same : unit_of c.in_ok-subject.subject ≡ unit_loaded l input =
+    read-as l input c.requires.of (unit_of c.in_ok-subject.subject) c.as_bytes-path.result.now (texts_of c.args.texts.now) c.deref.result.now (faces_in c.args.env.now) c.in_ok-subject.ensures.of
+    (c.as_bytes-path.ensures.value ∙ c.as_str.ensures) c.requires.texts c.deref.ensures.value c.requires.faces in
+    subst (λ (u : Unit). FoundBy c.args.number u (marks_of l.typed) (map path_of input.files) c.in_ok-found.found.items) same
+    (subst (λ (files : List Named). FoundBy c.args.number (unit_of c.in_ok-subject.subject) (marks_of l.typed) (map path_of files) c.in_ok-found.found.items) c.as_slice-files.ensures c.in_ok-found.ensures)
