@@ -1,13 +1,17 @@
--- Where no lawful load is without an outcome, no tree is without verdicts, inputs and a cache.
+-- Where no lawful load and no lawful run is without an outcome, no tree is without verdicts, findings, inputs and a cache.
 use Rattle.std.proofs.Common.{◌≡◌, ℕ, zero, suc, ◌+◌, ◌<◌, ◌≤◌, ◌⊎◌, inl, inr, Bool, true, false, if◌then◌else◌, Option, Some, None, List, [], ◌∷◌, ◌++◌, length, map, slice_get, refl, sym, ap, ◌∙◌, subst, arith}
 use Rattle.std.specs.List.{Contains}
 use Rattle.std.proofs.lemmas.List.{length-append, length-map}
 use Rattle.std.proofs.lemmas.List.Elements.{Contains-append_left, Contains-push, Contains-push_cases}
 use Rattle.std.proofs.lemmas.Option.{same_Some, slice_get_within}
 use Rattle.package_faces.specs.Faces.{Face}
+use Rattle.analysis_core.specs.declared.diagnostic.Diagnostic.{Diagnostic}
 use Rattle.action_graph.specs.declared.kit.LoadInput.{LoadInput}
 use Rattle.action_graph.specs.Nodes.{Named}
-use Rattle.action_graph.specs.Judging.{Judged, Env, Judges, IsOutcomeOf, Tells}
+use Rattle.action_graph.specs.declared.marks.MarkLine.{MarkLine}
+use Rattle.action_graph.specs.Analyzing.{IsRunOutcome}
+use Rattle.action_graph.specs.Judging.{Judged, Env, IsLawful, IsOutcome, Judges, Tells, accepted_text}
+use Rattle.action_graph.specs.Work.{IsAnalyzer}
 use Rattle.action_graph.specs.Judging.Judged.{Accepts, Refuses}
 use Rattle.fact_cache.specs.declared.texts.Input.{Input}
 use Rattle.fact_cache.specs.declared.list.Entry.{Entry}
@@ -18,15 +22,19 @@ use Rattle.gv_driver.specs.declared.reply.Verdict.TheVariants as verdict
 use Rattle.gv_driver.specs.Trees.{IsTree}
 use Rattle.gv_driver.specs.Whole.{AreRising, IsEnv, Checked}
 use Rattle.gv_driver.specs.Whole.Checked.{checked}
-use Rattle.gv_driver.specs.Loads.{AreExports, IsExport, IsLoadOf, IsInput, IsPlan, load_input}
+use Rattle.gv_driver.specs.Analyzers.{AreAnalyzers, analyzers_of}
+use Rattle.gv_driver.specs.Loads.{AreExports, IsExport, IsLoadOf, IsInput, IsNodeInput, IsPlan, all_inputs, load_input, run_key, run_keys, run_over}
 use Rattle.gv_driver.specs.Caches.{IsHonest, IsRight, IsCacheAfter, missing_of, is_cached, input_of}
-use Rattle.gv_driver.specs.Reports.{HasVerdict, IsReport}
-use Rattle.gv_driver.specs.Existence.{AllHaveOutcomes, HasRun}
+use Rattle.gv_driver.specs.Reports.{AreFoundOf, HasFound, HasVerdict, IsReport, IsRunReport}
+use Rattle.gv_driver.specs.Existence.{AllHaveOutcomes, AllRunsHaveOutcomes, HasRun}
 use Rattle.gv_driver.proofs.Places.{element, at-contained, contains-head, contains-tail, cons-cases, nothing-contained, get-push_cases, get-unmapped, get-mapped}
 use Rattle.gv_driver.proofs.RowLemmas.{less-or-last, rising-push}
 use Rattle.gv_driver.proofs.AroundLaws.{IsNearby, reach-low, row-env}
+use Rattle.gv_driver.proofs.AnalyzerLaws.{are-analyzers}
+use Rattle.gv_driver.proofs.EntryLaws.{in-append}
+use Rattle.gv_driver.proofs.FindingLaws.{found-there}
 use Rattle.gv_driver.proofs.LawfulLaws.{load-lawful}
-use Rattle.gv_driver.proofs.WholeLaws.{same_pack, opened, shown, unique, judged-of, unique-input}
+use Rattle.gv_driver.proofs.WholeLaws.{same_pack, opened, shown, unique, judged-of, unique-input, unique-load}
 
 -- what holds or doesn't can't be denied
 either : {A : Type 0} → ((A ⊎ (A → ⊥)) → ⊥) → ⊥
@@ -85,7 +93,7 @@ is-load : (tree : List PackageTexts) (p : ℕ) (pack : PackageTexts) (numbers : 
     → AreExports tree numbers faces pairs → IsLoadOf tree p (load-with pack pairs)
 is-load tree p pack numbers faces pairs at sound are texts = record { pack = pack; at = at; sound = sound; path = refl; files = refl; numbers = numbers; faces = faces; are = are; env = texts }
 
-module _ (outcomes : AllHaveOutcomes) (tree : List PackageTexts) (formed : IsTree tree) where
+module _ (outcomes : AllHaveOutcomes) (run_outcomes : AllRunsHaveOutcomes) (tree : List PackageTexts) (only : ℕ) (formed : IsTree tree) where
   told-text : (p : ℕ) (pack : PackageTexts) (i : Face) (v : Judged) (text : List ℕ) → slice_get tree p ≡ Some pack → Accepts i ≡ v → Tells v text → (x : Named) × IsExport tree p i x
   told-text p pack i v text at same told =
       let export = subst (λ (w : Judged). Tells w text) (sym same) told in
@@ -148,39 +156,124 @@ module _ (outcomes : AllHaveOutcomes) (tree : List PackageTexts) (formed : IsTre
 
   -- the outcome of an input
   abbrev OutcomeAt : Input → Type 0
-  OutcomeAt t = (t.node ≡ 0) × ((text : List ℕ) × IsOutcomeOf t.texts text)
+  OutcomeAt t = (text : List ℕ) × IsRight (record { input = t; outcome = text })
 
-  -- the verdict of a package, and the input of its load, if it has one, with what comes of it
+  -- the verdict of a package, what is found of it, and the inputs of its nodes, each with what comes of it
   record IsSettled (p : ℕ) : Type 0 where
     told : Verdict
     has : HasVerdict tree p told
-    input : Option Input
-    right : (t : Input) → input ≡ Some t → IsInput tree p t × OutcomeAt t
-    every : (t : Input) → IsInput tree p t → input ≡ Some t
+    found : List Diagnostic
+    finds : HasFound tree only p told found
+    inputs : List Input
+    right : (k : ℕ) (t : Input) → slice_get inputs k ≡ Some t → IsNodeInput tree only p k t × OutcomeAt t
+    every : (k : ℕ) (t : Input) → IsNodeInput tree only p k t → slice_get inputs k ≡ Some t
 
-  abbrev judged-verdict : Judged → Verdict
-  judged-verdict (Accepts i) = verdict.Accepted
-  judged-verdict (Refuses marks) = verdict.Refused marks
+  nothing-at : (k : ℕ) (t : Input) → slice_get [] k ≡ Some t → ⊥
+  nothing-at zero t e = cc
+  nothing-at (suc k) t e = cc
 
-  has-judged : (p : ℕ) (v : Judged) → Checked tree p v → HasVerdict tree p (judged-verdict v)
-  has-judged p (Accepts i) is = (i, is)
-  has-judged p (Refuses marks) is = is
-
-  none-some : {A : Type 0} (a : A) → None ≡ Some a → ⊥
-  none-some a e = cc
+  node-load : (p k : ℕ) (t : Input) → IsNodeInput tree only p k t → (s : Input) × IsInput tree p s
+  node-load p zero t is = (t, is)
+  node-load p (suc k) t is = (load_input is.load, record { load = is.load; of = is.of; is = refl })
 
   -- a package without a load
-  unloaded : (p : ℕ) (v : Verdict) → HasVerdict tree p v → ((t : Input) → IsInput tree p t → ⊥) → IsSettled p
-  unloaded p v has never = record { told = v; has = has; input = None; right = λ t e. absurd (none-some t e); every = λ t is. absurd (never t is) }
+  unloaded : (p : ℕ) (v : Verdict) → HasVerdict tree p v → HasFound tree only p v [] → ((t : Input) → IsInput tree p t → ⊥) → IsSettled p
+  unloaded p v has nothing never = record { told = v; has = has; found = []; finds = nothing; inputs = []; right = λ k t e. absurd (nothing-at k t e); every = λ k t is. (let s = node-load p k t is in absurd (never s.0 s.1)) }
 
-  loaded : (p : ℕ) (load : LoadInput) (text : List ℕ) → IsLoadOf tree p load → (v : Judged) → Checked tree p v → IsOutcomeOf (load_input load).texts text → IsSettled p
-  loaded p load text of v is outcome = record {
-    told = judged-verdict v;
-    has = has-judged p v is;
-    input = Some (load_input load);
-    right = λ t e. subst (λ (s : Input). IsInput tree p s × OutcomeAt s) (same_Some (load_input load) t e) (record { load = load; of = of; is = refl }, (refl, (text, outcome)));
-    every = λ t is. ap (λ (s : Input). Some s) (unique-input tree p (load_input load) t (record { load = load; of = of; is = refl }) is);
+  load-right : (p : ℕ) (load : LoadInput) (text : List ℕ) → IsLawful load → IsOutcome load text → OutcomeAt (load_input load)
+  load-right p load text lawful outcome = (text, inl (refl, record { load = load; is = refl; lawful = lawful; outcome = outcome }))
+
+  load-first : (p : ℕ) (load : LoadInput) → IsLoadOf tree p load → (t : Input) → IsInput tree p t → load_input load ≡ t
+  load-first p load of t is = unique-input tree p (load_input load) t (record { load = load; of = of; is = refl }) is
+
+  -- a package that isn't accepted has no runs
+  refused : (p : ℕ) (load : LoadInput) (text : List ℕ) (marks : List MarkLine) → IsLoadOf tree p load → IsLawful load → IsOutcome load text → Checked tree p (Refuses marks) → IsSettled p
+  refused p load text marks of lawful outcome is = record {
+    told = verdict.Refused marks;
+    has = is;
+    found = [];
+    finds = refl;
+    inputs = load_input load ∷ [];
+    right = right;
+    every = every;
   }
+    where
+      right : (k : ℕ) (t : Input) → slice_get (load_input load ∷ []) k ≡ Some t → IsNodeInput tree only p k t × OutcomeAt t
+      right zero t e = subst (λ (s : Input). IsInput tree p s × OutcomeAt s) (same_Some (load_input load) t e) (record { load = load; of = of; is = refl }, load-right p load text lawful outcome)
+      right (suc k) t e = absurd (nothing-at k t e)
+
+      every : (k : ℕ) (t : Input) → IsNodeInput tree only p k t → slice_get (load_input load ∷ []) k ≡ Some t
+      every zero t n = ap (λ (s : Input). Some s) (load-first p load of t n)
+      every (suc k) t n = (let wrong : Refuses marks ≡ Accepts n.face = unique tree p (Refuses marks) (Accepts n.face) is n.good in cc)
+
+  -- the outcome of a run
+  abbrev RunHas : LoadInput → ℕ → Type 0
+  RunHas load a = (text : List ℕ) × IsRunOutcome (run_over a load) text
+
+  -- outcomes of the runs of these analyzers
+  abbrev RunsHave : LoadInput → List ℕ → Type 0
+  RunsHave load ns = (k a : ℕ) → slice_get ns k ≡ Some a → RunHas load a
+
+  run-right : (load : LoadInput) (a : ℕ) (text : List ℕ) → IsLawful load → IsAnalyzer a → IsRunOutcome (run_over a load) text → OutcomeAt (run_key load a)
+  run-right load a text lawful number outcome = (text, inr (number.0, record { run = run_over a load; of = refl; is = refl; lawful = record { load = lawful; number = number; named = tt }; outcome = outcome }))
+
+  runs-have : (load : LoadInput) (export : List ℕ) (ns : List ℕ) → IsLawful load → IsOutcome load (accepted_text export) → AreAnalyzers ns → (RunsHave load ns → ⊥) → ⊥
+  runs-have load export [] lawful outcome are none = none (λ k a e. absurd (nothing k a e))
+    where
+      nothing : (k a : ℕ) → slice_get [] k ≡ Some a → ⊥
+      nothing zero a e = cc
+      nothing (suc k) a e = cc
+  runs-have load export (n ∷ ns) lawful outcome are none =
+      run_outcomes (run_over n load) export (record { load = lawful; number = are 0 n refl; named = tt }) outcome (λ text one.
+      runs-have load export ns lawful outcome (λ k. are (suc k)) (λ rest. none (both (text, one) rest)))
+    where
+      both : RunHas load n → RunsHave load ns → RunsHave load (n ∷ ns)
+      both first rest zero a e = subst (λ (x : ℕ). RunHas load x) (same_Some n a e) first
+      both first rest (suc k) a e = rest k a e
+
+  -- what these analyzers find
+  runs-find : (p : ℕ) (load : LoadInput) (of : IsLoadOf tree p load) (ns : List ℕ) → RunsHave load ns → (ds : List Diagnostic) × AreFoundOf tree p of.pack ns ds
+  runs-find p load of [] have = ([], refl)
+  runs-find p load of (n ∷ ns) have =
+      let run = have 0 n refl in
+      let mine = found-there tree only p of.pack load of of.at n run.0 run.1 in
+      let rest = runs-find p load of ns (λ k a e. have (suc k) a e) in
+      (mine.0 ++ rest.0, (mine.0, rest.0, mine.1, rest.1, refl))
+
+  accepted : (p : ℕ) (load : LoadInput) (text : List ℕ) (i : Face) (of : IsLoadOf tree p load) → IsLawful load → IsOutcome load text → Checked tree p (Accepts i) → RunsHave load (analyzers_of only of.pack.stub) → IsSettled p
+  accepted p load text i of lawful outcome is have = record {
+    told = verdict.Accepted;
+    has = (i, is);
+    found = found.0;
+    finds = (of.pack, of.at, found.1);
+    inputs = load_input load ∷ run_keys load (analyzers_of only of.pack.stub);
+    right = right;
+    every = every;
+  }
+    where
+      found : (ds : List Diagnostic) × AreFoundOf tree p of.pack (analyzers_of only of.pack.stub) ds
+      found = runs-find p load of (analyzers_of only of.pack.stub) have
+
+      right : (k : ℕ) (t : Input) → slice_get (load_input load ∷ run_keys load (analyzers_of only of.pack.stub)) k ≡ Some t → IsNodeInput tree only p k t × OutcomeAt t
+      right zero t e = subst (λ (s : Input). IsInput tree p s × OutcomeAt s) (same_Some (load_input load) t e) (record { load = load; of = of; is = refl }, load-right p load text lawful outcome)
+      right (suc k) t e =
+          let a = get-unmapped (run_key load) (analyzers_of only of.pack.stub) k t e in
+          let run = have k a.0 a.1 in
+          (record { load = load; of = of; face = i; good = is; analyzer = a.0; chosen = a.1; is = sym a.2 }, subst OutcomeAt a.2 (run-right load a.0 run.0 lawful (are-analyzers only of.pack.stub k a.0 a.1) run.1))
+
+      every : (k : ℕ) (t : Input) → IsNodeInput tree only p k t → slice_get (load_input load ∷ run_keys load (analyzers_of only of.pack.stub)) k ≡ Some t
+      every zero t n = ap (λ (s : Input). Some s) (load-first p load of t n)
+      every (suc k) t n =
+          let same : n.load ≡ load = unique-load tree p n.load load n.of of in
+          let chosen : slice_get (analyzers_of only of.pack.stub) k ≡ Some n.analyzer = subst (λ (x : PackageTexts). slice_get (analyzers_of only x.stub) k ≡ Some n.analyzer) (same_pack tree p n.of.pack of.pack n.of.at of.at) n.chosen in
+          get-mapped (run_key load) (analyzers_of only of.pack.stub) k n.analyzer chosen
+          ∙ ap (λ (s : Input). Some s) (ap (λ (l : LoadInput). run_key l n.analyzer) (sym same) ∙ sym n.is)
+
+  told-by : (p : ℕ) (load : LoadInput) (text : List ℕ) (of : IsLoadOf tree p load) (v : Judged) → IsLawful load → IsOutcome load text → Checked tree p v → Tells v text → (IsSettled p → ⊥) → ⊥
+  told-by p load text of (Refuses marks) lawful outcome is tells k = k (refused p load text marks of lawful outcome is)
+  told-by p load text of (Accepts i) lawful outcome is tells k =
+      runs-have load tells.0 (analyzers_of only of.pack.stub) lawful (subst (λ (t : List ℕ). IsOutcome load t) tells.2 outcome) (are-analyzers only of.pack.stub) (λ have.
+      k (accepted p load text i of lawful outcome is have))
 
   settled : (p : ℕ) (pack : PackageTexts) → slice_get tree p ≡ Some pack → (IsSettled p → ⊥) → ⊥
   settled p pack at k = by pack.sound refl
@@ -199,15 +292,15 @@ module _ (outcomes : AllHaveOutcomes) (tree : List PackageTexts) (formed : IsTre
           never i.0 (is.of.are.good q i.0 i.1)
 
       by : (b : Bool) → pack.sound ≡ b → ⊥
-      by false never = k (unloaded p verdict.Faulty (pack, at, never) (unsound never))
+      by false never = k (unloaded p verdict.Faulty (pack, at, never) refl (unsound never))
       by true sound =
           blocked-or pack.imports (λ (cases : HasBlocked pack.imports ⊎ AreAccepted pack.imports). elim cases [
-            | inl b ↦ k (unloaded p verdict.Blocked (pack, at, sound, (b.0, b.1, b.2)) (stopped b.0 b.1 b.2))
+            | inl b ↦ k (unloaded p verdict.Blocked (pack, at, sound, (b.0, b.1, b.2)) refl (stopped b.0 b.1 b.2))
             | inr good ↦ loads p pack at sound good (λ load of.
                 let lawful = load-lawful tree p load formed of in
                 outcomes load lawful (λ text outcome.
                 let judged = judged-of tree p load text of outcome in
-                k (loaded p load text of judged.0 judged.1 (record { load = load; is = refl; lawful = lawful; outcome = outcome }))))
+                told-by p load text of judged.0 lawful outcome judged.1 judged.2 k))
           ])
 
   -- ---- all packages
@@ -239,31 +332,39 @@ module _ (outcomes : AllHaveOutcomes) (tree : List PackageTexts) (formed : IsTre
   abbrev Added : List Entry → List Input → Type 0
   Added before inputs = (added : List Entry) × (map input_of added ≡ inputs) × IsHonest added
 
-  entry-more : (before : List Entry) (t : Input) (xs : List (Option Input)) → OutcomeAt t → Added before (missing_of before xs) → Added before (missing_of before (Some t ∷ xs))
+  entry-more : (before : List Entry) (t : Input) (xs : List Input) → OutcomeAt t → Added before (missing_of before xs) → Added before (missing_of before (t ∷ xs))
   entry-more before t xs mine rest = by (is_cached before t)
     where
       by : (b : Bool) → Added before (if b then missing_of before xs else (t ∷ missing_of before xs))
       by true = rest
-      by false = (record { input = t; outcome = mine.1.0 } ∷ rest.0, ap (λ (l : List Input). t ∷ l) rest.1, ((mine.0, mine.1.1), rest.2))
+      by false = (record { input = t; outcome = mine.0 } ∷ rest.0, ap (λ (l : List Input). t ∷ l) rest.1, (mine.1, rest.2))
 
   -- entries of the missing inputs
-  entries : (before : List Entry) (xs : List (Option Input)) → ((t : Input) → Contains xs (Some t) → OutcomeAt t) → Added before (missing_of before xs)
+  entries : (before : List Entry) (xs : List Input) → ((t : Input) → Contains xs t → OutcomeAt t) → Added before (missing_of before xs)
   entries before [] each = ([], refl, tt)
-  entries before (None ∷ xs) each = entries before xs (λ t has. each t (contains-tail None (Some t) xs has))
-  entries before (Some t ∷ xs) each = entry-more before t xs (each t (contains-head (Some t) xs)) (entries before xs (λ s has. each s (contains-tail (Some t) (Some s) xs has)))
+  entries before (t ∷ xs) each = entry-more before t xs (each t (contains-head t xs)) (entries before xs (λ s has. each s (contains-tail t s xs has)))
 
-  pub run-exists : (before : List Entry) → HasRun tree before
+  in-rows : (rows : List (List Input)) (t : Input) → Contains (all_inputs rows) t → (p k : ℕ) × (row : List Input) × (slice_get rows p ≡ Some row) × (slice_get row k ≡ Some t)
+  in-rows [] t c = absurd (let l : c.0 < 0 = c.1 in omega (arith, l))
+  in-rows (row ∷ rows) t c = elim (in-append row (all_inputs rows) t c) [
+    | inl h ↦ (0, h.0, row, refl, at-contained row t h)
+    | inr h ↦ (let r = in-rows rows t h in (suc r.0, r.1, r.2, r.3, r.4))
+  ]
+
+  pub run-exists : (before : List Entry) → HasRun tree only before
   run-exists before none = rows-up (length tree) (omega arith) (λ rows are.
-      let inputs : List (Option Input) = map (λ (r : Row). r.what.input) rows in
-      let added = entries before inputs (λ t has.
-      let found = get-unmapped (λ (r : Row). r.what.input) rows has.0 (Some t) (at-contained inputs (Some t) has) in
-      (found.0.what.right t found.2).1) in
-      none (map (λ (r : Row). r.what.told) rows) inputs (trimmed (before ++ added.0))
+      let plan : List (List Input) = map (λ (r : Row). r.what.inputs) rows in
+      let added = entries before (all_inputs plan) (λ t has.
+      let at = in-rows plan t has in
+      let found = get-unmapped (λ (r : Row). r.what.inputs) rows at.0 at.2 at.3 in
+      (found.0.what.right at.1 t (subst (λ (l : List Input). slice_get l at.1 ≡ Some t) (sym found.2) at.4)).1) in
+      none (map (λ (r : Row). r.what.told) rows) (map (λ (r : Row). r.what.found) rows) plan (trimmed (before ++ added.0))
       (record { size = length-map rows (λ (r : Row). r.what.told) ∙ are.size; each = λ p v at. verdict-at rows are p v at })
+      (record { size = length-map rows (λ (r : Row). r.what.found) ∙ are.size; each = λ p v ds at here. found-at rows are p v ds at here })
       (record {
-        size = length-map rows (λ (r : Row). r.what.input) ∙ are.size;
-        right = λ p t at. input-at rows are p t at;
-        every = λ p t is. every-at rows are p t is;
+        size = length-map rows (λ (r : Row). r.what.inputs) ∙ are.size;
+        right = λ p k row t at here. input-at rows are p k row t at here;
+        every = λ p k row t at is. every-at rows are p k row t at is;
       })
       (record { added = added.0; is = refl; whole = added.1; right = added.2 }))
     where
@@ -272,14 +373,20 @@ module _ (outcomes : AllHaveOutcomes) (tree : List PackageTexts) (formed : IsTre
           let found = get-unmapped (λ (r : Row). r.what.told) rows p v at in
           subst (λ (n : ℕ). HasVerdict tree n v) (are.each p found.0 found.1) (subst (HasVerdict tree found.0.number) found.2 found.0.what.has)
 
-      input-at : (rows : List Row) → AreRows (length tree) rows → (p : ℕ) (t : Input) → slice_get (map (λ (r : Row). r.what.input) rows) p ≡ Some (Some t) → IsInput tree p t
-      input-at rows are p t at =
-          let found = get-unmapped (λ (r : Row). r.what.input) rows p (Some t) at in
-          subst (λ (n : ℕ). IsInput tree n t) (are.each p found.0 found.1) (found.0.what.right t found.2).0
+      found-at : (rows : List Row) → AreRows (length tree) rows → (p : ℕ) (v : Verdict) (ds : List Diagnostic) → slice_get (map (λ (r : Row). r.what.told) rows) p ≡ Some v → slice_get (map (λ (r : Row). r.what.found) rows) p ≡ Some ds
+          → HasFound tree only p v ds
+      found-at rows are p v ds at here =
+          let found = get-unmapped (λ (r : Row). r.what.found) rows p ds here in
+          let told : found.0.what.told ≡ v = same_Some found.0.what.told v (sym (get-mapped (λ (r : Row). r.what.told) rows p found.0 found.1) ∙ at) in
+          subst (λ (n : ℕ). HasFound tree only n v ds) (are.each p found.0 found.1)
+          (subst (λ (w : Verdict). HasFound tree only found.0.number w ds) told (subst (HasFound tree only found.0.number found.0.what.told) found.2 found.0.what.finds))
 
-      every-at : (rows : List Row) → AreRows (length tree) rows → (p : ℕ) (t : Input) → IsInput tree p t → slice_get (map (λ (r : Row). r.what.input) rows) p ≡ Some (Some t)
-      every-at rows are p t is =
-          let low : p < length tree = slice_get_within tree p is.of.pack is.of.at in
-          let size : length rows ≡ length tree = are.size in
-          let row = element rows p (omega (arith, low, size)) in
-          get-mapped (λ (r : Row). r.what.input) rows p row.0 row.1 ∙ ap (λ (o : Option Input). Some o) (row.0.what.every t (subst (λ (n : ℕ). IsInput tree n t) (sym (are.each p row.0 row.1)) is))
+      input-at : (rows : List Row) → AreRows (length tree) rows → (p k : ℕ) (row : List Input) (t : Input) → slice_get (map (λ (r : Row). r.what.inputs) rows) p ≡ Some row → slice_get row k ≡ Some t → IsNodeInput tree only p k t
+      input-at rows are p k row t at here =
+          let found = get-unmapped (λ (r : Row). r.what.inputs) rows p row at in
+          subst (λ (n : ℕ). IsNodeInput tree only n k t) (are.each p found.0 found.1) (found.0.what.right k t (subst (λ (l : List Input). slice_get l k ≡ Some t) (sym found.2) here)).0
+
+      every-at : (rows : List Row) → AreRows (length tree) rows → (p k : ℕ) (row : List Input) (t : Input) → slice_get (map (λ (r : Row). r.what.inputs) rows) p ≡ Some row → IsNodeInput tree only p k t → slice_get row k ≡ Some t
+      every-at rows are p k row t at is =
+          let found = get-unmapped (λ (r : Row). r.what.inputs) rows p row at in
+          subst (λ (l : List Input). slice_get l k ≡ Some t) found.2 (found.0.what.every k t (subst (λ (n : ℕ). IsNodeInput tree only n k t) (sym (are.each p found.0 found.1)) is))

@@ -11,8 +11,17 @@ mod CacheLaws
 mod TableLaws
 mod StepLaws
 mod OrderLaws
+mod MissingLaws
+mod AnalyzerLaws
+mod RunNodeLaws
+mod LoadingLaws
+mod MakingLaws
 mod InputLaws
-mod KeepLaws
+pub mod PlanLaws
+mod EntryLaws
+mod EntryLoops
+mod FoundInLaws
+mod FindingLaws
 mod ReportLaws
 pub mod RunLaws
 pub mod OnceLaws

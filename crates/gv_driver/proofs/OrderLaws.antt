@@ -69,7 +69,7 @@ good-done : (table : List (Option Node)) (q : ℕ) → IsGood table q → (n : N
 good-done table q h = done-in table q (slice_get table q) refl h
 
 -- what a done package leads to is accepted
-path-good : (tree : List PackageTexts) (before : List Entry) (table : List (Option Node)) → IsTable tree before table → (via : List ℕ) (a b : ℕ) (n : Node)
+path-good : {only : ℕ} (tree : List PackageTexts) (before : List Entry) (table : List (Option Node)) → IsTable tree only before table → (via : List ℕ) (a b : ℕ) (n : Node)
     → slice_get table a ≡ Some (Some n) → Path (Imports tree) a via b → IsGood table b
 path-good tree before table is [] a b n at path = is.closed a b n at path
 path-good tree before table is (c ∷ via) a b n at path =
@@ -91,8 +91,8 @@ below-or : (k i : ℕ) → k < i + 1 → (k < i) ⊎ (k ≡ i)
 below-or k i h = grind arith
 
 -- one that was passed and would be ready now was ready before: what was put in since isn't among its imports
-module _ (tree : List PackageTexts) (before : List Entry) (order : List Needed) (table next : List (Option Node)) (i : ℕ) (e : Needed) (node : Node)
-    (is : IsOrder (Imports tree) (length tree) order) (later : IsTable tree before next) (here : slice_get order i ≡ Some e)
+module _ {only : ℕ} (tree : List PackageTexts) (before : List Entry) (order : List Needed) (table next : List (Option Node)) (i : ℕ) (e : Needed) (node : Node)
+    (is : IsOrder (Imports tree) (length tree) order) (later : IsTable tree only before next) (here : slice_get order i ≡ Some e)
     (put : next ≡ set table e.vertex (Some node)) (within : e.vertex < length table) where
   put-at : slice_get next e.vertex ≡ Some (Some node)
   put-at = ap (λ (t : List (Option Node)). slice_get t e.vertex) put ∙ get-set_same table e.vertex (Some node) within
@@ -138,8 +138,8 @@ pass-passed tree order table next i e here unready same passed k f l at ready =
     ]
 
 -- the next of an order is looked at
-pub look-passed : (tree : List PackageTexts) (before : List Entry) (order : List Needed) (table next : List (Option Node)) (i : ℕ) (e : Needed)
-    → IsOrder (Imports tree) (length tree) order → IsTable tree before next → slice_get order i ≡ Some e
+pub look-passed : {only : ℕ} (tree : List PackageTexts) (before : List Entry) (order : List Needed) (table next : List (Option Node)) (i : ℕ) (e : Needed)
+    → IsOrder (Imports tree) (length tree) order → IsTable tree only before next → slice_get order i ≡ Some e
     → Looks tree e.vertex table next → ArePassed tree order i table → ArePassed tree order (i + 1) next
 look-passed tree before order table next i e is later here (passes unready same) passed = pass-passed tree order table next i e here unready same passed
 look-passed tree before order table next i e is later here (puts node ready put) passed =

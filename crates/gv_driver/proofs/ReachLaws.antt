@@ -62,7 +62,7 @@ good-merged tree before table numbers rows good q c =
 
 -- ---- over an honest cache
 
-module _ (tree : List PackageTexts) (before : List Entry) (table : List (Option Node)) (honest : IsHonest before) (right : AreRight tree table) (rows : AreRows tree before table) (formed : IsTree tree) where
+module _ {only : ℕ} (tree : List PackageTexts) (before : List Entry) (table : List (Option Node)) (honest : IsHonest before) (right : AreRight tree only table) (rows : AreRows tree before table) (formed : IsTree tree) where
   -- the row of an accepted package holds what is reached from it
   reached-from : (s q : ℕ) (f : Face) → IsGood table s → Checked tree s (Accepts f) → Contains (reach_in (slice_get table s)) q → Reaches tree q f
   reached-from s q f ok good c = let n = node-of table s ok in (rows.reached honest s n.0 f n.1 good q).0 (row-in table s q n.0 n.1 c)
@@ -177,7 +177,7 @@ module _ (tree : List PackageTexts) (before : List Entry) (table : List (Option 
           row-holds r f (omega (arith, inside, size)) refl reaches
 
 -- what a ready package's load is made of is its load
-pub ready-load : (tree : List PackageTexts) (before : List Entry) (table : List (Option Node)) (p : ℕ) (pack : PackageTexts) → IsTree tree → IsHonest before → AreRight tree table → AreRows tree before table → slice_get tree p ≡ Some pack
+pub ready-load : {only : ℕ} (tree : List PackageTexts) (before : List Entry) (table : List (Option Node)) (p : ℕ) (pack : PackageTexts) → IsTree tree → IsHonest before → AreRight tree only table → AreRows tree before table → slice_get tree p ≡ Some pack
     → IsReady tree table p → IsLoadOf tree p (load_from tree table pack)
 ready-load tree before table p pack formed honest right rows at ready =
     let same : ready.pack ≡ pack = same_pack tree p ready.pack pack ready.at at in
@@ -200,8 +200,8 @@ text-of (Accepted export) i v e tells =
 text-of (Refused marks) i v e tells = (let t = tells_refused v marks tells in let wrong : Accepts i ≡ Refuses t.0 = sym e ∙ t.1 in absurd cc)
 
 -- the rows after p's node is put, whose row is made of what its text mentions
-pub rows-set : (tree : List PackageTexts) (before : List Entry) (table : List (Option Node)) (p : ℕ) (pack : PackageTexts) (node : Node) → IsTree tree → IsTable tree before table → AreRows tree before table
-    → slice_get tree p ≡ Some pack → IsReady tree table p → (IsHonest before → IsRightNode tree p node)
+pub rows-set : {only : ℕ} (tree : List PackageTexts) (before : List Entry) (table : List (Option Node)) (p : ℕ) (pack : PackageTexts) (node : Node) → IsTree tree → IsTable tree only before table → AreRows tree before table
+    → slice_get tree p ≡ Some pack → IsReady tree table p → (IsHonest before → IsRightNode tree only p node)
     → IsRowOf tree table (merged table pack.imports) (export_part node.answer) node.reach → AreRows tree before (set table p (Some node))
 rows-set tree before table p pack node formed is rows at ready right made = record { good = good; reached = reached }
   where

@@ -65,10 +65,10 @@ answer-right tree p pack (answer.Refused text) j v at is tells shown =
     let good : Checked tree p (Refuses shown.0) = subst (λ (l : List MarkLine). Checked tree p (Refuses l)) (sym same) found in
     subst (λ (x : Verdict). HasVerdict tree p x) (sym shown.1) good
 
-not-good : (tree : List PackageTexts) (table : List (Option Node)) → AreRight tree table → ((p : ℕ) → IsReady tree table p → ⊥) → (q : ℕ) (i : Face) → accepted_in (slice_get table q) ≡ false → Checked tree q (Accepts i) → ⊥
+not-good : {only : ℕ} (tree : List PackageTexts) (table : List (Option Node)) → AreRight tree only table → ((p : ℕ) → IsReady tree table p → ⊥) → (q : ℕ) (i : Face) → accepted_in (slice_get table q) ≡ false → Checked tree q (Accepts i) → ⊥
 not-good tree table right none q i h is = let good : accepted_in (slice_get table q) ≡ true = accepted-good tree table right none q i is in cc
 
-verdict-right : (tree : List PackageTexts) (table : List (Option Node)) (p : ℕ) (pack : PackageTexts) (b : Bool) (o : Option Node) (v : Verdict) → AreRight tree table → ((p : ℕ) → IsReady tree table p → ⊥)
+verdict-right : {only : ℕ} (tree : List PackageTexts) (table : List (Option Node)) (p : ℕ) (pack : PackageTexts) (b : Bool) (o : Option Node) (v : Verdict) → AreRight tree only table → ((p : ℕ) → IsReady tree table p → ⊥)
     → slice_get tree p ≡ Some pack → pack.sound ≡ b → slice_get table p ≡ Some o → IsShown pack.files b o v → HasVerdict tree p v
 verdict-right tree table p pack false o v right none at sound e shown = subst (λ (x : Verdict). HasVerdict tree p x) (sym shown) (pack, at, sound)
 verdict-right tree table p pack true None v right none at sound e shown = elim (find-other table pack.imports) [
@@ -80,7 +80,7 @@ verdict-right tree table p pack true (Some n) v right none at sound e shown =
     let j = judged-of tree p r.load (answer_text n.answer) r.of r.outcome in
     answer-right tree p pack n.answer j.0 v at j.1 j.2 shown
 
-pub report-right : (tree : List PackageTexts) (table : List (Option Node)) (verdicts : List Verdict) → AreRight tree table → ((p : ℕ) → IsReady tree table p → ⊥) → AreShown tree table verdicts (length tree)
+pub report-right : {only : ℕ} (tree : List PackageTexts) (table : List (Option Node)) (verdicts : List Verdict) → AreRight tree only table → ((p : ℕ) → IsReady tree table p → ⊥) → AreShown tree table verdicts (length tree)
     → IsReport tree verdicts
 report-right tree table verdicts right none shown = record {
   size = shown.size;

@@ -4,25 +4,20 @@ use Rattle.std.specs.List.{Contains}
 use Rattle.std.proofs.lemmas.Option.{slice_get_within}
 use Rattle.package_faces.specs.Faces.{Face}
 use Rattle.export_text.specs.Faces.{IsFaceText}
-use Rattle.action_graph.specs.Nodes.{pairs}
 use Rattle.action_graph.specs.declared.kit.LoadInput.{LoadInput}
 use Rattle.action_graph.specs.Judging.{Judged, Tells}
 use Rattle.action_graph.specs.Judging.Judged.{Accepts, Refuses}
 use Rattle.action_graph.proofs.JudgingLaws.{tells_accepted, tells_refused}
-use Rattle.fact_cache.specs.declared.texts.Input.{Input}
 use Rattle.gv_driver.specs.declared.tree.PackageTexts.{PackageTexts}
 use Rattle.gv_driver.specs.declared.node.Answer.{Answer}
 use Rattle.gv_driver.specs.declared.node.Answer.TheVariants.{Accepted, Refused}
 use Rattle.gv_driver.specs.declared.node.Node.{Node}
 use Rattle.gv_driver.specs.Whole.{Checked}
 use Rattle.gv_driver.specs.Whole.Checked.{checked}
-use Rattle.gv_driver.specs.Loads.{IsInput, IsLoadOf, load_input}
-use Rattle.gv_driver.specs.Rows.{merged}
-use Rattle.gv_driver.specs.Caches.{IsRight}
-use Rattle.gv_driver.specs.Tables.{answer_text, answer_in, is_good, export_part, accepted_in, IsGood, pair_at, load_from, IsRightNode, AreRight, IsKeyOf, IsReady}
-use Rattle.gv_driver.specs.Runs.{entry_of}
+use Rattle.gv_driver.specs.Loads.{IsLoadOf}
+use Rattle.gv_driver.specs.Tables.{answer_text, answer_in, is_good, export_part, accepted_in, IsGood, IsRightNode, AreRight, IsReady}
 use Rattle.gv_driver.proofs.Places.{element}
-use Rattle.gv_driver.proofs.WholeLaws.{same_pack, shown, unique, unique-input, judged-of}
+use Rattle.gv_driver.proofs.WholeLaws.{same_pack, shown, unique, judged-of}
 
 -- the answer that is read from an outcome text has that text
 pub read-again : (judged : Judged) (text : List ℕ) → Tells judged text → answer_text (answer_in text) ≡ text
@@ -34,7 +29,7 @@ answer-good (Accepted export) i t = refl
 answer-good (Refused marks) i t = let r = tells_refused (Accepts i) marks t in let e : Accepts i ≡ Refuses r.0 = r.1 in cc
 
 -- a node's answer tells what comes of its package
-pub node-tells : (tree : List PackageTexts) (table : List (Option Node)) (q : ℕ) (n : Node) (v : Judged) → AreRight tree table → slice_get table q ≡ Some (Some n) → Checked tree q v → Tells v (answer_text n.answer)
+pub node-tells : {only : ℕ} (tree : List PackageTexts) (table : List (Option Node)) (q : ℕ) (n : Node) (v : Judged) → AreRight tree only table → slice_get table q ≡ Some (Some n) → Checked tree q v → Tells v (answer_text n.answer)
 node-tells tree table q n v right at is =
     let r = right.node q n at in
     let j = judged-of tree q r.load (answer_text n.answer) r.of r.outcome in
@@ -64,7 +59,7 @@ good-case tree table q n other (Accepted export) v is at other_at good tells yes
     }
 good-case tree table q n other (Refused marks) v is at other_at good tells yes_it = cc
 
-good-at : (tree : List PackageTexts) (table : List (Option Node)) (q : ℕ) (o : Option (Option Node)) → AreRight tree table → slice_get table q ≡ o → accepted_in o ≡ true → GoodNode tree table q
+good-at : {only : ℕ} (tree : List PackageTexts) (table : List (Option Node)) (q : ℕ) (o : Option (Option Node)) → AreRight tree only table → slice_get table q ≡ o → accepted_in o ≡ true → GoodNode tree table q
 good-at tree table q None right at a = cc
 good-at tree table q (Some None) right at a = cc
 good-at tree table q (Some (Some n)) right at a =
@@ -72,18 +67,8 @@ good-at tree table q (Some (Some n)) right at a =
     let j = judged-of tree q r.load (answer_text n.answer) r.of r.outcome in
     good-case tree table q n r.of.pack n.answer j.0 refl at r.of.at j.1 j.2 a
 
-pub good-node : (tree : List PackageTexts) (table : List (Option Node)) (q : ℕ) → AreRight tree table → IsGood table q → GoodNode tree table q
+pub good-node : {only : ℕ} (tree : List PackageTexts) (table : List (Option Node)) (q : ℕ) → AreRight tree only table → IsGood table q → GoodNode tree table q
 good-node tree table q right a = good-at tree table q (slice_get table q) right refl a
-
--- the key of a package's load begins with its path
-pub load-key : (tree : List PackageTexts) (table : List (Option Node)) (p : ℕ) (pack : PackageTexts) → slice_get tree p ≡ Some pack → IsKeyOf tree p (load_input (load_from tree table pack))
-load-key tree table p pack at = record {
-  pack = pack;
-  rest = pairs pack.files ++ [] ∷ pairs (map (pair_at tree table) (merged table pack.imports));
-  at = at;
-  node = refl;
-  texts = refl;
-}
 
 done-case : (tree : List PackageTexts) (table : List (Option Node)) (p : ℕ) (o : Option (Option Node)) → slice_get table p ≡ o → p < length table → (slice_get table p ≡ Some None → ⊥)
     → (n : Node) × (slice_get table p ≡ Some (Some n))
@@ -100,11 +85,11 @@ settled tree table size none p pack at sound all =
     done-case tree table p (slice_get table p) refl within
     (λ waits. none p (record { pack = pack; at = at; waits = waits; sound = sound; accepted = all }))
 
-good-is : (tree : List PackageTexts) (table : List (Option Node)) (q : ℕ) (n : Node) (i : Face) → AreRight tree table → slice_get table q ≡ Some (Some n) → Checked tree q (Accepts i) → IsGood table q
+good-is : {only : ℕ} (tree : List PackageTexts) (table : List (Option Node)) (q : ℕ) (n : Node) (i : Face) → AreRight tree only table → slice_get table q ≡ Some (Some n) → Checked tree q (Accepts i) → IsGood table q
 good-is tree table q n i right at is = ap accepted_in at ∙ answer-good n.answer i (node-tells tree table q n (Accepts i) right at is)
 
 -- where nothing is ready, each package of which something comes is done
-pub complete : (tree : List PackageTexts) (table : List (Option Node)) → AreRight tree table → ((p : ℕ) → IsReady tree table p → ⊥) → (p : ℕ) (v : Judged) → Checked tree p v
+pub complete : {only : ℕ} (tree : List PackageTexts) (table : List (Option Node)) → AreRight tree only table → ((p : ℕ) → IsReady tree table p → ⊥) → (p : ℕ) (v : Judged) → Checked tree p v
     → (n : Node) × (slice_get table p ≡ Some (Some n))
 complete tree table right none _ _ (checked p pack numbers env v at sound around good judges) =
     settled tree table right.size none p pack at sound (λ q c.
@@ -112,21 +97,15 @@ complete tree table right none _ _ (checked p pack numbers env v at sound around
     let n = complete tree table right none q (Accepts i.0) (good q i.0 i.1) in
     good-is tree table q n.0 i.0 right n.1 (good q i.0 i.1))
 
-pub accepted-good : (tree : List PackageTexts) (table : List (Option Node)) → AreRight tree table → ((p : ℕ) → IsReady tree table p → ⊥) → (q : ℕ) (i : Face) → Checked tree q (Accepts i) → IsGood table q
+pub accepted-good : {only : ℕ} (tree : List PackageTexts) (table : List (Option Node)) → AreRight tree only table → ((p : ℕ) → IsReady tree table p → ⊥) → (q : ℕ) (i : Face) → Checked tree q (Accepts i) → IsGood table q
 accepted-good tree table right none q i is =
     let n = complete tree table right none q (Accepts i) is in
     good-is tree table q n.0 i right n.1 is
 
 -- where nothing is ready, each load is done
-pub load-done : (tree : List PackageTexts) (table : List (Option Node)) → AreRight tree table → ((p : ℕ) → IsReady tree table p → ⊥) → (p : ℕ) (load : LoadInput) → IsLoadOf tree p load
+pub load-done : {only : ℕ} (tree : List PackageTexts) (table : List (Option Node)) → AreRight tree only table → ((p : ℕ) → IsReady tree table p → ⊥) → (p : ℕ) (load : LoadInput) → IsLoadOf tree p load
     → (n : Node) × (slice_get table p ≡ Some (Some n))
 load-done tree table right none p load is =
     settled tree table right.size none p is.pack is.at is.sound (λ q c.
     let i = shown is.numbers is.faces q is.are.around.size (is.are.around.imports q (is.pack, is.at, c)) in
     accepted-good tree table right none q i.0 (is.are.good q i.0 i.1))
-
--- the entry of a right node is right
-pub node-entry : (tree : List PackageTexts) (p : ℕ) (n : Node) (i : Input) → IsRightNode tree p n → IsInput tree p i → IsRight (entry_of i n.answer)
-node-entry tree p n i r is =
-    let same : i ≡ load_input r.load = unique-input tree p i (load_input r.load) is (record { load = r.load; of = r.of; is = refl }) in
-    (ap (λ (k : Input). k.node) same, record { load = r.load; is = ap (λ (k : Input). k.texts) same; lawful = r.lawful; outcome = r.outcome })

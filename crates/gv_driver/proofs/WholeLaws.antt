@@ -8,18 +8,19 @@ use Rattle.export_text.specs.Faces.{IsFaceText, face_text}
 use Rattle.export_text.specs.Mentions.{IsMentioned}
 use Rattle.package_faces.specs.Faces.{Face}
 use Rattle.action_graph.specs.declared.kit.LoadInput.{LoadInput}
-use Rattle.action_graph.specs.Nodes.{Named, pairs, load_texts}
+use Rattle.action_graph.specs.Nodes.{Named}
 use Rattle.action_graph.specs.Judging.{Judged, Env, Judges, AreInterfaces, IsOutcome, Tells}
 use Rattle.action_graph.specs.Judging.Judged.{Accepts}
 use Rattle.action_graph.proofs.JudgingLaws.{judges_once, same_accepts, accepts_path, one_face}
+use Rattle.action_graph.proofs.NodeLemmas.{same_load}
 use Rattle.fact_cache.specs.declared.texts.Input.{Input}
 use Rattle.gv_driver.specs.declared.tree.PackageTexts.{PackageTexts}
 use Rattle.gv_driver.specs.Trees.{Imports, IsTree}
 use Rattle.gv_driver.specs.Whole.{Shows, IsNear, IsAround, IsEnv, HasEnv, Checked}
 use Rattle.gv_driver.specs.Whole.IsNear.{imported, mentioned}
 use Rattle.gv_driver.specs.Whole.Checked.{checked}
-use Rattle.gv_driver.specs.Loads.{AreExports, IsExport, IsLoadOf, IsInput, IsPlan}
-use Rattle.gv_driver.proofs.Places.{at-contained, contains-at, element, same-list, same-options}
+use Rattle.gv_driver.specs.Loads.{AreExports, IsExport, IsLoadOf, IsInput, load_input}
+use Rattle.gv_driver.proofs.Places.{at-contained, contains-at, element, same-list}
 use Rattle.gv_driver.proofs.RowLemmas.{same-rising}
 
 pub same_pack : (tree : List PackageTexts) (p : ℕ) (a b : PackageTexts) → slice_get tree p ≡ Some a → slice_get tree p ≡ Some b → a ≡ b
@@ -190,29 +191,23 @@ exports-alike tree numbers faces a b long one two k l =
     let text : x.0.1 ≡ y.0.1 = ex.spelled.whole ∙ sym ey.spelled.whole in
     x.1 ∙ (ap (λ (z : Named). Some z) (same-named x.0 y.0 path text) ∙ sym y.1)
 
-same-texts : (a b : LoadInput) → a.path ≡ b.path → a.files ≡ b.files → a.env ≡ b.env → load_texts a ≡ load_texts b
-same-texts a b p f e =
-    ap (λ (x : List ℕ). x ∷ (pairs a.files ++ [] ∷ pairs a.env)) p
-    ∙ (ap (λ (x : List Named). b.path ∷ (pairs x ++ [] ∷ pairs a.env)) f
-    ∙ ap (λ (x : List Named). b.path ∷ (pairs b.files ++ [] ∷ pairs x)) e)
+-- a package has one load
+pub unique-load : (tree : List PackageTexts) (p : ℕ) (a b : LoadInput) → IsLoadOf tree p a → IsLoadOf tree p b → a ≡ b
+unique-load tree p a b one two =
+    let is : one.pack ≡ two.pack = same_pack tree p one.pack two.pack one.at two.at in
+    let path : a.path ≡ b.path = one.path ∙ (ap (λ (x : PackageTexts). x.path) is ∙ sym two.path) in
+    let files : a.files ≡ b.files = one.files ∙ (ap (λ (x : PackageTexts). x.files) is ∙ sym two.files) in
+    let row : one.numbers ≡ two.numbers = one-row tree p one.numbers two.numbers one.faces two.faces one.are two.are in
+    let faces : one.faces ≡ two.faces = one-env tree p one.numbers two.numbers one.faces two.faces one.are two.are in
+    let other : AreExports tree two.numbers two.faces a.env =
+    subst (λ (e : Env). AreExports tree two.numbers e a.env) faces (subst (λ (l : List ℕ). AreExports tree l one.faces a.env) row one.env) in
+    let env : a.env ≡ b.env =
+    same-list a.env b.env (other.size ∙ sym two.env.size) (exports-alike tree two.numbers two.faces a.env b.env two.are.around.size other two.env) in
+    same_load a b path files env
 
--- a load has one input
+-- and that one input
 pub unique-input : (tree : List PackageTexts) (p : ℕ) (s t : Input) → IsInput tree p s → IsInput tree p t → s ≡ t
-unique-input tree p s t a b =
-    let is : a.of.pack ≡ b.of.pack = same_pack tree p a.of.pack b.of.pack a.of.at b.of.at in
-    let path : a.load.path ≡ b.load.path = a.of.path ∙ (ap (λ (x : PackageTexts). x.path) is ∙ sym b.of.path) in
-    let files : a.load.files ≡ b.load.files = a.of.files ∙ (ap (λ (x : PackageTexts). x.files) is ∙ sym b.of.files) in
-    let row : a.of.numbers ≡ b.of.numbers = one-row tree p a.of.numbers b.of.numbers a.of.faces b.of.faces a.of.are b.of.are in
-    let faces : a.of.faces ≡ b.of.faces = one-env tree p a.of.numbers b.of.numbers a.of.faces b.of.faces a.of.are b.of.are in
-    let other : AreExports tree b.of.numbers b.of.faces a.load.env =
-    subst (λ (e : Env). AreExports tree b.of.numbers e a.load.env) faces (subst (λ (l : List ℕ). AreExports tree l a.of.faces a.load.env) row a.of.env) in
-    let env : a.load.env ≡ b.load.env =
-    same-list a.load.env b.load.env (other.size ∙ sym b.of.env.size) (exports-alike tree b.of.numbers b.of.faces a.load.env b.load.env b.of.are.around.size other b.of.env) in
-    a.is ∙ (ap (λ (x : List (List ℕ)). record { node = 0; texts = x }) (same-texts a.load b.load path files env) ∙ sym b.is)
-
--- a tree has one plan
-pub unique-plan : (tree : List PackageTexts) (a b : List (Option Input)) → IsPlan tree a → IsPlan tree b → a ≡ b
-unique-plan tree a b is too = same-options a b (is.size ∙ sym too.size) (λ p t h. too.every p t (is.right p t h)) (λ p t h. is.every p t (too.right p t h))
+unique-input tree p s t a b = a.is ∙ (ap load_input (unique-load tree p a.load b.load a.of b.of) ∙ sym b.is)
 
 -- ---- packages by their paths
 

@@ -9,3 +9,8 @@ pub mod Reports
 pub mod Runs
 pub mod Existence
 pub mod Below
+pub mod Tallies
+pub mod Analyzers
+pub mod Making
+pub mod Opening
+pub mod Entries

@@ -1,13 +1,16 @@
--- The inputs of a tree's loads.
-use Rattle.std.specs.Prelude.{◌≡◌, ℕ, true, Option, Some, List, length, slice_get}
+-- The inputs of a tree's nodes: of its loads, and of the runs of analyzers.
+use Rattle.std.specs.Prelude.{◌≡◌, ℕ, zero, suc, true, Some, List, [], ◌∷◌, ◌++◌, length, map, slice_get}
 use Rattle.export_text.specs.Faces.{IsFaceText}
 use Rattle.package_faces.specs.Faces.{Face}
 use Rattle.action_graph.specs.declared.kit.LoadInput.{LoadInput}
-use Rattle.action_graph.specs.Nodes.{Named, load_texts}
+use Rattle.action_graph.specs.declared.kit.RunInput.{RunInput}
+use Rattle.action_graph.specs.Nodes.{Named, load_texts, run_texts}
 use Rattle.action_graph.specs.Judging.{Env}
+use Rattle.action_graph.specs.Judging.Judged.{Accepts}
 use Rattle.fact_cache.specs.declared.texts.Input.{Input}
 use Rattle.gv_driver.specs.declared.tree.PackageTexts.{PackageTexts}
-use Rattle.gv_driver.specs.Whole.{IsEnv}
+use Rattle.gv_driver.specs.Analyzers.{analyzers_of}
+use Rattle.gv_driver.specs.Whole.{Checked, IsEnv}
 
 -- the path of a package, and the text of what is seen of it
 pub record IsExport (tree : List PackageTexts) (q : ℕ) (f : Face) (x : Named) : Type 0 where
@@ -42,8 +45,42 @@ pub record IsInput (tree : List PackageTexts) (p : ℕ) (input : Input) : Type 0
   pub of : IsLoadOf tree p load
   pub is : input ≡ load_input load
 
--- The inputs of all loads of a tree, each at its package's number.
-pub record IsPlan (tree : List PackageTexts) (inputs : List (Option Input)) : Type 0 where
-  pub size : length inputs ≡ length tree
-  pub right : (p : ℕ) (input : Input) → slice_get inputs p ≡ Some (Some input) → IsInput tree p input
-  pub every : (p : ℕ) (input : Input) → IsInput tree p input → slice_get inputs p ≡ Some (Some input)
+-- what the run of an analyzer reads, over a package with this load: no analyzer of these reads facts
+abbrev pub run_over : ℕ → LoadInput → RunInput
+run_over a load = record { analyzer = a; load = load; facts = [] }
+
+-- the input beside which the outcome of a run is kept
+abbrev pub run_input : RunInput → Input
+run_input run = record { node = run.analyzer; texts = run_texts run }
+
+abbrev pub run_key : LoadInput → ℕ → Input
+run_key load a = run_input (run_over a load)
+
+abbrev pub run_keys : LoadInput → List ℕ → List Input
+run_keys load numbers = map (run_key load) numbers
+
+-- the input of the run of the analyzer at this place among those that run over an accepted package
+pub record IsRunInput (tree : List PackageTexts) (only p k : ℕ) (input : Input) : Type 0 where
+  pub load : LoadInput
+  pub of : IsLoadOf tree p load
+  pub face : Face
+  pub good : Checked tree p (Accepts face)
+  pub analyzer : ℕ
+  pub chosen : slice_get (analyzers_of only of.pack.stub) k ≡ Some analyzer
+  pub is : input ≡ run_key load analyzer
+
+-- the input of a node of p: of its load, or of the run at the place before
+abbrev pub IsNodeInput : List PackageTexts → ℕ → ℕ → ℕ → Input → Type 0
+IsNodeInput tree only p zero input = IsInput tree p input
+IsNodeInput tree only p (suc k) input = IsRunInput tree only p k input
+
+-- The inputs of all nodes of a tree: at each package's number those of its nodes, the load first.
+pub record IsPlan (tree : List PackageTexts) (only : ℕ) (plan : List (List Input)) : Type 0 where
+  pub size : length plan ≡ length tree
+  pub right : (p k : ℕ) (inputs : List Input) (input : Input) → slice_get plan p ≡ Some inputs → slice_get inputs k ≡ Some input → IsNodeInput tree only p k input
+  pub every : (p k : ℕ) (inputs : List Input) (input : Input) → slice_get plan p ≡ Some inputs → IsNodeInput tree only p k input → slice_get inputs k ≡ Some input
+
+-- in node order
+abbrev pub all_inputs : List (List Input) → List Input
+all_inputs [] = []
+all_inputs (inputs ∷ more) = inputs ++ all_inputs more

@@ -1,7 +1,13 @@
 -- The verdict of each package of a tree, from its sources.
-use Rattle.std.specs.Prelude.{◌≡◌, ℕ, Bool, true, false, Option, Some, None, List, length, slice_get}
+use Rattle.std.specs.Prelude.{◌≡◌, ℕ, Bool, true, false, Option, Some, None, List, [], ◌∷◌, ◌++◌, length, slice_get}
 use Rattle.std.specs.List.{Contains}
+use Rattle.analysis_core.specs.declared.diagnostic.Diagnostic.{Diagnostic}
+use Rattle.analysis_core.specs.Findings.{AreFindings}
 use Rattle.package_faces.specs.Faces.{Face}
+use Rattle.action_graph.specs.Analyzing.{Analyzes}
+use Rattle.action_graph.specs.Judging.{Env}
+use Rattle.action_graph.specs.Outcomes.{outcome_text}
+use Rattle.action_graph.specs.Standing.{AllFound}
 use Rattle.action_graph.specs.declared.marks.MarkLine.{MarkLine}
 use Rattle.action_graph.specs.Marks.{AreSpelled}
 use Rattle.action_graph.specs.Nodes.{Named}
@@ -10,10 +16,13 @@ use Rattle.gv_driver.specs.declared.tree.PackageTexts.{PackageTexts}
 use Rattle.gv_driver.specs.declared.node.Answer.{Answer}
 use Rattle.gv_driver.specs.declared.node.Answer.TheVariants as answer
 use Rattle.gv_driver.specs.declared.node.Node.{Node}
+use Rattle.gv_driver.specs.declared.node.RunNode.{RunNode}
+use Rattle.gv_driver.specs.Analyzers.{analyzers_of}
 use Rattle.gv_driver.specs.declared.reply.Verdict.{Verdict}
 use Rattle.gv_driver.specs.declared.reply.Verdict.TheVariants as verdict
+use Rattle.gv_driver.specs.Tables.{runs_of_node}
 use Rattle.gv_driver.specs.Standing.{AllStand}
-use Rattle.gv_driver.specs.Whole.{Checked}
+use Rattle.gv_driver.specs.Whole.{Checked, HasEnv}
 
 -- the verdict of a package
 abbrev pub HasVerdict : List PackageTexts → ℕ → Verdict → Type 0
@@ -27,6 +36,32 @@ HasVerdict tree p verdict.Accepted = (i : Face) × Checked tree p (Accepts i)
 pub record IsReport (tree : List PackageTexts) (verdicts : List Verdict) : Type 0 where
   pub size : length verdicts ≡ length tree
   pub each : (p : ℕ) (v : Verdict) → slice_get verdicts p ≡ Some v → HasVerdict tree p v
+
+-- what an analyzer finds of a package, over what is seen of its environment
+pub record IsFoundOf (tree : List PackageTexts) (p a : ℕ) (pack : PackageTexts) (found : List Diagnostic) : Type 0 where
+  pub env : Env
+  pub faces : HasEnv tree p env
+  pub findings : List ℕ
+  pub facts : List ℕ
+  pub analyzes : Analyzes a pack.path pack.files env [] findings facts
+  pub spelled : AreFindings found findings
+
+-- what these analyzers find, in turn
+abbrev pub AreFoundOf : List PackageTexts → ℕ → PackageTexts → List ℕ → List Diagnostic → Type 0
+AreFoundOf tree p pack [] found = found ≡ []
+AreFoundOf tree p pack (a ∷ numbers) found = (mine more : List Diagnostic) × IsFoundOf tree p a pack mine × AreFoundOf tree p pack numbers more × (found ≡ mine ++ more)
+
+-- of an accepted package what the analyzers find that run over it, of every other nothing
+abbrev pub HasFound : List PackageTexts → ℕ → ℕ → Verdict → List Diagnostic → Type 0
+HasFound tree only p verdict.Faulty found = found ≡ []
+HasFound tree only p verdict.Blocked found = found ≡ []
+HasFound tree only p (verdict.Refused marks) found = found ≡ []
+HasFound tree only p verdict.Accepted found = (pack : PackageTexts) × (slice_get tree p ≡ Some pack) × AreFoundOf tree p pack (analyzers_of only pack.stub) found
+
+-- What the analyzers find of each package, beside its verdict.
+pub record IsRunReport (tree : List PackageTexts) (only : ℕ) (verdicts : List Verdict) (found : List (List Diagnostic)) : Type 0 where
+  pub size : length found ≡ length tree
+  pub each : (p : ℕ) (v : Verdict) (ds : List Diagnostic) → slice_get verdicts p ≡ Some v → slice_get found p ≡ Some ds → HasFound tree only p v ds
 
 -- what an answer shows of these files: marks that stand in them, and where such are spelled, these
 abbrev pub IsAnswerShown : List Named → Answer → Verdict → Type 0
@@ -44,3 +79,19 @@ pub record AreShown (tree : List PackageTexts) (table : List (Option Node)) (ver
   pub size : length verdicts ≡ end
   pub each : (p : ℕ) (pack : PackageTexts) (node : Option Node) (v : Verdict) → slice_get tree p ≡ Some pack → slice_get table p ≡ Some node → slice_get verdicts p ≡ Some v
       → IsShown pack.files pack.sound node v
+
+-- what an outcome text of an analyzer's run shows of these files: diagnostics that stand in them, and where such are spelled, these
+pub record IsFoundShown (files : List Named) (a : ℕ) (text : List ℕ) (found : List Diagnostic) : Type 0 where
+  pub stand : AllFound files a found
+  pub told : (findings facts : List ℕ) (ds : List Diagnostic) → text ≡ outcome_text findings facts → AreFindings ds findings → AllFound files a ds → found ≡ ds
+
+-- those of the outcome texts of these runs, in turn
+abbrev pub AreFoundShown : List Named → List RunNode → List Diagnostic → Type 0
+AreFoundShown files [] found = found ≡ []
+AreFoundShown files (r ∷ more) found = (mine rest : List Diagnostic) × IsFoundShown files r.analyzer r.outcome mine × AreFoundShown files more rest × (found ≡ mine ++ rest)
+
+-- each of these shows what the runs of the table have
+pub record AllFoundShown (tree : List PackageTexts) (table : List (Option Node)) (found : List (List Diagnostic)) (end : ℕ) : Type 0 where
+  pub size : length found ≡ end
+  pub each : (p : ℕ) (pack : PackageTexts) (node : Option Node) (ds : List Diagnostic) → slice_get tree p ≡ Some pack → slice_get table p ≡ Some node → slice_get found p ≡ Some ds
+      → AreFoundShown pack.files (runs_of_node node) ds

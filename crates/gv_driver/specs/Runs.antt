@@ -1,33 +1,37 @@
 -- How a run goes on, and what it has done at its end.
-use Rattle.std.specs.Prelude.{◌≡◌, ℕ, ◌+◌, ◌≤◌, ◌<◌, Option, Some, None, List, [], ◌∷◌, ◌++◌, map, drop, length, slice_get, slice_set, sum_by, true, false}
+use Rattle.std.specs.Prelude.{◌≡◌, ℕ, ◌+◌, ◌*◌, ◌≤◌, ◌<◌, Option, Some, None, List, [], ◌∷◌, ◌++◌, map, drop, length, slice_get, slice_set, sum_by, true, false}
 use Rattle.std.specs.List.{Contains}
 use Rattle.need_order.specs.declared.needed.Needed.{Needed}
 use Rattle.fact_cache.specs.declared.texts.Input.{Input}
 use Rattle.fact_cache.specs.declared.list.Entry.{Entry}
 use Rattle.action_graph.specs.Judging.{Env, IsStuckOver}
 use Rattle.gv_driver.specs.declared.tree.PackageTexts.{PackageTexts}
-use Rattle.gv_driver.specs.declared.node.Answer.{Answer}
 use Rattle.gv_driver.specs.declared.node.Node.{Node}
 use Rattle.gv_driver.specs.declared.reply.Judgement.{Judgement}
 use Rattle.gv_driver.specs.Whole.{HasEnv}
-use Rattle.gv_driver.specs.Loads.{IsPlan}
-use Rattle.gv_driver.specs.Caches.{IsHonest, IsRight, IsCacheAfter, IsPartKept, missing_of, is_cached, input_of}
-use Rattle.gv_driver.specs.Tables.{IsTable, IsReady, IsLookedUp, IsRightNode, answer_text, cost, waiting, executed, fresh_inputs}
-use Rattle.gv_driver.specs.Reports.{IsReport}
-
--- this node is put into the table, but for its row
-pub record IsPut (table next : List (Option Node)) (p : ℕ) (node : Node) (put : Node) : Type 0 where
-  pub is : next ≡ slice_set table p (Some put)
-  pub fresh : put.fresh ≡ node.fresh
-  pub answer : put.answer ≡ node.answer
+use Rattle.gv_driver.specs.Loads.{IsPlan, all_inputs}
+use Rattle.gv_driver.specs.Caches.{IsHonest, IsRight, IsCacheAfter, IsPartKept, missing_of, is_cached, input_of, loads_of, runs_of}
+use Rattle.gv_driver.specs.Tables.{AreLookedUp, IsTable, IsReady, IsLookedUp, IsRightNode, loads_in, runs_in, waiting, executed, executed_runs}
+use Rattle.gv_driver.specs.Tallies.{Tally}
+use Rattle.gv_driver.specs.Reports.{IsReport, IsRunReport}
 
 -- p's node is put into the table
-pub record Performs (tree : List PackageTexts) (before : List Entry) (p : ℕ) (table next : List (Option Node)) (count now : ℕ) : Type 0 where
+pub record Performs (tree : List PackageTexts) (only : ℕ) (before : List Entry) (p : ℕ) (table next : List (Option Node)) (count now : Tally) : Type 0 where
   pub node : Node
   pub is : next ≡ slice_set table p (Some node)
-  pub looked : IsLookedUp tree before p node.fresh
-  pub counts : now ≡ count + cost node.fresh
-  pub right : IsHonest before → IsRightNode tree p node
+  pub looked : IsLookedUp tree only before p node
+  pub right : IsHonest before → IsRightNode tree only p node
+  pub loads : now.loads ≡ count.loads + loads_in (Some node)
+  pub runs : IsHonest before → now.runs ≡ count.runs + runs_in (Some node)
+  pub most : now.runs ≤ count.runs + 15
+
+-- p's nodes were begun: no more was executed than what such a node takes, whose inputs are those of the first of p's nodes
+pub record Breaks (tree : List PackageTexts) (only : ℕ) (before : List Entry) (p : ℕ) (count now : Tally) : Type 0 where
+  pub node : Node
+  pub looked : IsLookedUp tree only before p node
+  pub loads : now.loads ≤ count.loads + loads_in (Some node)
+  pub runs : now.runs ≤ count.runs + runs_in (Some node)
+  pub most : now.runs ≤ count.runs + 15
 
 -- p was looked at: its node was put in if it was ready, and nothing else changed.
 pub data Looks (tree : List PackageTexts) (p : ℕ) (table next : List (Option Node)) : Type 0 where
@@ -38,59 +42,51 @@ pub data Looks (tree : List PackageTexts) (p : ℕ) (table next : List (Option N
 abbrev pub ArePassed : List PackageTexts → List Needed → ℕ → List (Option Node) → Type 0
 ArePassed tree order end table = (k : ℕ) (e : Needed) → k < end → slice_get order k ≡ Some e → IsReady tree table e.vertex → ⊥
 
--- From one table to a later one: the count of loads rose by what the later one took.
-pub record Goes (tree : List PackageTexts) (before : List Entry) (table next : List (Option Node)) (count now : ℕ) : Type 0 where
-  pub right : IsTable tree before next
-  pub counts : now + executed table ≡ count + executed next
-  pub room : now + waiting next ≤ count + waiting table
+-- From one table to a later one: the counts rose by what the later one took.
+pub record Goes (tree : List PackageTexts) (only : ℕ) (before : List Entry) (table next : List (Option Node)) (count now : Tally) : Type 0 where
+  pub right : IsTable tree only before next
+  pub loads : now.loads + executed table ≡ count.loads + executed next
+  pub runs : IsHonest before → now.runs + executed_runs table ≡ count.runs + executed_runs next
+  pub room : now.loads + waiting next ≤ count.loads + waiting table
+  pub most : now.runs + 15 * waiting next ≤ count.runs + 15 * waiting table
 
--- the entry of an executed load
-abbrev pub entry_of : Input → Answer → Entry
-entry_of input answer = record { input = input; outcome = answer_text answer }
+-- It was cut off, by want of memory or by a circle: the counts rose by at most what a table takes whose nodes are the first of the tree's.
+pub record Stops (tree : List PackageTexts) (only : ℕ) (before : List Entry) (table : List (Option Node)) (count now : Tally) : Type 0 where
+  pub broken : List (Option Node)
+  pub size : length broken ≡ length tree
+  pub looked : AreLookedUp tree only before broken
+  pub loads : now.loads + executed table ≤ count.loads + executed broken
+  pub runs : IsHonest before → now.runs + executed_runs table ≤ count.runs + executed_runs broken
+  pub room : now.loads ≤ count.loads + waiting table
+  pub most : now.runs ≤ count.runs + 15 * waiting table
 
-abbrev pub kept_of : List Entry → Answer → Option Input → List Entry
-kept_of entries answer None = entries
-kept_of entries answer (Some input) = entries ++ entry_of input answer ∷ []
+-- The entries of what was executed can be kept: their inputs have no entry, no two have one input, and over an honest cache they are right.
+pub record CanKeep (before entries : List Entry) : Type 0 where
+  pub missing : (k : ℕ) (e : Entry) → slice_get entries k ≡ Some e → is_cached before e.input ≡ false
+  pub distinct : (j k : ℕ) (e f : Entry) → slice_get entries j ≡ Some e → slice_get entries k ≡ Some f → e.input ≡ f.input → j ≡ k
+  pub right : IsHonest before → IsHonest entries
 
--- the entries after a node is kept, if its load was executed
-abbrev pub kept : List Entry → Node → List Entry
-kept entries n = kept_of entries n.answer n.fresh
-
--- The executed loads of a table can be kept: their inputs have no entry, no two have one input, and over an honest cache
--- their entries are right.
-pub record CanKeep (before : List Entry) (table : List (Option Node)) : Type 0 where
-  pub missing : (p : ℕ) (n : Node) (i : Input) → slice_get table p ≡ Some (Some n) → n.fresh ≡ Some i → is_cached before i ≡ false
-  pub distinct : (p q : ℕ) (n m : Node) (i : Input) → slice_get table p ≡ Some (Some n) → slice_get table q ≡ Some (Some m) → n.fresh ≡ Some i → m.fresh ≡ Some i → p ≡ q
-  pub right : IsHonest before → (p : ℕ) (n : Node) (i : Input) → slice_get table p ≡ Some (Some n) → n.fresh ≡ Some i → IsRight (entry_of i n.answer)
-
--- These entries were added, and the rest would complete those of the executed loads.
-pub record Keeping (before : List Entry) (table : List (Option Node)) (done : ℕ) (now : List Entry) : Type 0 where
-  pub added : List Entry
-  pub is : now ≡ before ++ added
-  pub rest : map input_of added ++ fresh_inputs (drop done table) ≡ fresh_inputs table
-  pub each : (e : Entry) → Contains added e → (q : ℕ) × (n : Node) × (q < done) × (slice_get table q ≡ Some (Some n)) × (n.fresh ≡ Some e.input)
-  pub right : IsHonest before → IsHonest added
-
-abbrev pub some_in : Option Input → ℕ
-some_in None = 0
-some_in (Some input) = 1
-
--- A run that came to its end: the inputs of all loads of the tree, the verdicts, the cache, and the counts.
-pub record Ran (tree : List PackageTexts) (before after : List Entry) (count now : ℕ) (reply : Judgement) : Type 0 where
-  pub inputs : List (Option Input)
-  pub plan : IsPlan tree inputs
+-- A run that came to its end: the inputs of all nodes of the tree, the verdicts, what the analyzers found, the cache, and the counts. Executed
+-- are the missing nodes, and each load whose package has a missing one.
+pub record Ran (tree : List PackageTexts) (only : ℕ) (before after : List Entry) (count now : Tally) (reply : Judgement) : Type 0 where
+  pub plan : List (List Input)
+  pub is_plan : IsPlan tree only plan
   pub report : IsReport tree reply.verdicts
-  pub cache : IsCacheAfter before after inputs
-  pub nodes : reply.counts.nodes ≡ sum_by some_in inputs
-  pub missing : reply.counts.missing ≡ length (missing_of before inputs)
-  pub loads : reply.counts.loads ≡ length (missing_of before inputs)
-  pub runs : reply.counts.runs ≡ 0
-  pub risen : now ≡ count + reply.counts.loads
+  pub found : IsRunReport tree only reply.verdicts reply.found
+  pub cache : IsCacheAfter before after (all_inputs plan)
+  pub nodes : reply.counts.nodes ≡ length (all_inputs plan)
+  pub missing : reply.counts.missing ≡ length (missing_of before (all_inputs plan))
+  pub loads : reply.counts.loads ≡ loads_of before plan
+  pub runs : reply.counts.runs ≡ runs_of before plan
+  pub risen : now.loads ≡ count.loads + reply.counts.loads
+  pub ran : now.runs ≡ count.runs + reply.counts.runs
 
--- A run that was cut off, by want of memory or by a circle: no more loads than the tree has missing ones, and only entries of such loads.
-pub record IsCutOff (tree : List PackageTexts) (before after : List Entry) (count now : ℕ) : Type 0 where
-  pub loads : (inputs : List (Option Input)) → IsPlan tree inputs → now ≤ count + length (missing_of before inputs)
-  pub cache : (inputs : List (Option Input)) → IsPlan tree inputs → IsPartKept before after inputs
+-- A run that was cut off, by want of memory or by a circle: no more loads and no more runs than the tree's plan has executed, and only entries
+-- of missing nodes.
+pub record IsCutOff (tree : List PackageTexts) (only : ℕ) (before after : List Entry) (count now : Tally) : Type 0 where
+  pub loads : (plan : List (List Input)) → IsPlan tree only plan → now.loads ≤ count.loads + loads_of before plan
+  pub runs : (plan : List (List Input)) → IsPlan tree only plan → now.runs ≤ count.runs + runs_of before plan
+  pub cache : (plan : List (List Input)) → IsPlan tree only plan → IsPartKept before after (all_inputs plan)
 
 -- A circle: some sound package is stuck over what a run had of its imports. Over an honest cache that is what is seen of its environment, as it comes of the tree.
 pub record MeetsCircle (tree : List PackageTexts) (before : List Entry) : Type 0 where

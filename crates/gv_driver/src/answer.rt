@@ -1,10 +1,8 @@
 //! Answers, and their outcome texts.
 ghost use Rattle.std.specs.Prelude.{◌≡◌, ◌∷◌, IfOk, drop};
-ghost use Rattle.action_graph.specs.Judging.{load_text};
 ghost use Rattle.gv_driver.specs.Tables.{answer_in, answer_text, begins_with_one, export_part, is_good};
 
 use crate::node::Answer;
-use action_graph::Load;
 use gv_base::{Bytes, NoMemory};
 use std::alloc::Global;
 
@@ -32,19 +30,6 @@ pub(crate) fn read_answer(alloc: Global, text: &[u8]) -> Result<Answer, NoMemory
         Ok(Answer::Accepted(rest))
     } else {
         Ok(Answer::Refused(rest))
-    }
-}
-
-/// The answer of a kit, without the loaded package.
-pub(crate) fn answer_of<L: Drop>(load: Load<L>) -> Answer
-    ensures { answer_text result ≡ load_text load }
-{
-    match load {
-        Load::Accepted { loaded, export } => {
-            let _unused = loaded;
-            Answer::Accepted(export)
-        }
-        Load::Refused { marks } => Answer::Refused(marks),
     }
 }
 

@@ -1,19 +1,21 @@
 //! Runs over a tree.
-ghost use Rattle.std.specs.Prelude.{◌≡◌, ◌<◌, ◌≤◌, ◌+◌, ◌^◌, ℕ, true, None, Some, Err, IfOk, OnErr, length, replicate, slice_get, sum_by};
+ghost use Rattle.std.specs.Prelude.{◌≡◌, ◌<◌, ◌≤◌, ◌+◌, ◌*◌, ◌^◌, ℕ, true, None, Some, Err, IfOk, OnErr, length, replicate, slice_get, sum_by};
 ghost use Rattle.fact_cache.specs.Caches.{is_within, trimmed};
 ghost use Rattle.gv_driver.specs.Trees.{IsTree};
 ghost use Rattle.gv_driver.specs.Caches.{IsHonest};
 ghost use Rattle.gv_driver.specs.Runs.{IsCutOff, MeetsCircle, Ran};
-ghost use Rattle.gv_driver.specs.Standing.{AreVerdictsIn};
+ghost use Rattle.gv_driver.specs.Standing.{AreFoundIn, AreVerdictsIn};
+ghost use Rattle.gv_driver.specs.Tallies.{tally};
 
 use crate::counts::counts;
-use crate::keep::keep;
+use crate::diagnosed::findings;
+use crate::keep::{entries_of, keep};
 use crate::node::Node;
 use crate::reply::Judgement;
 use crate::report::verdicts;
-use crate::step::run_loads;
+use crate::step::run_all;
 use crate::tree::PackageTexts;
-use action_graph::{Kit, Unloaded};
+use action_graph::{Kit, Unloaded, findings_stand};
 use fact_cache::Cache;
 use gv_base::{NoMemory, Row};
 use std::alloc::Global;
@@ -33,27 +35,34 @@ fn none_done(alloc: Global, count: usize) -> Result<Vec<Option<Node>>, NoMemory>
 fn run_with<K: Kit>(
     alloc: Global,
     tree: &[PackageTexts],
+    only: u16,
     cache: &mut Cache,
     kit: &mut K,
 ) -> Result<Judgement, Unloaded>
     requires tree { IsTree tree.now }
-    requires few { length tree.now < 2 ^ 32 }
-    requires room { K.loads kit.old ≤ 2 ^ 62 }
-    ensures bound { K.loads kit.new ≤ K.loads kit.old + length tree.now }
-    ensures runs { K.runs kit.new ≡ K.runs kit.old }
+    requires few { length tree.now < 2 ^ 28 }
+    requires loads { K.loads kit.old ≤ 2 ^ 62 }
+    requires runs { K.runs kit.old ≤ 2 ^ 62 }
+    ensures loads { K.loads kit.new ≤ K.loads kit.old + length tree.now }
+    ensures runs { K.runs kit.new ≤ K.runs kit.old + 15 * length tree.now }
     ensures stand { IfOk result (λ reply. AreVerdictsIn tree.now reply.verdicts) }
-    ensures ran { IsHonest cache.old → IfOk result (λ reply. Ran tree.now cache.old (trimmed cache.new) (K.loads kit.old) (K.loads kit.new) reply) }
-    ensures cut_off { IsHonest cache.old → OnErr result (IsCutOff tree.now cache.old (trimmed cache.new) (K.loads kit.old) (K.loads kit.new)) }
+    ensures found { IfOk result (λ reply. AreFoundIn tree.now reply.found) }
+    ensures ran { IsHonest cache.old → IfOk result (λ reply. Ran tree.now only cache.old (trimmed cache.new) (tally (K.loads kit.old) (K.runs kit.old)) (tally (K.loads kit.new) (K.runs kit.new)) reply) }
+    ensures cut_off { IsHonest cache.old → OnErr result (IsCutOff tree.now only cache.old (trimmed cache.new) (tally (K.loads kit.old) (K.runs kit.old)) (tally (K.loads kit.new) (K.runs kit.new))) }
     ensures circle { result ≡ Err Unloaded.Stuck → MeetsCircle tree.now cache.old }
     ensures honest { IsHonest cache.old → IsHonest cache.new }
 {
     let mut table = none_done(alloc, tree.len())?;
-    run_loads(alloc, tree, cache, kit, &mut table)?;
+    run_all(alloc, tree, only, cache, kit, &mut table)?;
     let list = verdicts(alloc, tree, &table)?;
+    let found = findings(alloc, tree, &table)?;
+    findings_stand();
     let counts = counts(&table);
-    keep(alloc, cache, table)?;
+    let entries = entries_of(alloc, &table)?;
+    keep(cache, entries)?;
     Ok(Judgement {
         verdicts: Row::new(list),
+        found: Row::new(found),
         counts,
     })
 }
@@ -63,51 +72,58 @@ fn run_with<K: Kit>(
 fn run_within<K: Kit>(
     alloc: Global,
     tree: &[PackageTexts],
+    only: u16,
     cache: &mut Cache,
     kit: &mut K,
 ) -> Result<Judgement, Unloaded>
     requires tree { IsTree tree.now }
-    requires few { length tree.now < 2 ^ 32 }
-    requires room { K.loads kit.old ≤ 2 ^ 62 }
-    ensures bound { K.loads kit.new ≤ K.loads kit.old + length tree.now }
-    ensures runs { K.runs kit.new ≡ K.runs kit.old }
+    requires few { length tree.now < 2 ^ 28 }
+    requires loads { K.loads kit.old ≤ 2 ^ 62 }
+    requires runs { K.runs kit.old ≤ 2 ^ 62 }
+    ensures loads { K.loads kit.new ≤ K.loads kit.old + length tree.now }
+    ensures runs { K.runs kit.new ≤ K.runs kit.old + 15 * length tree.now }
     ensures stand { IfOk result (λ reply. AreVerdictsIn tree.now reply.verdicts) }
-    ensures ran { IsHonest cache.old → IfOk result (λ reply. Ran tree.now cache.old cache.new (K.loads kit.old) (K.loads kit.new) reply) }
-    ensures cut_off { IsHonest cache.old → OnErr result (IsCutOff tree.now cache.old cache.new (K.loads kit.old) (K.loads kit.new)) }
+    ensures found { IfOk result (λ reply. AreFoundIn tree.now reply.found) }
+    ensures ran { IsHonest cache.old → IfOk result (λ reply. Ran tree.now only cache.old cache.new (tally (K.loads kit.old) (K.runs kit.old)) (tally (K.loads kit.new) (K.runs kit.new)) reply) }
+    ensures cut_off { IsHonest cache.old → OnErr result (IsCutOff tree.now only cache.old cache.new (tally (K.loads kit.old) (K.runs kit.old)) (tally (K.loads kit.new) (K.runs kit.new))) }
     ensures circle { result ≡ Err Unloaded.Stuck → MeetsCircle tree.now cache.old }
     ensures honest { IsHonest cache.old → IsHonest cache.new }
     ensures within { is_within cache.new ≡ true }
 {
-    let reply = run_with(alloc, tree, cache, kit);
+    let reply = run_with(alloc, tree, only, cache, kit);
     cache.trim();
     reply
 }
 
-/// Judges a tree with the first of the kits, and with what the cache has; what was executed is kept. It returns
-/// over any cache, after at most as many loads as there are packages, with a verdict for each package whose marks
-/// stand in the package's files. Where the cache is honest, the verdicts are
-/// those of the sources, exactly the missing loads are executed, and their entries stand behind the old ones. Where
+/// Judges a tree with the first of the kits, and with what the cache has; what was executed is kept. Over the accepted packages the analyzers
+/// run whose bits `only` has: none for a check. It returns
+/// over any cache, after at most one load and fifteen runs for each package, with a verdict for each package whose marks
+/// stand in the package's files, and with diagnostics that do. Where the cache is honest, the verdicts and the findings are
+/// those of the sources, exactly the missing nodes are executed and the loads that a missing run needs, and the missing nodes' entries stand
+/// behind the old ones. Where
 /// it answers that rules go in a circle, some package of the tree is stuck. However it
 /// ends, the oldest entries are then dropped until the cache's limits hold.
 pub fn run<K: Kit>(
     alloc: Global,
     tree: &[PackageTexts],
+    only: u16,
     cache: &mut Cache,
     kits: &mut [K],
 ) -> Result<Judgement, Unloaded>
     requires tree { IsTree tree.now }
-    requires few { length tree.now < 2 ^ 32 }
+    requires few { length tree.now < 2 ^ 28 }
     requires some { 0 < length kits.old }
-    requires room { (k : ℕ) (kit : K) → slice_get kits.old k ≡ Some kit → K.loads kit ≤ 2 ^ 62 }
-    ensures bound { sum_by K.loads kits.new ≤ sum_by K.loads kits.old + length tree.now }
-    ensures runs { sum_by K.runs kits.new ≡ sum_by K.runs kits.old }
+    requires loads { (k : ℕ) (kit : K) → slice_get kits.old k ≡ Some kit → K.loads kit ≤ 2 ^ 62 }
+    requires runs { (k : ℕ) (kit : K) → slice_get kits.old k ≡ Some kit → K.runs kit ≤ 2 ^ 62 }
+    ensures bound { sum_by K.loads kits.new + sum_by K.runs kits.new ≤ sum_by K.loads kits.old + sum_by K.runs kits.old + 16 * length tree.now }
     ensures stand { IfOk result (λ reply. AreVerdictsIn tree.now reply.verdicts) }
-    ensures ran { IsHonest cache.old → IfOk result (λ reply. Ran tree.now cache.old cache.new (sum_by K.loads kits.old) (sum_by K.loads kits.new) reply) }
-    ensures cut_off { IsHonest cache.old → OnErr result (IsCutOff tree.now cache.old cache.new (sum_by K.loads kits.old) (sum_by K.loads kits.new)) }
+    ensures found { IfOk result (λ reply. AreFoundIn tree.now reply.found) }
+    ensures ran { IsHonest cache.old → IfOk result (λ reply. Ran tree.now only cache.old cache.new (tally (sum_by K.loads kits.old) (sum_by K.runs kits.old)) (tally (sum_by K.loads kits.new) (sum_by K.runs kits.new)) reply) }
+    ensures cut_off { IsHonest cache.old → OnErr result (IsCutOff tree.now only cache.old cache.new (tally (sum_by K.loads kits.old) (sum_by K.runs kits.old)) (tally (sum_by K.loads kits.new) (sum_by K.runs kits.new))) }
     ensures circle { result ≡ Err Unloaded.Stuck → MeetsCircle tree.now cache.old }
     ensures honest { IsHonest cache.old → IsHonest cache.new }
     ensures within { is_within cache.new ≡ true }
 {
-    let reply = run_within(alloc, tree, cache, &mut kits[0])?;
+    let reply = run_within(alloc, tree, only, cache, &mut kits[0])?;
     Ok(reply)
 }

@@ -1,12 +1,12 @@
 //! What a load reads. The texts of files and the export texts are shared by all that holds them.
 ghost use Rattle.std.specs.Prelude.{◌≡◌, IfOk, map};
-ghost use Rattle.gv_driver.specs.Loads.{load_input};
+ghost use Rattle.gv_driver.specs.Loads.{load_input, run_input};
 ghost use Rattle.gv_driver.specs.Tables.{load_over, pair_at};
 
 use crate::node::Node;
 use crate::parts::{path_at, shared_export_at};
 use crate::tree::PackageTexts;
-use action_graph::{LoadInput, texts_of_load};
+use action_graph::{LoadInput, RunInput, texts_of_load, texts_of_run_parts};
 use fact_cache::Input;
 use gv_base::{Bytes, NoMemory, Row, Text};
 use std::alloc::Global;
@@ -89,6 +89,24 @@ pub(crate) fn key_of(
     texts.shrink_to_fit();
     Ok(Input {
         node: 0,
+        texts: Row::new(texts),
+    })
+}
+
+/// What a run reads, as the cache keeps it.
+pub(crate) fn key_of_run(alloc: Global, run: &RunInput) -> Result<Input, NoMemory>
+    ensures { IfOk result (λ key. key ≡ run_input run.now) }
+{
+    let mut texts = texts_of_run_parts(
+        alloc,
+        run.load.path.as_str(),
+        run.load.files.as_slice(),
+        run.load.env.as_slice(),
+        run.facts.as_slice(),
+    )?;
+    texts.shrink_to_fit();
+    Ok(Input {
+        node: run.analyzer,
         texts: Row::new(texts),
     })
 }

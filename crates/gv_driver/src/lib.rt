@@ -1,19 +1,24 @@
-//! Runs over a tree: each load is looked up by its whole input, and executed only where it is missing.
+//! Runs over a tree: each load and each run of an analyzer is looked up by its whole input, and executed only where it is missing.
 #![tactic(auto)]
 
+mod analyzers;
 mod answer;
 mod counts;
+mod diagnosed;
 mod driver;
 mod input;
 mod keep;
 mod laws;
+mod loading;
 mod node;
 mod order;
+mod package;
 mod parts;
 mod ready;
 mod reply;
 mod report;
 mod rows;
+mod runs;
 mod standing;
 mod step;
 mod tree;

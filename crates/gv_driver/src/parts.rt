@@ -1,8 +1,8 @@
 //! What a load reads, as slices of what holds it, so that nothing is copied to look it up.
 ghost use Rattle.std.specs.Prelude.{◌≡◌, ◌++◌, ◌∷◌, [], IfOk, OnOk, map, option_map, slice_get};
-ghost use Rattle.action_graph.specs.Nodes.{load_texts, pairs};
+ghost use Rattle.action_graph.specs.Nodes.{load_texts, pairs, run_texts};
 ghost use Rattle.fact_cache.specs.Caches.{lookup};
-ghost use Rattle.gv_driver.specs.Loads.{load_input};
+ghost use Rattle.gv_driver.specs.Loads.{run_over};
 ghost use Rattle.gv_driver.specs.Rows.{path_in};
 ghost use Rattle.gv_driver.specs.Tables.{export_in, load_over, pair_at};
 
@@ -109,7 +109,7 @@ fn push_exports<'a>(
 }
 
 /// The texts of what a package's load reads.
-fn parts_of<'a>(
+pub(crate) fn parts_of<'a>(
     alloc: Global,
     tree: &'a [PackageTexts],
     table: &'a [Option<Node>],
@@ -126,24 +126,24 @@ fn parts_of<'a>(
     Ok(parts)
 }
 
-fn find<'a>(cache: &'a Cache, parts: &[&[u8]]) -> Option<&'a [u8]>
-    ensures { option_map (λ o. o.now) result ≡ lookup cache.now (record { node = 0; texts = map (λ t. t.now) parts.now }) }
+/// The texts of what the runs over a package read.
+pub(crate) fn run_parts<'a>(
+    alloc: Global,
+    tree: &'a [PackageTexts],
+    table: &'a [Option<Node>],
+    env: &[u32],
+    pack: &'a PackageTexts,
+) -> Result<Vec<&'a [u8]>, NoMemory>
+    ensures { IfOk result (λ parts. map (λ t. t.now) parts.items ≡ run_texts (run_over 0 (load_over tree.now table.now env.now pack.now))) }
 {
-    cache.find_slices(0, parts)
+    let mut parts = parts_of(alloc, tree, table, env, pack)?;
+    push_part(&mut parts, b"")?;
+    Ok(parts)
 }
 
-/// The outcome that the cache has of a package's load.
-pub(crate) fn cached<'a>(
-    alloc: Global,
-    tree: &[PackageTexts],
-    cache: &'a Cache,
-    table: &[Option<Node>],
-    env: &[u32],
-    pack: &PackageTexts,
-) -> Result<Option<&'a [u8]>, NoMemory>
-    ensures { IfOk result (λ found. option_map (λ o. o.now) found ≡ lookup cache.now (load_input (load_over tree.now table.now env.now pack.now))) }
+/// The outcome that the cache has of a node whose input is these texts: a load for 0, else the analyzer's run.
+pub(crate) fn cached<'a>(cache: &'a Cache, node: u8, parts: &[&[u8]]) -> Option<&'a [u8]>
+    ensures { option_map (λ o. o.now) result ≡ lookup cache.now (record { node = node; texts = map (λ t. t.now) parts.now }) }
 {
-    let parts = parts_of(alloc, tree, table, env, pack)?;
-    let found = find(cache, &parts);
-    Ok(found)
+    cache.find_slices(node, parts)
 }

@@ -1,6 +1,6 @@
 //! What a run says of the packages of a tree.
 use action_graph::MarkLine;
-use analysis_core::Counts;
+use analysis_core::{Counts, Diagnostic};
 use gv_base::Row;
 
 /// What comes of a package, the first of these that holds.
@@ -21,6 +21,9 @@ pub enum Verdict {
 pub struct Judgement {
     /// The verdict of each package, by its number.
     pub verdicts: Row<Verdict>,
+    /// What the analyzers found of each package, by its number: of one after the other, and each in its own order. File numbers count the
+    /// package's files from 0.
+    pub found: Row<Row<Diagnostic>>,
     /// How much work there was.
     pub counts: Counts,
 }

@@ -1,106 +1,198 @@
-use Rattle.std.proofs.Common.{◌≡◌, ◌<◌, ◌≤◌, ◌^◌, ◌∙◌, List, Option, ap, sym, subst, length, arith, rules}
+use Rattle.std.proofs.Common.{◌≡◌, ◌<◌, ◌≤◌, ◌+◌, ◌*◌, ◌^◌, ◌∙◌, ◌++◌, List, Option, Some, ap, map, sym, subst, length, take, arith, rules}
 use Rattle.std.specs.Prelude.{sum_by}
+use Rattle.fact_cache.specs.declared.list.Entry.{Entry}
+use Rattle.analysis_core.specs.declared.diagnostic.Diagnostic.{Diagnostic}
 use Rattle.gv_driver.specs.declared.node.Node.{Node}
 use Rattle.gv_driver.specs.declared.reply.Verdict.{Verdict}
-use Rattle.gv_driver.specs.Reports.{AreShown}
-use Rattle.gv_driver.specs.Tables.{waiting, done_in, fresh_in}
-use Rattle.gv_driver.proofs.StepLaws.{rows-none, table-none, waiting-none}
-use Rattle.gv_driver.proofs.KeepLaws.{can-keep, keeping-honest}
+use Rattle.gv_driver.specs.Caches.{IsHonest}
+use Rattle.gv_driver.specs.Entries.{all_entries}
+use Rattle.gv_driver.specs.Reports.{AllFoundShown, AreShown}
+use Rattle.gv_driver.specs.Runs.{CanKeep}
+use Rattle.gv_driver.specs.Tables.{AreShort, loads_in, missing_in, nodes_in, runs_in, waiting}
+use Rattle.gv_driver.specs.Tallies.{tally}
+use Rattle.gv_driver.proofs.StepLaws.{rows-none, stops-goes, table-none, table-short, waiting-none}
+use Rattle.gv_driver.proofs.EntryLaws.{can-keep, kept-all, kept-honest}
+use Rattle.gv_driver.proofs.FindingLaws.{found-stands}
 use Rattle.gv_driver.proofs.ReportLaws.{report-stands}
-use Rattle.gv_driver.proofs.RunLaws.{loads-bound, cut-first, cut-in_loads, cut-in_keep, ran-right}
+use Rattle.gv_driver.proofs.RunLaws.{loads-bound, runs-bound, cut-first, cut-stops, cut-in_keep, ran-right}
 use Rattle.gv_driver.proofs.driver.run_with.Goals as goal
 
 pub returns-in_err-table-clause-cut_off : goal.returns-in_err-table-clause-cut_off
 returns-in_err-table-clause-cut_off g c = λ honest.
-    let h = cut-first c.args.tree.now c.args.cache.now (g.K.Kit.loads c.args.kit.now) in search (rules, h)
+    let h = cut-first c.args.tree.now c.args.only c.args.cache.now (tally (g.K.Kit.loads c.args.kit.now) (g.K.Kit.runs c.args.kit.now)) in search (rules, h)
 
-pub run_loads-requires-clause-room : goal.run_loads-requires-clause-room
-run_loads-requires-clause-room g c =
+pub run_all-requires-clause-loads : goal.run_all-requires-clause-loads
+run_all-requires-clause-loads g c =
     let w : waiting c.in_ok-table.table.items ≡ length c.args.tree.now = waiting-none (length c.args.tree.now) c.in_ok-table.table.items c.in_ok-table.ensures in
-    let room : g.K.Kit.loads c.args.kit.now ≤ 2 ^ 62 = c.requires.room in
-    let few : length c.args.tree.now < 2 ^ 32 = c.requires.few in
+    let room : g.K.Kit.loads c.args.kit.now ≤ 2 ^ 62 = c.requires.loads in
+    let few : length c.args.tree.now < 2 ^ 28 = c.requires.few in
     omega (arith, w, room, few)
 
-pub run_loads-requires-clause-table : goal.run_loads-requires-clause-table
-run_loads-requires-clause-table g c = table-none c.args.tree.now c.args.cache.now c.in_ok-table.table.items c.in_ok-table.ensures
+pub run_all-requires-clause-runs : goal.run_all-requires-clause-runs
+run_all-requires-clause-runs g c =
+    let w : waiting c.in_ok-table.table.items ≡ length c.args.tree.now = waiting-none (length c.args.tree.now) c.in_ok-table.table.items c.in_ok-table.ensures in
+    let room : g.K.Kit.runs c.args.kit.now ≤ 2 ^ 62 = c.requires.runs in
+    let few : length c.args.tree.now < 2 ^ 28 = c.requires.few in
+    omega (arith, w, room, few)
 
-pub run_loads-requires-clause-rows : goal.run_loads-requires-clause-rows
-run_loads-requires-clause-rows g c = rows-none c.args.tree.now c.args.cache.now c.in_ok-table.table.items c.in_ok-table.ensures
+pub run_all-requires-clause-table : goal.run_all-requires-clause-table
+run_all-requires-clause-table g c = table-none c.args.tree.now c.args.only c.args.cache.now c.in_ok-table.table.items c.in_ok-table.ensures
 
-pub returns-in_err-run_loads-clause-bound : goal.returns-in_err-run_loads-clause-bound
-returns-in_err-run_loads-clause-bound g c =
-    loads-bound c.args.tree.now c.args.cache.now c.in_ok-table.table.items c.run_loads.new.table.items (g.K.Kit.loads c.args.kit.now) (g.K.Kit.loads c.run_loads.new.kit)
-    c.in_ok-table.ensures c.run_loads.ensures.goes
+pub run_all-requires-clause-rows : goal.run_all-requires-clause-rows
+run_all-requires-clause-rows g c = rows-none c.args.tree.now c.args.cache.now c.in_ok-table.table.items c.in_ok-table.ensures
 
-pub returns-in_err-run_loads-clause-cut_off : goal.returns-in_err-run_loads-clause-cut_off
-returns-in_err-run_loads-clause-cut_off g c = λ honest.
-    let h = cut-in_loads c.args.tree.now c.args.cache.now c.in_ok-table.table.items c.run_loads.new.table.items (g.K.Kit.loads c.args.kit.now) (g.K.Kit.loads c.run_loads.new.kit)
-    honest c.in_ok-table.ensures c.run_loads.ensures.goes in
+pub returns-in_err-run_all-clause-loads : goal.returns-in_err-run_all-clause-loads
+returns-in_err-run_all-clause-loads g c =
+    loads-bound c.args.tree.now c.args.only c.args.cache.now c.in_ok-table.table.items (tally (g.K.Kit.loads c.args.kit.now) (g.K.Kit.runs c.args.kit.now)) (tally (g.K.Kit.loads c.run_all.new.kit) (g.K.Kit.runs c.run_all.new.kit)) c.in_ok-table.ensures
+    c.in_err-run_all.ensures.stops
+
+pub returns-in_err-run_all-clause-runs : goal.returns-in_err-run_all-clause-runs
+returns-in_err-run_all-clause-runs g c =
+    runs-bound c.args.tree.now c.args.only c.args.cache.now c.in_ok-table.table.items (tally (g.K.Kit.loads c.args.kit.now) (g.K.Kit.runs c.args.kit.now)) (tally (g.K.Kit.loads c.run_all.new.kit) (g.K.Kit.runs c.run_all.new.kit)) c.in_ok-table.ensures
+    c.in_err-run_all.ensures.stops
+
+pub returns-in_err-run_all-clause-cut_off : goal.returns-in_err-run_all-clause-cut_off
+returns-in_err-run_all-clause-cut_off g c = λ honest.
+    let h = cut-stops c.args.tree.now c.args.only c.args.cache.now c.in_ok-table.table.items (tally (g.K.Kit.loads c.args.kit.now) (g.K.Kit.runs c.args.kit.now)) (tally (g.K.Kit.loads c.run_all.new.kit) (g.K.Kit.runs c.run_all.new.kit)) honest c.in_ok-table.ensures
+    c.in_err-run_all.ensures.stops in
     search (rules, h)
 
 pub verdicts-requires : goal.verdicts-requires
-verdicts-requires g c = ap (λ (l : List (Option Node)). length l) c.deref.ensures.value ∙ c.run_loads.ensures.goes.right.size
+verdicts-requires g c = ap (λ (l : List (Option Node)). length l) c.deref.ensures.value ∙ c.in_ok-run_all.ensures.goes.right.size
 
-pub returns-in_err-list-clause-bound : goal.returns-in_err-list-clause-bound
-returns-in_err-list-clause-bound g c =
-    loads-bound c.args.tree.now c.args.cache.now c.in_ok-table.table.items c.run_loads.new.table.items (g.K.Kit.loads c.args.kit.now) (g.K.Kit.loads c.run_loads.new.kit)
-    c.in_ok-table.ensures c.run_loads.ensures.goes
+pub returns-in_err-list-clause-loads : goal.returns-in_err-list-clause-loads
+returns-in_err-list-clause-loads g c =
+    loads-bound c.args.tree.now c.args.only c.args.cache.now c.in_ok-table.table.items (tally (g.K.Kit.loads c.args.kit.now) (g.K.Kit.runs c.args.kit.now)) (tally (g.K.Kit.loads c.run_all.new.kit) (g.K.Kit.runs c.run_all.new.kit)) c.in_ok-table.ensures
+    (stops-goes c.args.tree.now c.args.only c.args.cache.now c.in_ok-table.table.items c.run_all.new.table.items (tally (g.K.Kit.loads c.args.kit.now) (g.K.Kit.runs c.args.kit.now)) (tally (g.K.Kit.loads c.run_all.new.kit) (g.K.Kit.runs c.run_all.new.kit)) c.in_ok-run_all.ensures.goes)
+
+pub returns-in_err-list-clause-runs : goal.returns-in_err-list-clause-runs
+returns-in_err-list-clause-runs g c =
+    runs-bound c.args.tree.now c.args.only c.args.cache.now c.in_ok-table.table.items (tally (g.K.Kit.loads c.args.kit.now) (g.K.Kit.runs c.args.kit.now)) (tally (g.K.Kit.loads c.run_all.new.kit) (g.K.Kit.runs c.run_all.new.kit)) c.in_ok-table.ensures
+    (stops-goes c.args.tree.now c.args.only c.args.cache.now c.in_ok-table.table.items c.run_all.new.table.items (tally (g.K.Kit.loads c.args.kit.now) (g.K.Kit.runs c.args.kit.now)) (tally (g.K.Kit.loads c.run_all.new.kit) (g.K.Kit.runs c.run_all.new.kit)) c.in_ok-run_all.ensures.goes)
 
 pub returns-in_err-list-clause-cut_off : goal.returns-in_err-list-clause-cut_off
 returns-in_err-list-clause-cut_off g c = λ honest.
-    let h = cut-in_loads c.args.tree.now c.args.cache.now c.in_ok-table.table.items c.run_loads.new.table.items (g.K.Kit.loads c.args.kit.now) (g.K.Kit.loads c.run_loads.new.kit)
-    honest c.in_ok-table.ensures c.run_loads.ensures.goes in
+    let h = cut-stops c.args.tree.now c.args.only c.args.cache.now c.in_ok-table.table.items (tally (g.K.Kit.loads c.args.kit.now) (g.K.Kit.runs c.args.kit.now)) (tally (g.K.Kit.loads c.run_all.new.kit) (g.K.Kit.runs c.run_all.new.kit)) honest c.in_ok-table.ensures
+    (stops-goes c.args.tree.now c.args.only c.args.cache.now c.in_ok-table.table.items c.run_all.new.table.items (tally (g.K.Kit.loads c.args.kit.now) (g.K.Kit.runs c.args.kit.now)) (tally (g.K.Kit.loads c.run_all.new.kit) (g.K.Kit.runs c.run_all.new.kit)) c.in_ok-run_all.ensures.goes) in
+    search (rules, h)
+
+pub findings-requires : goal.findings-requires
+findings-requires g c = ap (λ (l : List (Option Node)). length l) c.deref-2.ensures.value ∙ c.in_ok-run_all.ensures.goes.right.size
+
+pub returns-in_err-found-clause-loads : goal.returns-in_err-found-clause-loads
+returns-in_err-found-clause-loads g c =
+    loads-bound c.args.tree.now c.args.only c.args.cache.now c.in_ok-table.table.items (tally (g.K.Kit.loads c.args.kit.now) (g.K.Kit.runs c.args.kit.now)) (tally (g.K.Kit.loads c.run_all.new.kit) (g.K.Kit.runs c.run_all.new.kit)) c.in_ok-table.ensures
+    (stops-goes c.args.tree.now c.args.only c.args.cache.now c.in_ok-table.table.items c.run_all.new.table.items (tally (g.K.Kit.loads c.args.kit.now) (g.K.Kit.runs c.args.kit.now)) (tally (g.K.Kit.loads c.run_all.new.kit) (g.K.Kit.runs c.run_all.new.kit)) c.in_ok-run_all.ensures.goes)
+
+pub returns-in_err-found-clause-runs : goal.returns-in_err-found-clause-runs
+returns-in_err-found-clause-runs g c =
+    runs-bound c.args.tree.now c.args.only c.args.cache.now c.in_ok-table.table.items (tally (g.K.Kit.loads c.args.kit.now) (g.K.Kit.runs c.args.kit.now)) (tally (g.K.Kit.loads c.run_all.new.kit) (g.K.Kit.runs c.run_all.new.kit)) c.in_ok-table.ensures
+    (stops-goes c.args.tree.now c.args.only c.args.cache.now c.in_ok-table.table.items c.run_all.new.table.items (tally (g.K.Kit.loads c.args.kit.now) (g.K.Kit.runs c.args.kit.now)) (tally (g.K.Kit.loads c.run_all.new.kit) (g.K.Kit.runs c.run_all.new.kit)) c.in_ok-run_all.ensures.goes)
+
+pub returns-in_err-found-clause-cut_off : goal.returns-in_err-found-clause-cut_off
+returns-in_err-found-clause-cut_off g c = λ honest.
+    let h = cut-stops c.args.tree.now c.args.only c.args.cache.now c.in_ok-table.table.items (tally (g.K.Kit.loads c.args.kit.now) (g.K.Kit.runs c.args.kit.now)) (tally (g.K.Kit.loads c.run_all.new.kit) (g.K.Kit.runs c.run_all.new.kit)) honest c.in_ok-table.ensures
+    (stops-goes c.args.tree.now c.args.only c.args.cache.now c.in_ok-table.table.items c.run_all.new.table.items (tally (g.K.Kit.loads c.args.kit.now) (g.K.Kit.runs c.args.kit.now)) (tally (g.K.Kit.loads c.run_all.new.kit) (g.K.Kit.runs c.run_all.new.kit)) c.in_ok-run_all.ensures.goes) in
+    search (rules, h)
+
+pub counts-counts-requires-clause-few : goal.counts-counts-requires-clause-few
+counts-counts-requires-clause-few g c =
+    let size : length c.deref-3.result.now ≡ length c.args.tree.now = ap (λ (l : List (Option Node)). length l) c.deref-3.ensures.value ∙ c.in_ok-run_all.ensures.goes.right.size in
+    let few : length c.args.tree.now < 2 ^ 28 = c.requires.few in
+    omega (arith, size, few)
+
+pub counts-counts-requires-clause-short : goal.counts-counts-requires-clause-short
+counts-counts-requires-clause-short g c =
+    subst (λ (l : List (Option Node)). AreShort l) (sym c.deref-3.ensures.value) (table-short c.args.tree.now c.args.only c.args.cache.now c.run_all.new.table.items c.in_ok-run_all.ensures.goes.right)
+
+pub returns-in_err-entries-clause-loads : goal.returns-in_err-entries-clause-loads
+returns-in_err-entries-clause-loads g c =
+    loads-bound c.args.tree.now c.args.only c.args.cache.now c.in_ok-table.table.items (tally (g.K.Kit.loads c.args.kit.now) (g.K.Kit.runs c.args.kit.now)) (tally (g.K.Kit.loads c.run_all.new.kit) (g.K.Kit.runs c.run_all.new.kit)) c.in_ok-table.ensures
+    (stops-goes c.args.tree.now c.args.only c.args.cache.now c.in_ok-table.table.items c.run_all.new.table.items (tally (g.K.Kit.loads c.args.kit.now) (g.K.Kit.runs c.args.kit.now)) (tally (g.K.Kit.loads c.run_all.new.kit) (g.K.Kit.runs c.run_all.new.kit)) c.in_ok-run_all.ensures.goes)
+
+pub returns-in_err-entries-clause-runs : goal.returns-in_err-entries-clause-runs
+returns-in_err-entries-clause-runs g c =
+    runs-bound c.args.tree.now c.args.only c.args.cache.now c.in_ok-table.table.items (tally (g.K.Kit.loads c.args.kit.now) (g.K.Kit.runs c.args.kit.now)) (tally (g.K.Kit.loads c.run_all.new.kit) (g.K.Kit.runs c.run_all.new.kit)) c.in_ok-table.ensures
+    (stops-goes c.args.tree.now c.args.only c.args.cache.now c.in_ok-table.table.items c.run_all.new.table.items (tally (g.K.Kit.loads c.args.kit.now) (g.K.Kit.runs c.args.kit.now)) (tally (g.K.Kit.loads c.run_all.new.kit) (g.K.Kit.runs c.run_all.new.kit)) c.in_ok-run_all.ensures.goes)
+
+pub returns-in_err-entries-clause-cut_off : goal.returns-in_err-entries-clause-cut_off
+returns-in_err-entries-clause-cut_off g c = λ honest.
+    let h = cut-stops c.args.tree.now c.args.only c.args.cache.now c.in_ok-table.table.items (tally (g.K.Kit.loads c.args.kit.now) (g.K.Kit.runs c.args.kit.now)) (tally (g.K.Kit.loads c.run_all.new.kit) (g.K.Kit.runs c.run_all.new.kit)) honest c.in_ok-table.ensures
+    (stops-goes c.args.tree.now c.args.only c.args.cache.now c.in_ok-table.table.items c.run_all.new.table.items (tally (g.K.Kit.loads c.args.kit.now) (g.K.Kit.runs c.args.kit.now)) (tally (g.K.Kit.loads c.run_all.new.kit) (g.K.Kit.runs c.run_all.new.kit)) c.in_ok-run_all.ensures.goes) in
     search (rules, h)
 
 pub keep-requires : goal.keep-requires
-keep-requires g c = can-keep c.args.tree.now c.args.cache.now c.run_loads.new.table.items c.requires.tree c.run_loads.ensures.goes.right
+keep-requires g c = (all_entries c.run_all.new.table.items, (c.in_ok-entries.ensures ∙ ap (λ (l : List (Option Node)). map Some (all_entries l)) c.deref-4.ensures.value), (can-keep c.args.tree.now c.args.only c.args.cache.now c.run_all.new.table.items c.requires.tree c.in_ok-run_all.ensures.goes.right))
 
-pub returns-in_err-keep-clause-bound : goal.returns-in_err-keep-clause-bound
-returns-in_err-keep-clause-bound g c =
-    loads-bound c.args.tree.now c.args.cache.now c.in_ok-table.table.items c.run_loads.new.table.items (g.K.Kit.loads c.args.kit.now) (g.K.Kit.loads c.run_loads.new.kit)
-    c.in_ok-table.ensures c.run_loads.ensures.goes
+pub returns-in_err-keep-clause-loads : goal.returns-in_err-keep-clause-loads
+returns-in_err-keep-clause-loads g c =
+    loads-bound c.args.tree.now c.args.only c.args.cache.now c.in_ok-table.table.items (tally (g.K.Kit.loads c.args.kit.now) (g.K.Kit.runs c.args.kit.now)) (tally (g.K.Kit.loads c.run_all.new.kit) (g.K.Kit.runs c.run_all.new.kit)) c.in_ok-table.ensures
+    (stops-goes c.args.tree.now c.args.only c.args.cache.now c.in_ok-table.table.items c.run_all.new.table.items (tally (g.K.Kit.loads c.args.kit.now) (g.K.Kit.runs c.args.kit.now)) (tally (g.K.Kit.loads c.run_all.new.kit) (g.K.Kit.runs c.run_all.new.kit)) c.in_ok-run_all.ensures.goes)
+
+pub returns-in_err-keep-clause-runs : goal.returns-in_err-keep-clause-runs
+returns-in_err-keep-clause-runs g c =
+    runs-bound c.args.tree.now c.args.only c.args.cache.now c.in_ok-table.table.items (tally (g.K.Kit.loads c.args.kit.now) (g.K.Kit.runs c.args.kit.now)) (tally (g.K.Kit.loads c.run_all.new.kit) (g.K.Kit.runs c.run_all.new.kit)) c.in_ok-table.ensures
+    (stops-goes c.args.tree.now c.args.only c.args.cache.now c.in_ok-table.table.items c.run_all.new.table.items (tally (g.K.Kit.loads c.args.kit.now) (g.K.Kit.runs c.args.kit.now)) (tally (g.K.Kit.loads c.run_all.new.kit) (g.K.Kit.runs c.run_all.new.kit)) c.in_ok-run_all.ensures.goes)
 
 pub returns-in_err-keep-clause-cut_off : goal.returns-in_err-keep-clause-cut_off
 returns-in_err-keep-clause-cut_off g c = λ honest.
-    let part = c.in_err-keep.ensures.part in
-    let h = cut-in_keep c.args.tree.now c.args.cache.now c.keep.new.cache c.in_ok-table.table.items c.run_loads.new.table.items (g.K.Kit.loads c.args.kit.now) (g.K.Kit.loads c.run_loads.new.kit) part.0
-    honest c.in_ok-table.ensures c.run_loads.ensures.goes c.in_ok-run_loads.ensures.done part.1 in
+    let part = c.in_err-keep.ensures.part (all_entries c.run_all.new.table.items) (c.in_ok-entries.ensures ∙ ap (λ (l : List (Option Node)). map Some (all_entries l)) c.deref-4.ensures.value) in
+    let h = cut-in_keep c.args.tree.now c.args.only c.args.cache.now c.keep.new.cache c.in_ok-table.table.items c.run_all.new.table.items (tally (g.K.Kit.loads c.args.kit.now) (g.K.Kit.runs c.args.kit.now)) (tally (g.K.Kit.loads c.run_all.new.kit) (g.K.Kit.runs c.run_all.new.kit)) part.0
+    honest c.in_ok-table.ensures c.in_ok-run_all.ensures.goes (stops-goes c.args.tree.now c.args.only c.args.cache.now c.in_ok-table.table.items c.run_all.new.table.items (tally (g.K.Kit.loads c.args.kit.now) (g.K.Kit.runs c.args.kit.now)) (tally (g.K.Kit.loads c.run_all.new.kit) (g.K.Kit.runs c.run_all.new.kit)) c.in_ok-run_all.ensures.goes) c.in_ok-run_all.ensures.done (can-keep c.args.tree.now c.args.only c.args.cache.now c.run_all.new.table.items c.requires.tree c.in_ok-run_all.ensures.goes.right) part.1 in
     search (rules, h)
 
 pub returns-in_err-keep-clause-honest : goal.returns-in_err-keep-clause-honest
 returns-in_err-keep-clause-honest g c = λ honest.
-    let part = c.in_err-keep.ensures.part in
-    keeping-honest c.args.cache.now c.run_loads.new.table.items part.0 c.keep.new.cache part.1 honest
+    let part = c.in_err-keep.ensures.part (all_entries c.run_all.new.table.items) (c.in_ok-entries.ensures ∙ ap (λ (l : List (Option Node)). map Some (all_entries l)) c.deref-4.ensures.value) in
+    subst (λ (l : List Entry). IsHonest l) (sym part.1) (kept-honest c.args.cache.now (all_entries c.run_all.new.table.items) part.0 (can-keep c.args.tree.now c.args.only c.args.cache.now c.run_all.new.table.items c.requires.tree c.in_ok-run_all.ensures.goes.right) honest)
 
-pub returns-clause-bound : goal.returns-clause-bound
-returns-clause-bound g c =
-    loads-bound c.args.tree.now c.args.cache.now c.in_ok-table.table.items c.run_loads.new.table.items (g.K.Kit.loads c.args.kit.now) (g.K.Kit.loads c.run_loads.new.kit)
-    c.in_ok-table.ensures c.run_loads.ensures.goes
+pub returns-clause-loads : goal.returns-clause-loads
+returns-clause-loads g c =
+    loads-bound c.args.tree.now c.args.only c.args.cache.now c.in_ok-table.table.items (tally (g.K.Kit.loads c.args.kit.now) (g.K.Kit.runs c.args.kit.now)) (tally (g.K.Kit.loads c.run_all.new.kit) (g.K.Kit.runs c.run_all.new.kit)) c.in_ok-table.ensures
+    (stops-goes c.args.tree.now c.args.only c.args.cache.now c.in_ok-table.table.items c.run_all.new.table.items (tally (g.K.Kit.loads c.args.kit.now) (g.K.Kit.runs c.args.kit.now)) (tally (g.K.Kit.loads c.run_all.new.kit) (g.K.Kit.runs c.run_all.new.kit)) c.in_ok-run_all.ensures.goes)
+
+pub returns-clause-runs : goal.returns-clause-runs
+returns-clause-runs g c =
+    runs-bound c.args.tree.now c.args.only c.args.cache.now c.in_ok-table.table.items (tally (g.K.Kit.loads c.args.kit.now) (g.K.Kit.runs c.args.kit.now)) (tally (g.K.Kit.loads c.run_all.new.kit) (g.K.Kit.runs c.run_all.new.kit)) c.in_ok-table.ensures
+    (stops-goes c.args.tree.now c.args.only c.args.cache.now c.in_ok-table.table.items c.run_all.new.table.items (tally (g.K.Kit.loads c.args.kit.now) (g.K.Kit.runs c.args.kit.now)) (tally (g.K.Kit.loads c.run_all.new.kit) (g.K.Kit.runs c.run_all.new.kit)) c.in_ok-run_all.ensures.goes)
 
 pub returns-clause-stand : goal.returns-clause-stand
 returns-clause-stand g c =
     let tree = c.args.tree.now in
-    let table = c.run_loads.new.table.items in
+    let table = c.run_all.new.table.items in
     let list = c.new.result in
     let shown : AreShown tree table list (length tree) = subst (λ (v : List Verdict). AreShown tree table v (length tree)) (sym c.new.ensures)
     (subst (λ (l : List (Option Node)). AreShown tree l c.in_ok-list.list.items (length tree)) c.deref.ensures.value c.in_ok-list.ensures) in
-    report-stands tree table list c.run_loads.ensures.goes.right.size shown
+    report-stands tree table list c.in_ok-run_all.ensures.goes.right.size shown
+
+pub returns-clause-found : goal.returns-clause-found
+returns-clause-found g c =
+    let tree = c.args.tree.now in
+    let table = c.run_all.new.table.items in
+    let list = c.new-2.result in
+    let shown : AllFoundShown tree table list (length tree) = subst (λ (v : List (List Diagnostic)). AllFoundShown tree table v (length tree)) (sym c.new-2.ensures)
+    (subst (λ (l : List (Option Node)). AllFoundShown tree l c.in_ok-found.found.items (length tree)) c.deref-2.ensures.value c.in_ok-found.ensures) in
+    found-stands tree table list c.in_ok-run_all.ensures.goes.right.size shown
 
 pub returns-clause-ran : goal.returns-clause-ran
 returns-clause-ran g c = λ honest.
     let tree = c.args.tree.now in
-    let table = c.run_loads.new.table.items in
+    let table = c.run_all.new.table.items in
     let list = c.new.result in
+    let found = c.new-2.result in
     let counts = c.counts-counts.result in
     let shown : AreShown tree table list (length tree) = subst (λ (v : List Verdict). AreShown tree table v (length tree)) (sym c.new.ensures)
     (subst (λ (l : List (Option Node)). AreShown tree l c.in_ok-list.list.items (length tree)) c.deref.ensures.value c.in_ok-list.ensures) in
-    ran-right tree c.args.cache.now c.keep.new.cache c.in_ok-table.table.items table (g.K.Kit.loads c.args.kit.now) (g.K.Kit.loads c.run_loads.new.kit)
-    (record { verdicts = list; counts = counts }) honest c.in_ok-table.ensures c.run_loads.ensures.goes c.in_ok-run_loads.ensures.done c.in_ok-keep.ensures.whole shown
-    (c.counts-counts.ensures.nodes ∙ ap (λ (l : List (Option Node)). sum_by done_in l) c.deref-2.ensures.value)
-    (c.counts-counts.ensures.missing ∙ ap (λ (l : List (Option Node)). sum_by fresh_in l) c.deref-2.ensures.value)
-    (c.counts-counts.ensures.loads ∙ ap (λ (l : List (Option Node)). sum_by fresh_in l) c.deref-2.ensures.value)
-    c.counts-counts.ensures.runs
+    let told : AllFoundShown tree table found (length tree) = subst (λ (v : List (List Diagnostic)). AllFoundShown tree table v (length tree)) (sym c.new-2.ensures)
+    (subst (λ (l : List (Option Node)). AllFoundShown tree l c.in_ok-found.found.items (length tree)) c.deref-2.ensures.value c.in_ok-found.ensures) in
+    ran-right c.findings_stand.ensures tree c.args.only c.args.cache.now c.keep.new.cache c.in_ok-table.table.items table (tally (g.K.Kit.loads c.args.kit.now) (g.K.Kit.runs c.args.kit.now)) (tally (g.K.Kit.loads c.run_all.new.kit) (g.K.Kit.runs c.run_all.new.kit))
+    (record { verdicts = list; found = found; counts = counts }) honest c.in_ok-table.ensures c.in_ok-run_all.ensures.goes c.in_ok-run_all.ensures.done (can-keep c.args.tree.now c.args.only c.args.cache.now c.run_all.new.table.items c.requires.tree c.in_ok-run_all.ensures.goes.right)
+    (c.in_ok-keep.ensures.whole (all_entries c.run_all.new.table.items) (c.in_ok-entries.ensures ∙ ap (λ (l : List (Option Node)). map Some (all_entries l)) c.deref-4.ensures.value)) shown told
+    (c.counts-counts.ensures.nodes ∙ ap (λ (l : List (Option Node)). sum_by nodes_in l) c.deref-3.ensures.value)
+    (c.counts-counts.ensures.missing ∙ ap (λ (l : List (Option Node)). sum_by missing_in l) c.deref-3.ensures.value)
+    (c.counts-counts.ensures.loads ∙ ap (λ (l : List (Option Node)). sum_by loads_in l) c.deref-3.ensures.value)
+    (c.counts-counts.ensures.runs ∙ ap (λ (l : List (Option Node)). sum_by runs_in l) c.deref-3.ensures.value)
 
 pub returns-clause-honest : goal.returns-clause-honest
 returns-clause-honest g c = λ honest.
-    keeping-honest c.args.cache.now c.run_loads.new.table.items (length c.run_loads.new.table.items) c.keep.new.cache c.in_ok-keep.ensures.whole honest
+    subst (λ (l : List Entry). IsHonest l) (sym (c.in_ok-keep.ensures.whole (all_entries c.run_all.new.table.items) (c.in_ok-entries.ensures ∙ ap (λ (l : List (Option Node)). map Some (all_entries l)) c.deref-4.ensures.value))) (kept-all c.args.cache.now (all_entries c.run_all.new.table.items) (can-keep c.args.tree.now c.args.only c.args.cache.now c.run_all.new.table.items c.requires.tree c.in_ok-run_all.ensures.goes.right) honest)

@@ -1,5 +1,8 @@
-use Rattle.gv_driver.proofs.OnceLaws.{report-once}
+use Rattle.gv_driver.proofs.OnceLaws.{found-once, report-once}
 use Rattle.gv_driver.proofs.laws.one_report.Goals as goal
 
-pub returns : goal.returns
-returns c = report-once
+pub returns-clause-verdicts : goal.returns-clause-verdicts
+returns-clause-verdicts c = report-once
+
+pub returns-clause-found : goal.returns-clause-found
+returns-clause-found c = found-once

@@ -1,0 +1,6 @@
+use Rattle.gv_driver.proofs.LoadingLaws.{opened-loading}
+use Rattle.gv_driver.proofs.loading.load_once.Goals as goal
+
+pub returns-clause-loading : goal.returns-clause-loading
+returns-clause-loading g c =
+    opened-loading g.K.Kit.is_of g.K.Kit.keeps c.args.input.now c.in_ok-load.load c.loading_of.result c.loading_of.ensures.loaded c.in_ok-load.ensures.is_of c.in_ok-load.ensures.keeps c.in_ok-load.ensures.right
