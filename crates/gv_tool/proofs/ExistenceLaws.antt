@@ -4,16 +4,20 @@ use Rattle.std.proofs.lemmas.Bool.{cases_lt}
 use Rattle.std.proofs.lemmas.List.{append-nil, length-append, take_all}
 use Rattle.gv_base.specs.Files.{AreInOrder, put_file, del_file}
 use Rattle.gv_base.proofs.FileLemmas.{put_file-in_order, del_file-in_order}
+use Rattle.analysis_core.specs.declared.command.Command.{Command as Asked}
+use Rattle.analysis_core.specs.declared.command.Command.TheVariants as commands
+use Rattle.analysis_core.specs.declared.reply.ChangedFile.{ChangedFile}
 use Rattle.analysis_core.specs.Replies.{stats_text}
 use Rattle.gv_tool.specs.declared.status.Status.{Status}
 use Rattle.gv_tool.specs.declared.status.Status.TheVariants.{Done, Found, Refused, TooLong}
 use Rattle.gv_tool.specs.declared.word.Word.{Word}
-use Rattle.gv_tool.specs.declared.word.Word.TheVariants.{Put, Del, Check, Stats, End}
+use Rattle.gv_tool.specs.declared.word.Word.TheVariants.{Put, Del, Show, Check, Report, Fix, Stats, End}
 use Rattle.gv_tool.specs.Words.{text_of, shape_of}
 use Rattle.gv_tool.specs.Script.{Fields, bare, at_path, with_file, Fit, field_text, Command, spelling, IsLawful, IsBeginning, NoCommand}
-use Rattle.gv_tool.specs.Replies.{Standing, at_start, with_tree, Does}
+use Rattle.gv_tool.specs.Replies.{Standing, Runs, at_start, put_changed, show_text, with_tree, Does}
 use Rattle.gv_tool.specs.Outcome.{limit, refusal, Reached, IsRefused, no_command, cut_short, IsEnding, at_end, by_command, EndsBy, Outcome}
 use Rattle.gv_tool.specs.Headline.{IsAllDue}
+use Rattle.gv_tool.specs.Judging.{Tree}
 use Rattle.gv_tool.specs.Existence.{AllCanBeRead, AllHaveReports, HasDue}
 use Rattle.gv_tool.proofs.DueLaws.{take-joined}
 use Rattle.gv_tool.proofs.Steps.{Answered-next}
@@ -50,12 +54,20 @@ take-front k xs ys low =
     let none : k - length xs ≡ 0 = omega (arith, low) in
     take-joined k xs ys ∙ (ap (λ n. take k xs ++ take n ys) none ∙ append-nil (take k xs))
 
+-- changed files leave the tree in order
+changed-in-order : (tree : Tree) (changed : List ChangedFile) → AreInOrder tree → AreInOrder (put_changed tree changed)
+changed-in-order tree [] ordered = ordered
+changed-in-order tree (f ∷ fs) ordered = changed-in-order (put_file tree f.path f.bytes) fs (put_file-in_order tree f.path f.bytes ordered)
+
 -- ---- commands
 
 word-none : (w : Word) → text_of w ≡ [] → ⊥
 word-none Put e = cc
 word-none Del e = cc
+word-none Show e = cc
 word-none Check e = cc
+word-none Report e = cc
+word-none Fix e = cc
 word-none Stats e = cc
 word-none End e = cc
 
@@ -78,9 +90,9 @@ record BeginsOne (rest : List ℕ) : Type 0 where
   lawful : IsLawful first
   spelled : rest ≡ spelling first ++ more
 
-module _ (given : List ℕ) (none : (out : List ℕ) (status : Status) → IsAllDue status → Outcome at_start given out (Some []) status → ⊥) (reports : AllHaveReports) (readings : AllCanBeRead) where
+module _ (only : ℕ) (given : List ℕ) (none : (out : List ℕ) (status : Status) → IsAllDue status → Outcome (at_start only) given out (Some []) status → ⊥) (reports : AllHaveReports) (readings : AllCanBeRead) where
   -- a session doesn't end here by itself
-  module _ (now : Standing) (read rest said : List ℕ) (r : Reached at_start now given read rest said) where
+  module _ (now : Standing) (read rest said : List ℕ) (r : Reached (at_start only) now given read rest said) where
     ends : (out : List ℕ) (status : Status) → IsAllDue status → EndsBy now (length read) rest said out (Some []) status → ⊥
     ends out status due by = none out status due (record { now = now; read = read; rest = rest; said = said; reached = r; ends = by })
 
@@ -162,9 +174,9 @@ module _ (given : List ℕ) (none : (out : List ℕ) (status : Status) → IsAll
 
   -- no session that stands anywhere with less left goes on for ever
   abbrev Later : ℕ → Type 0
-  Later m = (now : Standing) (read rest said : List ℕ) → length rest < m → AreInOrder now.tree → Reached at_start now given read rest said → ⊥
+  Later m = (now : Standing) (read rest said : List ℕ) → length rest < m → AreInOrder now.tree → Reached (at_start only) now given read rest said → ⊥
 
-  module _ (m : ℕ) (later : Later m) (now : Standing) (read rest said : List ℕ) (low : length rest < suc m) (ordered : AreInOrder now.tree) (r : Reached at_start now given read rest said) where
+  module _ (m : ℕ) (later : Later m) (now : Standing) (read rest said : List ℕ) (low : length rest < suc m) (ordered : AreInOrder now.tree) (r : Reached (at_start only) now given read rest said) where
     on : (c : Command) (more : List ℕ) (next : Standing) (reply : List ℕ) → IsLawful c → rest ≡ spelling c ++ more → length read + length (spelling c) ≤ limit → Does c now next reply → AreInOrder next.tree → ⊥
     on c more next reply lawful is within does kept =
         let some : 0 < length (spelling c) = command-some c in
@@ -176,10 +188,21 @@ module _ (given : List ℕ) (none : (out : List ℕ) (status : Status) → IsAll
           answered = Answered-next r.answered c next reply lawful does;
         })
 
-    runs : (more : List ℕ) → rest ≡ spelling (command Check bare) ++ more → length read + length (spelling (command Check bare)) ≤ limit → ⊥
-    runs more is within = readings now.tree ordered (λ read-of. reports now.tree ordered now.cache read-of (λ after report told. on (command Check bare) more
-        (record { tree = now.tree; found = report.found; cache = after; counts = report.counts; loads = now.loads + report.counts.loads }) report.text tt is within
-        (record { report = report; reports = told; text = refl; found = refl; counts = refl; loads = refl; tree = refl }) ordered))
+    runs : (asked : Asked) (w : Word) (more : List ℕ) → IsLawful (command w bare) → ((next : Standing) (reply : List ℕ) → Runs asked now next reply → Does (command w bare) now next reply)
+        → rest ≡ spelling (command w bare) ++ more → length read + length (spelling (command w bare)) ≤ limit → ⊥
+    runs asked w more lawful does is within = readings now.tree ordered (λ read-of. reports asked now.only now.tree ordered now.cache read-of (λ after report told.
+        let next : Standing = record {
+          tree = put_changed now.tree report.changed;
+          found = report.found;
+          cache = after;
+          counts = report.counts;
+          loads = now.loads + report.counts.loads;
+          runs = now.runs + report.counts.runs;
+          only = now.only;
+        } in
+        on (command w bare) more next report.text lawful is within
+        (does next report.text (record { report = report; reports = told; text = refl; found = refl; counts = refl; loads = refl; runs = refl; tree = refl; only = refl }))
+        (changed-in-order now.tree report.changed ordered)))
 
     step : (w : Word) (f : Fields) (more : List ℕ) → Fit (shape_of w) f → rest ≡ spelling (command w f) ++ more → length read + length (spelling (command w f)) ≤ limit → ⊥
     step Put bare more fit is within = absurd fit
@@ -188,9 +211,18 @@ module _ (given : List ℕ) (none : (out : List ℕ) (status : Status) → IsAll
     step Del bare more fit is within = absurd fit
     step Del (at_path path) more fit is within = on (command Del (at_path path)) more (with_tree now (del_file now.tree path)) [] fit is within (refl, refl) (del_file-in_order now.tree path ordered)
     step Del (with_file path bytes) more fit is within = absurd fit
-    step Check bare more fit is within = runs more is within
+    step Show bare more fit is within = absurd fit
+    step Show (at_path path) more fit is within = on (command Show (at_path path)) more now (show_text now.tree path) fit is within (refl, refl) ordered
+    step Show (with_file path bytes) more fit is within = absurd fit
+    step Check bare more fit is within = runs commands.Check Check more tt (λ next reply r. r) is within
     step Check (at_path path) more fit is within = absurd fit
     step Check (with_file path bytes) more fit is within = absurd fit
+    step Report bare more fit is within = runs commands.Report Report more tt (λ next reply r. r) is within
+    step Report (at_path path) more fit is within = absurd fit
+    step Report (with_file path bytes) more fit is within = absurd fit
+    step Fix bare more fit is within = runs commands.Fix Fix more tt (λ next reply r. r) is within
+    step Fix (at_path path) more fit is within = absurd fit
+    step Fix (with_file path bytes) more fit is within = absurd fit
     step Stats bare more fit is within = on (command Stats bare) more now (stats_text now.counts) fit is within (refl, refl) ordered
     step Stats (at_path path) more fit is within = absurd fit
     step Stats (with_file path bytes) more fit is within = absurd fit
@@ -214,7 +246,7 @@ module _ (given : List ℕ) (none : (out : List ℕ) (status : Status) → IsAll
   goes (suc m) now read rest said low ordered r = turn m (goes m) now read rest said low ordered r
 
 -- each script has a due output
-pub due-exists : AllHaveReports → AllCanBeRead → (script : List ℕ) → HasDue script
-due-exists reports readings script none =
-    goes script (λ out status all ends. none out status (record { all = all; outcome = ends })) reports readings (suc (length script)) at_start [] script [] (omega arith) (λ i j d less within. absurd (let l : j < 0 = within in omega (arith, l)))
+pub due-exists : AllHaveReports → AllCanBeRead → (only : ℕ) (script : List ℕ) → HasDue only script
+due-exists reports readings only script none =
+    goes only script (λ out status all ends. none out status (record { all = all; outcome = ends })) reports readings (suc (length script)) (at_start only) [] script [] (omega arith) (λ i j d less within. absurd (let l : j < 0 = within in omega (arith, l)))
     (record { parts = refl; within = omega arith; answered = record { commands = []; spelled = refl; leads = (refl, refl) } })

@@ -11,14 +11,14 @@ use Rattle.gv_tool.proofs.JudgingLaws.{OneReport}
 use Rattle.gv_tool.proofs.Course.{never_usage}
 use Rattle.gv_tool.proofs.OutputLaws.{IsDueOf-run}
 
-due-of : OneReport → (a b : SourceView) (x y : SinkView) (status : Status) (r : Runs a b x y status) → IsDueOf a.left r.out status
-due-of law a b x y status r = IsDueOf-run law a.left b.left r.given r.out status r.takes r.outcome
+due-of : OneReport → (only : ℕ) (a b : SourceView) (x y : SinkView) (status : Status) (r : Runs only a b x y status) → IsDueOf only a.left r.out status
+due-of law only a b x y status r = IsDueOf-run law only a.left b.left r.given r.out status r.takes r.outcome
 
-pub Session-of : OneReport → (a b : SourceView) (x y : SinkView) (status : Status) (n : ℕ) → Runs a b x y status → n ≡ number_of status → Session a b x y n
-Session-of law a b x y status n r e = record { status = status; number = e; course = r; due = due-of law a b x y status r }
+pub Session-of : OneReport → (only : ℕ) (a b : SourceView) (x y : SinkView) (status : Status) (n : ℕ) → Runs only a b x y status → n ≡ number_of status → Session only a b x y n
+Session-of law only a b x y status n r e = record { status = status; number = e; course = r; due = due-of law only a b x y status r }
 
-pub EndedBy-of : OneReport → (a b : SourceView) (x y : SinkView) (status wanted : Status) → Runs a b x y status → status ≡ wanted → EndedBy a b x y wanted
-EndedBy-of law a b x y status wanted r e = subst (λ s. EndedBy a b x y s) e (record { course = r; due = due-of law a b x y status r })
+pub EndedBy-of : OneReport → (only : ℕ) (a b : SourceView) (x y : SinkView) (status wanted : Status) → Runs only a b x y status → status ≡ wanted → EndedBy only a b x y wanted
+EndedBy-of law only a b x y status wanted r e = subst (λ s. EndedBy only a b x y s) e (record { course = r; due = due-of law only a b x y status r })
 
 pub only-refused : (s : Status) → number_of s ≡ 8 → s ≡ Refused
 only-refused Done e = absurd (omega arith)
@@ -57,11 +57,11 @@ only-too_long Stuck e = absurd (omega arith)
 only-too_long Circle e = absurd (omega arith)
 
 -- the status is that of what is due, or that of an end before it
-pub exact-of : OneReport → (a b : SourceView) (x y : SinkView) (status : Status) (script whole : List ℕ) (due : Status) → Runs a b x y status → a.left ≡ Some script → Due script whole due → (number_of status ≡ number_of due) ⊎ IsCutShort (number_of status)
-exact-of law a b x y status script whole due r e d = go status refl
+pub exact-of : OneReport → (only : ℕ) (a b : SourceView) (x y : SinkView) (status : Status) (script whole : List ℕ) (due : Status) → Runs only a b x y status → a.left ≡ Some script → Due only script whole due → (number_of status ≡ number_of due) ⊎ IsCutShort (number_of status)
+exact-of law only a b x y status script whole due r e d = go status refl
   where
-    known : IsDueOf (Some script) r.out status
-    known = subst (λ l. IsDueOf l r.out status) e (due-of law a b x y status r)
+    known : IsDueOf only (Some script) r.out status
+    known = subst (λ l. IsDueOf only l r.out status) e (due-of law only a b x y status r)
 
     same : IsAllDue status → number_of status ≡ number_of due
     same all = ap number_of (known.single all whole due d).1
@@ -72,7 +72,7 @@ exact-of law a b x y status script whole due r e d = go status refl
     go Refused k = inl (same (subst IsAllDue (sym k) tt))
     go TooLong k = inl (same (subst IsAllDue (sym k) tt))
     go NoMemory k = inr (inl (ap number_of k))
-    go Usage k = absurd (never_usage at_start r.given r.out b.left status r.outcome k)
+    go Usage k = absurd (never_usage (at_start only) r.given r.out b.left status r.outcome k)
     go SourceFault k = inr (inr (inl (ap number_of k)))
     go SinkFault k = inr (inr (inr (inl (ap number_of k))))
     go Stuck k = inr (inr (inr (inr (inl (ap number_of k)))))

@@ -1,14 +1,16 @@
 -- An honest cache stays honest, whatever the commands are.
 use Rattle.std.proofs.Common.{◌≡◌, ℕ, List, [], ◌∷◌, sym, ap, subst}
+use Rattle.analysis_core.specs.declared.command.Command.{Command as Asked}
+use Rattle.analysis_core.specs.declared.command.Command.TheVariants as commands
 use Rattle.gv_tool.specs.declared.word.Word.{Word}
-use Rattle.gv_tool.specs.declared.word.Word.TheVariants.{Put, Del, Check, Stats, End}
+use Rattle.gv_tool.specs.declared.word.Word.TheVariants.{Put, Del, Show, Check, Report, Fix, Stats, End}
 use Rattle.gv_tool.specs.Script.{Fields, bare, at_path, with_file, Command}
 use Rattle.gv_tool.specs.Judging.{Tree, Entries, TreeReport, Reports, IsHonest}
 use Rattle.gv_tool.specs.Replies.{Standing, Carries, Leads}
 
 -- a report keeps a cache honest
 abbrev pub KeepsHonest : Type 0
-KeepsHonest = (tree : Tree) (before after : Entries) (a : TreeReport) → IsHonest before → Reports tree before after a → IsHonest after
+KeepsHonest = (asked : Asked) (only : ℕ) (tree : Tree) (before after : Entries) (a : TreeReport) → IsHonest before → Reports asked only tree before after a → IsHonest after
 
 same-cache : (s n : Standing) → n.cache ≡ s.cache → IsHonest s.cache → IsHonest n.cache
 same-cache s n e h = subst IsHonest (sym e) h
@@ -20,7 +22,12 @@ step-honest keeps Put (with_file path bytes) s n r h k = same-cache s n (ap (λ 
 step-honest keeps Del bare s n r h k = absurd k
 step-honest keeps Del (at_path path) s n r h k = same-cache s n (ap (λ (z : Standing). z.cache) k.0) h
 step-honest keeps Del (with_file path bytes) s n r h k = absurd k
-step-honest keeps Check f s n r h k = keeps s.tree s.cache n.cache k.report h k.reports
+step-honest keeps Show bare s n r h k = absurd k
+step-honest keeps Show (at_path path) s n r h k = same-cache s n (ap (λ (z : Standing). z.cache) k.0) h
+step-honest keeps Show (with_file path bytes) s n r h k = absurd k
+step-honest keeps Check f s n r h k = keeps commands.Check s.only s.tree s.cache n.cache k.report h k.reports
+step-honest keeps Report f s n r h k = keeps commands.Report s.only s.tree s.cache n.cache k.report h k.reports
+step-honest keeps Fix f s n r h k = keeps commands.Fix s.only s.tree s.cache n.cache k.report h k.reports
 step-honest keeps Stats f s n r h k = same-cache s n (ap (λ (z : Standing). z.cache) k.0) h
 step-honest keeps End f s n r h k = absurd k
 

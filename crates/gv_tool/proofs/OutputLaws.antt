@@ -177,8 +177,8 @@ ends-single now n rest said out out' Stuck st' a b e f = absurd a
 ends-single now n rest said out out' Circle st' a b e f = absurd a
 
 -- what is due for a script is one output, and one status
-pub Due-single : OneReport → (script out out' : List ℕ) (st st' : Status) → Due script out st → Due script out' st' → (out ≡ out') × (st ≡ st')
-Due-single law script out out' st st' d d' =
+pub Due-single : OneReport → (only : ℕ) (script out out' : List ℕ) (st st' : Status) → Due only script out st → Due only script out' st' → (out ≡ out') × (st ≡ st')
+Due-single law only script out out' st st' d d' =
     let o = d.outcome in
     let o' = d'.outcome in
     let w = whole-of law o.now (length o.read) o.rest o.said out st d.all o.ends in
@@ -189,43 +189,43 @@ Due-single law script out out' st st' d d' =
     (r.output, r.status)
 
 -- the reading behind what is due
-record Reading (script whole : List ℕ) : Type 0 where
+record Reading (only : ℕ) (script whole : List ℕ) : Type 0 where
   now : Standing
   read : List ℕ
   rest : List ℕ
   said : List ℕ
-  reached : Reached at_start now script read rest said
+  reached : Reached (at_start only) now script read rest said
   is_whole : IsWhole now (length read) rest said whole
 
-reading-of : OneReport → (script whole : List ℕ) (status : Status) → Due script whole status → Reading script whole
-reading-of law script whole status d = let o = d.outcome in record { now = o.now; read = o.read; rest = o.rest; said = o.said; reached = o.reached; is_whole = whole-of law o.now (length o.read) o.rest o.said whole status d.all o.ends }
+reading-of : OneReport → (only : ℕ) (script whole : List ℕ) (status : Status) → Due only script whole status → Reading only script whole
+reading-of law only script whole status d = let o = d.outcome in record { now = o.now; read = o.read; rest = o.rest; said = o.said; reached = o.reached; is_whole = whole-of law o.now (length o.read) o.rest o.said whole status d.all o.ends }
 
 IsPrefix-trans : (x y z : List ℕ) → IsPrefix x y → IsPrefix y z → IsPrefix x z
 IsPrefix-trans x y z a b = (a.0 ++ b.0, sym (append_assoc x a.0 b.0) ∙ ap (λ w. w ++ b.0) a.1 ∙ b.1)
 
 -- replies to commands at the front begin what is due
-replies-prefix : OneReport → (script whole : List ℕ) (now : Standing) (read rest said : List ℕ) → Reading script whole → Reached at_start now script read rest said → IsPrefix said whole
-replies-prefix law script whole now read rest said d r = IsPrefix-trans said d.said whole (said-begins law r d.reached d.is_whole.halted) d.is_whole.begins
+replies-prefix : OneReport → (only : ℕ) (script whole : List ℕ) (now : Standing) (read rest said : List ℕ) → Reading only script whole → Reached (at_start only) now script read rest said → IsPrefix said whole
+replies-prefix law only script whole now read rest said d r = IsPrefix-trans said d.said whole (said-begins law r d.reached d.is_whole.halted) d.is_whole.begins
 
 -- and so does a refusal
-refusal-prefix : OneReport → (script whole : List ℕ) (now : Standing) (read rest said : List ℕ) → Reading script whole → Reached at_start now script read rest said → IsRefused (length read) rest (Some []) → said ++ refusal (length read) ≡ whole
-refusal-prefix law script whole now read rest said d r x =
+refusal-prefix : OneReport → (only : ℕ) (script whole : List ℕ) (now : Standing) (read rest said : List ℕ) → Reading only script whole → Reached (at_start only) now script read rest said → IsRefused (length read) rest (Some []) → said ++ refusal (length read) ≡ whole
+refusal-prefix law only script whole now read rest said d r x =
     let s = same-reading law r d.reached (halted-refused now (length read) rest x) d.is_whole.halted in
     let y : IsRefused (length d.read) d.rest (Some []) = rw (s.reads, s.rests) at x in
     ap (λ z. said ++ refusal (length z)) s.reads ∙ ap (λ z. z ++ refusal (length d.read)) s.says ∙ sym (d.is_whole.refused y)
 
 -- and so does what ends a session in any way
-ends-prefix : OneReport → (script whole : List ℕ) (now : Standing) (read tail rest said out : List ℕ) (status : Status) → Reading script whole → Reached at_start now script read (tail ++ rest) said → EndsBy now (length read) tail said out (Some rest) status → IsPrefix out whole
-ends-prefix law script whole now read tail rest said out status d r e = go status e
+ends-prefix : OneReport → (only : ℕ) (script whole : List ℕ) (now : Standing) (read tail rest said out : List ℕ) (status : Status) → Reading only script whole → Reached (at_start only) now script read (tail ++ rest) said → EndsBy now (length read) tail said out (Some rest) status → IsPrefix out whole
+ends-prefix law only script whole now read tail rest said out status d r e = go status e
   where
     replies : IsPrefix said whole
-    replies = replies-prefix law script whole now read (tail ++ rest) said d r
+    replies = replies-prefix law only script whole now read (tail ++ rest) said d r
 
     equal : out ≡ said → IsPrefix out whole
     equal x = IsPrefix-trans out said whole (same-prefix out said x) replies
 
     refused : IsRefused (length read) tail (Some rest) → said ++ refusal (length read) ≡ whole
-    refused x = refusal-prefix law script whole now read (tail ++ rest) said d r (refused-whole (length read) tail rest x)
+    refused x = refusal-prefix law only script whole now read (tail ++ rest) said d r (refused-whole (length read) tail rest x)
 
     cut_off : IsCutOff (length read) tail said out (Some rest) → IsPrefix out whole
     cut_off (of_replies p) = IsPrefix-trans out said whole p replies
@@ -243,17 +243,17 @@ ends-prefix law script whole now read tail rest said out status d r e = go statu
     go Circle e = equal e.0
     go Refused e = same-prefix out whole (e.0 ∙ refused e.1)
 
-outcome-prefix : OneReport → (given rest out whole : List ℕ) (status : Status) → Reading (given ++ rest) whole → Outcome at_start given out (Some rest) status → IsPrefix out whole
-outcome-prefix law given rest out whole status d o = ends-prefix law (given ++ rest) whole o.now o.read o.rest rest o.said out status d (Reached-more rest o.reached) o.ends
+outcome-prefix : OneReport → (only : ℕ) (given rest out whole : List ℕ) (status : Status) → Reading only (given ++ rest) whole → Outcome (at_start only) given out (Some rest) status → IsPrefix out whole
+outcome-prefix law only given rest out whole status d o = ends-prefix law only (given ++ rest) whole o.now o.read o.rest rest o.said out status d (Reached-more rest o.reached) o.ends
 
 -- what went out of a run, where the source tells its script
-pub IsDueOf-run : OneReport → (left left' : Option (List ℕ)) (given out : List ℕ) (status : Status) → Consumes left left' given → Outcome at_start given out left' status → IsDueOf left out status
-IsDueOf-run law None left' given out status c o = tt
-IsDueOf-run law (Some script) None given out status c o = absurd c
-IsDueOf-run law (Some script) (Some rest) given out status c o =
-    let due : IsAllDue status → Due script out status = λ all. rw c (record { all = all; outcome = Outcome-whole at_start given out rest status all o }) in
+pub IsDueOf-run : OneReport → (only : ℕ) (left left' : Option (List ℕ)) (given out : List ℕ) (status : Status) → Consumes left left' given → Outcome (at_start only) given out left' status → IsDueOf only left out status
+IsDueOf-run law only None left' given out status c o = tt
+IsDueOf-run law only (Some script) None given out status c o = absurd c
+IsDueOf-run law only (Some script) (Some rest) given out status c o =
+    let due : IsAllDue status → Due only script out status = λ all. rw c (record { all = all; outcome = Outcome-whole (at_start only) given out rest status all o }) in
     record {
       due = due;
-      single = λ all whole other d. Due-single law script out whole status other (due all) d;
-      prefix = λ whole other d. outcome-prefix law given rest out whole status (rw c at (reading-of law script whole other d)) o;
+      single = λ all whole other d. Due-single law only script out whole status other (due all) d;
+      prefix = λ whole other d. outcome-prefix law only given rest out whole status (rw c at (reading-of law only script whole other d)) o;
     }

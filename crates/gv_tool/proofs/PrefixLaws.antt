@@ -4,15 +4,17 @@ use Rattle.std.proofs.lemmas.List.{append-nil, length-append}
 use Rattle.std.proofs.lemmas.Fmt.{decimal_injective}
 use Rattle.std.specs.List.{flat_map}
 use Rattle.std.specs.Fmt.{decimal}
+use Rattle.analysis_core.specs.declared.command.Command.{Command as Asked}
+use Rattle.analysis_core.specs.declared.command.Command.TheVariants as commands
 use Rattle.gv_tool.specs.declared.word.Word.{Word}
-use Rattle.gv_tool.specs.declared.word.Word.TheVariants.{Put, Del, Check, Stats, End}
+use Rattle.gv_tool.specs.declared.word.Word.TheVariants.{Put, Del, Show, Check, Report, Fix, Stats, End}
 use Rattle.gv_tool.specs.declared.word.Shape.{Shape}
 use Rattle.gv_tool.specs.declared.word.Shape.TheVariants.{Bare, Path, File}
 use Rattle.gv_tool.specs.Words.{text_of, shape_of}
 use Rattle.gv_tool.specs.Script.{Fields, bare, at_path, with_file, Fit, field_text, Command, spelling, IsLawful}
 use Rattle.gv_tool.specs.Segments.{is_path_byte}
 use Rattle.gv_tool.specs.Runs.{is_digit}
-use Rattle.gv_tool.specs.Replies.{Standing, Runs, Carries, Does, Leads}
+use Rattle.gv_tool.specs.Replies.{Standing, put_changed, Runs, Carries, Does, Leads}
 use Rattle.gv_tool.specs.Outcome.{limit, IsPrefix, Reached}
 use Rattle.gv_tool.specs.Judging.{TreeReport}
 use Rattle.gv_tool.proofs.JudgingLaws.{OneReport}
@@ -84,23 +86,27 @@ record SameStep (n n' : Standing) (r r' : List ℕ) : Type 0 where
   now : n ≡ n'
   reply : r ≡ r'
 
-same-standing : (a b : Standing) → a.tree ≡ b.tree → a.found ≡ b.found → a.cache ≡ b.cache → a.counts ≡ b.counts → a.loads ≡ b.loads → a ≡ b
-same-standing a b t f c n l =
-    ap (λ z. record { tree = z; found = a.found; cache = a.cache; counts = a.counts; loads = a.loads }) t
-    ∙ (ap (λ z. record { tree = b.tree; found = z; cache = a.cache; counts = a.counts; loads = a.loads }) f
-    ∙ (ap (λ z. record { tree = b.tree; found = b.found; cache = z; counts = a.counts; loads = a.loads }) c
-    ∙ (ap (λ z. record { tree = b.tree; found = b.found; cache = b.cache; counts = z; loads = a.loads }) n
-    ∙ ap (λ z. record { tree = b.tree; found = b.found; cache = b.cache; counts = b.counts; loads = z }) l)))
+same-standing : (a b : Standing) → a.tree ≡ b.tree → a.found ≡ b.found → a.cache ≡ b.cache → a.counts ≡ b.counts → a.loads ≡ b.loads → a.runs ≡ b.runs → a.only ≡ b.only → a ≡ b
+same-standing a b t f c n l r m =
+    ap (λ z. record { tree = z; found = a.found; cache = a.cache; counts = a.counts; loads = a.loads; runs = a.runs; only = a.only }) t
+    ∙ (ap (λ z. record { tree = b.tree; found = z; cache = a.cache; counts = a.counts; loads = a.loads; runs = a.runs; only = a.only }) f
+    ∙ (ap (λ z. record { tree = b.tree; found = b.found; cache = z; counts = a.counts; loads = a.loads; runs = a.runs; only = a.only }) c
+    ∙ (ap (λ z. record { tree = b.tree; found = b.found; cache = b.cache; counts = z; loads = a.loads; runs = a.runs; only = a.only }) n
+    ∙ (ap (λ z. record { tree = b.tree; found = b.found; cache = b.cache; counts = b.counts; loads = z; runs = a.runs; only = a.only }) l
+    ∙ (ap (λ z. record { tree = b.tree; found = b.found; cache = b.cache; counts = b.counts; loads = b.loads; runs = z; only = a.only }) r
+    ∙ ap (λ z. record { tree = b.tree; found = b.found; cache = b.cache; counts = b.counts; loads = b.loads; runs = b.runs; only = z }) m)))))
 
-one_run : OneReport → (s n n' : Standing) (r r' : List ℕ) → Runs s n r → Runs s n' r' → SameStep n n' r r'
-one_run law s n n' r r' h k =
-    let o : h.report ≡ k.report = law.report s.tree s.cache n.cache n'.cache h.report k.report h.reports k.reports in
-    let c : n.cache ≡ n'.cache = law.cache s.tree s.cache n.cache n'.cache h.report k.report h.reports k.reports in
+one_run : OneReport → (asked : Asked) (s n n' : Standing) (r r' : List ℕ) → Runs asked s n r → Runs asked s n' r' → SameStep n n' r r'
+one_run law asked s n n' r r' h k =
+    let o : h.report ≡ k.report = law.report asked s.only s.tree s.cache n.cache n'.cache h.report k.report h.reports k.reports in
+    let c : n.cache ≡ n'.cache = law.cache asked s.only s.tree s.cache n.cache n'.cache h.report k.report h.reports k.reports in
+    let tree : n.tree ≡ n'.tree = h.tree ∙ (ap (λ (z : TreeReport). put_changed s.tree z.changed) o ∙ sym k.tree) in
     let found : n.found ≡ n'.found = h.found ∙ (ap (λ (z : TreeReport). z.found) o ∙ sym k.found) in
     let counts : n.counts ≡ n'.counts = h.counts ∙ (ap (λ (z : TreeReport). z.counts) o ∙ sym k.counts) in
     let loads : n.loads ≡ n'.loads = h.loads ∙ (ap (λ (z : TreeReport). s.loads + z.counts.loads) o ∙ sym k.loads) in
+    let runs : n.runs ≡ n'.runs = h.runs ∙ (ap (λ (z : TreeReport). s.runs + z.counts.runs) o ∙ sym k.runs) in
     record {
-      now = same-standing n n' (h.tree ∙ sym k.tree) found c counts loads;
+      now = same-standing n n' tree found c counts loads runs (h.only ∙ sym k.only);
       reply = h.text ∙ (ap (λ (z : TreeReport). z.text) o ∙ sym k.text);
     }
 
@@ -112,7 +118,12 @@ one_step law Put (with_file path bytes) s n n' r r' h k = record { now = h.0 ∙
 one_step law Del bare s n n' r r' h k = absurd h
 one_step law Del (at_path path) s n n' r r' h k = record { now = h.0 ∙ sym k.0; reply = h.1 ∙ sym k.1 }
 one_step law Del (with_file path bytes) s n n' r r' h k = absurd h
-one_step law Check f s n n' r r' h k = one_run law s n n' r r' h k
+one_step law Show bare s n n' r r' h k = absurd h
+one_step law Show (at_path path) s n n' r r' h k = record { now = h.0 ∙ sym k.0; reply = h.1 ∙ sym k.1 }
+one_step law Show (with_file path bytes) s n n' r r' h k = absurd h
+one_step law Check f s n n' r r' h k = one_run law commands.Check s n n' r r' h k
+one_step law Report f s n n' r r' h k = one_run law commands.Report s n n' r r' h k
+one_step law Fix f s n n' r r' h k = one_run law commands.Fix s n n' r r' h k
 one_step law Stats f s n n' r r' h k = record { now = h.0 ∙ sym k.0; reply = h.1 ∙ sym k.1 }
 one_step law End f s n n' r r' h k = absurd h
 

@@ -6,7 +6,7 @@ use Rattle.std.proofs.lemmas.List.{length-append}
 use Rattle.std.proofs.lemmas.Bool.{or_cases, eqb-true, eq-eqb, and_parts}
 use Rattle.gv_base.specs.Paths.{IsPath}
 use Rattle.gv_tool.specs.declared.word.Word.{Word}
-use Rattle.gv_tool.specs.declared.word.Word.TheVariants.{Put, Del, Check, Stats, End}
+use Rattle.gv_tool.specs.declared.word.Word.TheVariants.{Put, Del, Show, Check, Report, Fix, Stats, End}
 use Rattle.gv_tool.specs.declared.word.Shape.{Shape}
 use Rattle.gv_tool.specs.declared.word.Shape.TheVariants.{Bare, Path, File}
 use Rattle.gv_tool.specs.Words.{text_of, shape_of, number_of, words, differ, are_apart}
@@ -16,7 +16,10 @@ use Rattle.gv_tool.proofs.FileLaws.{FieldsPart, FieldsOther}
 word-nonempty : (w : Word) (f : Fields) → 0 < length (spelling (record { word = w; fields = f }))
 word-nonempty Put f = omega arith
 word-nonempty Del f = omega arith
+word-nonempty Show f = omega arith
 word-nonempty Check f = omega arith
+word-nonempty Report f = omega arith
+word-nonempty Fix f = omega arith
 word-nonempty Stats f = omega arith
 word-nonempty End f = omega arith
 
@@ -28,14 +31,20 @@ nonempty c = word-nonempty c.word c.fields
 number_of-at : (w : Word) → get_or words (number_of w) End ≡ w
 number_of-at Put = refl
 number_of-at Del = refl
+number_of-at Show = refl
 number_of-at Check = refl
+number_of-at Report = refl
+number_of-at Fix = refl
 number_of-at Stats = refl
 number_of-at End = refl
 
 pub number_of-below : (w : Word) → number_of w < length words
 number_of-below Put = omega arith
 number_of-below Del = omega arith
+number_of-below Show = omega arith
 number_of-below Check = omega arith
+number_of-below Report = omega arith
+number_of-below Fix = omega arith
 number_of-below Stats = omega arith
 number_of-below End = omega arith
 

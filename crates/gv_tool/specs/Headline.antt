@@ -48,32 +48,36 @@ IsAllDue Stuck = ⊥
 IsAllDue Circle = ⊥
 
 -- what is due for a script, and with which status: a session that is given all of it
-pub record Due (script out : List ℕ) (status : Status) : Type 0 where
+pub record Due (only : ℕ) (script out : List ℕ) (status : Status) : Type 0 where
   pub all : IsAllDue status
-  pub outcome : Outcome at_start script out (Some []) status
+  pub outcome : Outcome (at_start only) script out (Some []) status
 
 -- What went out for a script: all that is due and no other is due, or the beginning of whatever is due.
-pub record GoesOut (script out : List ℕ) (status : Status) : Type 0 where
-  pub due : IsAllDue status → Due script out status
-  pub single : IsAllDue status → (whole : List ℕ) (other : Status) → Due script whole other → (out ≡ whole) × (status ≡ other)
-  pub prefix : (whole : List ℕ) (other : Status) → Due script whole other → IsPrefix out whole
+pub record GoesOut (only : ℕ) (script out : List ℕ) (status : Status) : Type 0 where
+  pub due : IsAllDue status → Due only script out status
+  pub single : IsAllDue status → (whole : List ℕ) (other : Status) → Due only script whole other → (out ≡ whole) × (status ≡ other)
+  pub prefix : (whole : List ℕ) (other : Status) → Due only script whole other → IsPrefix out whole
 
 -- the same where the source told its script
-abbrev pub IsDueOf : Option (List ℕ) → List ℕ → Status → Type 0
-IsDueOf None out status = Unit {0}
-IsDueOf (Some script) out status = GoesOut script out status
+abbrev pub IsDueOf : ℕ → Option (List ℕ) → List ℕ → Status → Type 0
+IsDueOf only None out status = Unit {0}
+IsDueOf only (Some script) out status = GoesOut only script out status
 
 -- A whole session, by the status's number: what was given and went out in this call, where the session then stood and how it ended; and where the source tells, what was due.
-pub record Session (source source' : SourceView) (sink sink' : SinkView) (result : ℕ) : Type 0 where
+pub record Session (only : ℕ) (source source' : SourceView) (sink sink' : SinkView) (result : ℕ) : Type 0 where
   pub status : Status
   pub number : result ≡ number_of status
-  pub course : Runs source source' sink sink' status
-  pub due : IsDueOf source.left course.out status
+  pub course : Runs only source source' sink sink' status
+  pub due : IsDueOf only source.left course.out status
 
 -- a session that ended with this status
-pub record EndedBy (source source' : SourceView) (sink sink' : SinkView) (status : Status) : Type 0 where
-  pub course : Runs source source' sink sink' status
-  pub due : IsDueOf source.left course.out status
+pub record EndedBy (only : ℕ) (source source' : SourceView) (sink sink' : SinkView) (status : Status) : Type 0 where
+  pub course : Runs only source source' sink sink' status
+  pub due : IsDueOf only source.left course.out status
+
+-- all ten analyzers, by the bits of their numbers
+abbrev pub all_analyzers : ℕ
+all_analyzers = 2046
 
 -- the words of a call
 abbrev pub IsSession : List (String Global) → Type 0

@@ -4,8 +4,8 @@ use Rattle.gv_base.specs.Files.{Entry}
 use Rattle.fact_cache.specs.declared.list.Entry.{Entry as Kept}
 pub use Rattle.tree_report.specs.declared.print.TreeReport.{TreeReport}
 pub use Rattle.tree_report.specs.Form.{HasReading}
-pub use Rattle.tree_report.specs.Reports.{HasCircle, IsHonest, Reports}
-pub use Rattle.tree_report.specs.Existence.{AllHaveOutcomes, HasReport}
+pub use Rattle.tree_report.specs.Reports.{AreFilesOf, HasCircle, IsHonest, Reports}
+pub use Rattle.tree_report.specs.Existence.{AllHaveOutcomes, AllRunsHaveOutcomes, HasReport}
 
 abbrev pub Tree : Type 0
 Tree = List Entry

@@ -105,23 +105,23 @@ pub record Ends (sink sink' : SinkView) (session : Session) (result : Status) : 
   pub goes : (start : Standing) (given out : List ℕ) (left : Option (List ℕ)) → Stands start given out session → IsAtEnd left → Outcome start given (out ++ said) left result
 
 -- a whole session, which takes no byte past the limit but one
-pub record Runs (source source' : SourceView) (sink sink' : SinkView) (status : Status) : Type 0 where
+pub record Runs (only : ℕ) (source source' : SourceView) (sink sink' : SinkView) (status : Status) : Type 0 where
   pub given : List ℕ
   pub out : List ℕ
   pub takes : Consumes source.left source'.left given
   pub counts : RoseBy (length given) source.given source'.given
   pub within : length given ≤ limit + 1
   pub says : Appends sink.held sink'.held out
-  pub outcome : Outcome at_start given out source'.left status
+  pub outcome : Outcome (at_start only) given out source'.left status
 
 -- a session in its course
-pub record SoFar (source source' : SourceView) (sink sink' : SinkView) (session : Session) : Type 0 where
+pub record SoFar (only : ℕ) (source source' : SourceView) (sink sink' : SinkView) (session : Session) : Type 0 where
   pub given : List ℕ
   pub out : List ℕ
   pub takes : Consumes source.left source'.left given
   pub counts : RoseBy (length given) source.given source'.given
   pub says : Appends sink.held sink'.held out
-  pub stands : Stands at_start given out session
+  pub stands : Stands (at_start only) given out session
 
 -- bytes that may still come, twice, and bytes that are not yet answered
 abbrev pub work_left : Session → ℕ

@@ -2,7 +2,7 @@
 use Rattle.std.specs.Prelude.{ℕ, List, [], ◌∷◌, ◌++◌, codes, Bool, false, ◌==◌, ◌||◌, not}
 use Rattle.std.specs.List.{list_all}
 use Rattle.gv_tool.specs.declared.word.Word.{Word}
-use Rattle.gv_tool.specs.declared.word.Word.TheVariants.{Put, Del, Check, Stats, End}
+use Rattle.gv_tool.specs.declared.word.Word.TheVariants.{Put, Del, Show, Check, Report, Fix, Stats, End}
 use Rattle.gv_tool.specs.declared.word.Shape.{Shape}
 use Rattle.gv_tool.specs.declared.word.Shape.TheVariants.{Bare, Path, File}
 
@@ -10,7 +10,10 @@ use Rattle.gv_tool.specs.declared.word.Shape.TheVariants.{Bare, Path, File}
 abbrev pub text_of : Word → List ℕ
 text_of Put = codes "put "
 text_of Del = codes "del "
+text_of Show = codes "show "
 text_of Check = codes "check" ++ 10 ∷ []
+text_of Report = codes "report" ++ 10 ∷ []
+text_of Fix = codes "fix" ++ 10 ∷ []
 text_of Stats = codes "stats" ++ 10 ∷ []
 text_of End = codes "end" ++ 10 ∷ []
 
@@ -18,20 +21,26 @@ text_of End = codes "end" ++ 10 ∷ []
 abbrev pub shape_of : Word → Shape
 shape_of Put = File
 shape_of Del = Path
+shape_of Show = Path
 shape_of Check = Bare
+shape_of Report = Bare
+shape_of Fix = Bare
 shape_of Stats = Bare
 shape_of End = Bare
 
 abbrev pub number_of : Word → ℕ
 number_of Put = 0
 number_of Del = 1
-number_of Check = 2
-number_of Stats = 3
-number_of End = 4
+number_of Show = 2
+number_of Check = 3
+number_of Report = 4
+number_of Fix = 5
+number_of Stats = 6
+number_of End = 7
 
 -- the words in the order of their numbers
 abbrev pub words : List Word
-words = Put ∷ Del ∷ Check ∷ Stats ∷ End ∷ []
+words = Put ∷ Del ∷ Show ∷ Check ∷ Report ∷ Fix ∷ Stats ∷ End ∷ []
 
 -- two texts differ before one of them ends
 abbrev pub differ : List ℕ → List ℕ → Bool

@@ -2,7 +2,7 @@
 ghost use Rattle.std.specs.Prelude.{◌≡◌, ◌≢◌, ◌+◌, ◌⊎◌, ◌↔◌, IsTrue, ℕ, List, Some};
 ghost use Rattle.gv_base.specs.Counts.{Rose, RoseBy};
 ghost use Rattle.gv_tool.specs.Outcome.{limit};
-ghost use Rattle.gv_tool.specs.Headline.{Session as Sessions, number_of, EndedBy, IsSession, IsComplete, IsCutShort, NothingRose, Due};
+ghost use Rattle.gv_tool.specs.Headline.{Session as Sessions, all_analyzers, number_of, EndedBy, IsSession, IsComplete, IsCutShort, NothingRose, Due};
 
 use crate::key::key_of;
 use crate::options::ToolOptions;
@@ -27,25 +27,25 @@ fn number(status: Status) -> u8
 pub fn session<R: Threads + Sync + RandomSource, K: Keeper, I: Source, O: Sink>(
     rt: &R,
     alloc: Global,
-    _options: &ToolOptions,
+    options: &ToolOptions,
     keeper: &mut K,
     input: &mut I,
     output: &mut O,
 ) -> u8
-    ensures session { Sessions (I.view input.old) (I.view input.new) (O.view output.old) (O.view output.new) result }
+    ensures session { Sessions options.now.only (I.view input.old) (I.view input.new) (O.view output.old) (O.view output.new) result }
     ensures source_fault { result ≡ 3 → Rose (I.view input.old).faults (I.view input.new).faults }
     ensures sink_fault { result ≡ 6 → Rose (O.view output.old).faults (O.view output.new).faults }
     ensures stuck { result ≡ 10 → Rose (O.view output.old).stalls (O.view output.new).stalls }
     ensures too_long { result ≡ 9 → RoseBy (limit + 1) (I.view input.old).given (I.view input.new).given }
-    ensures refused { result ≡ 8 → EndedBy (I.view input.old) (I.view input.new) (O.view output.old) (O.view output.new) Status.Refused }
-    ensures circle { result ≡ 12 → EndedBy (I.view input.old) (I.view input.new) (O.view output.old) (O.view output.new) Status.Circle }
+    ensures refused { result ≡ 8 → EndedBy options.now.only (I.view input.old) (I.view input.new) (O.view output.old) (O.view output.new) Status.Refused }
+    ensures circle { result ≡ 12 → EndedBy options.now.only (I.view input.old) (I.view input.new) (O.view output.old) (O.view output.new) Status.Circle }
     ensures not_usage { result ≢ 2 }
     ensures complete { NothingRose (I.view input.old) (I.view input.new) (O.view output.old) (O.view output.new) → IsComplete result }
-    ensures exact { (script whole : List ℕ) (due : Status) → (I.view input.old).left ≡ Some script → Due script whole due → (result ≡ number_of due) ⊎ IsCutShort result }
+    ensures exact { (script whole : List ℕ) (due : Status) → (I.view input.old).left ≡ Some script → Due options.now.only script whole due → (result ≡ number_of due) ⊎ IsCutShort result }
     ensures keeper { keeper.new ≡ keeper.old }
 {
     one_report_of_a_tree();
-    number(run(alloc, key_of(rt), input, output))
+    number(run(alloc, key_of(rt), options.only, input, output))
 }
 
 /// Whether the words are the one word `session`.
@@ -72,15 +72,15 @@ pub fn gvet<R: Threads + Sync + RandomSource, T: Tree, K: Keeper, I: Source, O: 
 ) -> u8
     ensures usage { ¬ (IsSession words.now) → (result ≡ 2) × (input.new ≡ input.old) × (output.new ≡ output.old) }
     ensures only_usage { IsSession words.now → result ≢ 2 }
-    ensures session { IsSession words.now → Sessions (I.view input.old) (I.view input.new) (O.view output.old) (O.view output.new) result }
+    ensures session { IsSession words.now → Sessions all_analyzers (I.view input.old) (I.view input.new) (O.view output.old) (O.view output.new) result }
     ensures source_fault { result ≡ 3 → Rose (I.view input.old).faults (I.view input.new).faults }
     ensures sink_fault { result ≡ 6 → Rose (O.view output.old).faults (O.view output.new).faults }
     ensures stuck { result ≡ 10 → Rose (O.view output.old).stalls (O.view output.new).stalls }
     ensures too_long { result ≡ 9 → RoseBy (limit + 1) (I.view input.old).given (I.view input.new).given }
-    ensures refused { result ≡ 8 → EndedBy (I.view input.old) (I.view input.new) (O.view output.old) (O.view output.new) Status.Refused }
-    ensures circle { result ≡ 12 → EndedBy (I.view input.old) (I.view input.new) (O.view output.old) (O.view output.new) Status.Circle }
+    ensures refused { result ≡ 8 → EndedBy all_analyzers (I.view input.old) (I.view input.new) (O.view output.old) (O.view output.new) Status.Refused }
+    ensures circle { result ≡ 12 → EndedBy all_analyzers (I.view input.old) (I.view input.new) (O.view output.old) (O.view output.new) Status.Circle }
     ensures complete { IsSession words.now → NothingRose (I.view input.old) (I.view input.new) (O.view output.old) (O.view output.new) → IsComplete result }
-    ensures exact { IsSession words.now → (script whole : List ℕ) (due : Status) → (I.view input.old).left ≡ Some script → Due script whole due → (result ≡ number_of due) ⊎ IsCutShort result }
+    ensures exact { IsSession words.now → (script whole : List ℕ) (due : Status) → (I.view input.old).left ≡ Some script → Due all_analyzers script whole due → (result ≡ number_of due) ⊎ IsCutShort result }
     ensures tree { tree.new ≡ tree.old }
     ensures keeper { keeper.new ≡ keeper.old }
 {

@@ -1,14 +1,17 @@
 //! The state of a session, and what a command does to it.
-ghost use Rattle.std.specs.Prelude.{◌≡◌, ◌≢◌, ◌≤◌, ◌+◌, ◌^◌, Err, IfOk, []};
+ghost use Rattle.std.specs.Prelude.{◌≡◌, ◌≢◌, ◌≤◌, ◌+◌, ◌^◌, All, Err, IfOk, OnOk, []};
 ghost use Rattle.gv_base.specs.Paths.{IsPath};
 ghost use Rattle.analysis_core.specs.Replies.{stats_text};
+ghost use Rattle.gv_tool.specs.Desk.{ArePaths};
 ghost use Rattle.gv_tool.specs.Judging.{HasCircle, IsHonest};
+ghost use Rattle.gv_tool.specs.Replies.{put_changed};
 
 use crate::fieldset::Fields;
 use crate::script::Command;
+use crate::shown::show;
 use crate::word::Word;
 use action_graph::Unloaded;
-use analysis_core::Counts;
+use analysis_core::{ChangedFile, Command as Asked, Counts, Options};
 use fact_cache::{Cache, Key};
 use go_kit::GoKit;
 use gv_base::{Bytes, Files, NoMemory};
@@ -16,7 +19,7 @@ use report_text::stats;
 use std::alloc::Global;
 use tree_report::{one_report_of_a_tree, report_on};
 
-/// The files so far, what the last run found and how much work it was, and what earlier loads gave.
+/// The files so far, what the last run found and how much work it was, and what earlier loads and runs of analyzers gave.
 #[derive(Drop)]
 pub struct Desk {
     pub files: Files,
@@ -24,6 +27,8 @@ pub struct Desk {
     pub cache: Cache,
     pub counts: Counts,
     pub kits: [GoKit; 1],
+    /// The analyzers that are chosen: the bit of each one's number.
+    pub only: u16,
 }
 
 /// The numbers before any run.
@@ -45,6 +50,18 @@ fn path_text(path: &[u8]) -> &str
     }
 }
 
+/// Sets files, one after the other.
+fn put_changed(files: &mut Files, changed: &[ChangedFile]) -> Result<(), NoMemory>
+    requires { All (λ f. IsPath f.path) changed.now }
+    ensures put { OnOk result (files.new ≡ put_changed files.old changed.now) }
+    ensures paths { ArePaths files.old → ArePaths files.new }
+{
+    for file in changed {
+        files.put(file.path.as_str(), file.bytes.as_slice())?;
+    }
+    Ok(())
+}
+
 /// A reply that says nothing.
 fn silence(alloc: Global) -> Bytes
     ensures { result ≡ [] }
@@ -54,15 +71,17 @@ fn silence(alloc: Global) -> Bytes
 
 impl Desk {
     ghost use Rattle.gv_base.specs.Files.{put_file, del_file};
-    ghost use Rattle.gv_tool.specs.Desk.{standing_of, loads_of, IsStuckRun};
+    ghost use Rattle.gv_tool.specs.Desk.{standing_of, loads_of, runs_of, work_of, IsStuckRun};
     ghost use Rattle.gv_tool.specs.Next.{command_of};
     ghost use Rattle.gv_tool.specs.Script.{IsLawful};
-    ghost use Rattle.gv_tool.specs.Replies.{at_start, with_tree, Does, Runs};
+    ghost use Rattle.gv_tool.specs.Replies.{at_start, with_tree, show_text, Does, Runs};
 
-    /// An empty tree, and an empty cache of this key.
-    pub fn new(alloc: Global, key: Key) -> Self
-        ensures standing { standing_of result ≡ at_start }
+    /// An empty tree, an empty cache of this key, and these analyzers.
+    pub fn new(alloc: Global, key: Key, only: u16) -> Self
+        ensures standing { standing_of result ≡ at_start only }
         ensures loads { loads_of result.kits ≡ 0 }
+        ensures runs { runs_of result.kits ≡ 0 }
+        ensures paths { ArePaths result.files }
         ensures honest { IsHonest result.cache }
     {
         one_report_of_a_tree();
@@ -72,6 +91,7 @@ impl Desk {
             cache: Cache::with_key(alloc, key),
             counts: NO_COUNTS,
             kits: [GoKit::new(alloc)],
+            only,
         }
     }
 
@@ -81,6 +101,7 @@ impl Desk {
         ensures put { IfOk result (λ reply. (reply ≡ []) × (standing_of self.new ≡ with_tree (standing_of self.old) (put_file self.old.files path.now bytes.now))) }
         ensures cache { self.new.cache ≡ self.old.cache }
         ensures kits { self.new.kits ≡ self.old.kits }
+        ensures paths { ArePaths self.old.files → ArePaths self.new.files }
     {
         self.files.put(path_text(path), bytes)?;
         Ok(silence(alloc))
@@ -92,20 +113,37 @@ impl Desk {
         ensures answer { result ≡ [] }
         ensures del { standing_of self.new ≡ with_tree (standing_of self.old) (del_file self.old.files path.now) }
         ensures kits { self.new.kits ≡ self.old.kits }
+        ensures paths { ArePaths self.old.files → ArePaths self.new.files }
     {
         let _held = self.files.del(path_text(path));
         silence(alloc)
     }
 
-    /// Reports on the tree. The kit does at most 1,024 loads.
-    fn check(&mut self, alloc: Global) -> Result<Bytes, Unloaded>
-        requires room { loads_of self.old.kits ≤ 2 ^ 62 }
-        ensures bound { loads_of self.new.kits ≤ loads_of self.old.kits + 1024 }
+    /// Tells a file.
+    fn show(&self, alloc: Global, path: &[u8]) -> Result<Bytes, NoMemory>
+        requires { IsPath path.now }
+        ensures { IfOk result (λ reply. reply ≡ show_text self.now.files path.now) }
+    {
+        let reply = show(alloc, &self.files, path_text(path))?;
+        Ok(reply)
+    }
+
+    /// Runs over the tree as it is asked, and sets the files that this changes. The kit does at most 16,384 loads and runs of analyzers together.
+    fn run(&mut self, alloc: Global, asked: Asked) -> Result<Bytes, Unloaded>
+        requires room { work_of self.old.kits ≤ 2 ^ 61 }
+        requires paths { ArePaths self.old.files }
+        ensures bound { work_of self.new.kits ≤ work_of self.old.kits + 16384 }
+        ensures paths { ArePaths self.new.files }
         ensures honest { IsHonest self.old.cache → IsHonest self.new.cache }
-        ensures report { IsHonest self.old.cache → IfOk result (λ reply. Runs (standing_of self.old) (standing_of self.new) reply) }
+        ensures report { IsHonest self.old.cache → IfOk result (λ reply. Runs asked (standing_of self.old) (standing_of self.new) reply) }
         ensures circle { IsHonest self.old.cache → result ≡ Err Unloaded.Stuck → HasCircle self.old.files }
     {
-        let report = report_on(alloc, &self.files, &mut self.cache, &mut self.kits)?;
+        let options = Options {
+            command: asked,
+            only: self.only,
+        };
+        let report = report_on(alloc, &self.files, options, &mut self.cache, &mut self.kits)?;
+        put_changed(&mut self.files, report.changed.as_slice())?;
         self.found = report.found;
         self.counts = report.counts;
         Ok(report.text)
@@ -123,8 +161,10 @@ impl Desk {
     pub(crate) fn apply(&mut self, alloc: Global, command: Command<'_>) -> Result<Bytes, Unloaded>
         requires lawful { IsLawful (command_of command) }
         requires goes { command.word ≢ Word.End }
-        requires room { loads_of self.old.kits ≤ 2 ^ 62 }
-        ensures bound { loads_of self.new.kits ≤ loads_of self.old.kits + 1024 }
+        requires room { work_of self.old.kits ≤ 2 ^ 61 }
+        requires paths { ArePaths self.old.files }
+        ensures bound { work_of self.new.kits ≤ work_of self.old.kits + 16384 }
+        ensures paths { ArePaths self.new.files }
         ensures honest { IsHonest self.old.cache → IsHonest self.new.cache }
         ensures answer { IsHonest self.old.cache → IfOk result (λ reply. Does (command_of command.entry) (standing_of self.old) (standing_of self.new) reply) }
         ensures circle { IsHonest self.old.cache → result ≡ Err Unloaded.Stuck → IsStuckRun (command_of command.entry) (standing_of self.old) }
@@ -143,7 +183,17 @@ impl Desk {
                 Fields::Plain => unreachable!(),
                 Fields::With(_, _) => unreachable!(),
             },
-            Word::Check => self.check(alloc),
+            Word::Show => match command.fields {
+                Fields::At(path) => {
+                    let reply = self.show(alloc, path)?;
+                    Ok(reply)
+                }
+                Fields::Plain => unreachable!(),
+                Fields::With(_, _) => unreachable!(),
+            },
+            Word::Check => self.run(alloc, Asked::Check),
+            Word::Report => self.run(alloc, Asked::Report),
+            Word::Fix => self.run(alloc, Asked::Fix),
             Word::Stats => {
                 let reply = self.stats(alloc)?;
                 Ok(reply)

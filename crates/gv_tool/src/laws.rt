@@ -1,7 +1,7 @@
 //! What follows from the definitions alone. The bodies do nothing: the contracts are the laws.
 ghost use Rattle.std.specs.Prelude.{ℕ, List};
 ghost use Rattle.gv_tool.specs.Existence.{AllCanBeRead, HasDue};
-ghost use Rattle.gv_tool.specs.Judging.{AllHaveOutcomes, IsHonest};
+ghost use Rattle.gv_tool.specs.Judging.{AllHaveOutcomes, AllRunsHaveOutcomes, IsHonest};
 ghost use Rattle.gv_tool.specs.Replies.{Standing, Answered, at_start};
 
 use readable::{each_text_has_a_verdict, each_tree_has_packages};
@@ -9,7 +9,7 @@ use tree_report::{a_tree_that_is_read_has_a_report, one_report_of_a_tree};
 
 /// Wherever the commands of a script lead, the cache is honest.
 pub fn a_session_keeps_an_honest_cache()
-    ensures { (now : Standing) (bytes replies : List ℕ) → Answered at_start now bytes replies → IsHonest now.cache }
+    ensures { (only : ℕ) (now : Standing) (bytes replies : List ℕ) → Answered (at_start only) now bytes replies → IsHonest now.cache }
 {
     one_report_of_a_tree();
 }
@@ -22,9 +22,9 @@ pub fn each_tree_can_be_read()
     each_tree_has_packages();
 }
 
-/// Where no lawful load is without an outcome, no script is without a due output and a status. There is at most one of each (`GoesOut`).
+/// Where no lawful load and no lawful run of an analyzer is without an outcome, no script is without a due output and a status. There is at most one of each (`GoesOut`).
 pub fn each_script_has_a_due_output()
-    ensures { AllHaveOutcomes → (script : List ℕ) → HasDue script }
+    ensures { AllHaveOutcomes → AllRunsHaveOutcomes → (only : ℕ) (script : List ℕ) → HasDue only script }
 {
     a_tree_that_is_read_has_a_report();
     each_tree_can_be_read();

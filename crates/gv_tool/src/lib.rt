@@ -15,6 +15,7 @@ pub mod pending;
 pub mod pieces;
 pub mod script;
 pub mod session;
+mod shown;
 pub mod status;
 pub mod top;
 pub mod word;

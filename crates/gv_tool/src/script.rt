@@ -22,7 +22,10 @@ impl Command<'_> {
         match self.word {
             Word::Put => false,
             Word::Del => false,
+            Word::Show => false,
             Word::Check => false,
+            Word::Report => false,
+            Word::Fix => false,
             Word::Stats => false,
             Word::End => true,
         }

@@ -17,7 +17,7 @@ pub struct Session {
 }
 
 impl Session {
-    ghost use Rattle.gv_tool.specs.Desk.{standing_of, loads_of};
+    ghost use Rattle.gv_tool.specs.Desk.{standing_of, loads_of, runs_of, ArePaths};
     ghost use Rattle.gv_tool.specs.Judging.{IsHonest};
     ghost use Rattle.gv_tool.specs.Replies.{at_start};
 
@@ -25,15 +25,17 @@ impl Session {
     pub const LIMIT: usize = 1 << 28;
 
     /// A session that has taken nothing, with a cache of this key.
-    pub fn new(alloc: Global, key: Key) -> Self
-        ensures standing { standing_of result.desk ≡ at_start }
+    pub fn new(alloc: Global, key: Key, only: u16) -> Self
+        ensures standing { standing_of result.desk ≡ at_start only }
         ensures loads { loads_of result.desk.kits ≡ 0 }
+        ensures runs { runs_of result.desk.kits ≡ 0 }
+        ensures paths { ArePaths result.desk.files }
         ensures honest { IsHonest result.desk.cache }
         ensures pending { result.pending ≡ [] }
         ensures offset { result.offset ≡ 0 }
     {
         Session {
-            desk: Desk::new(alloc, key),
+            desk: Desk::new(alloc, key, only),
             pending: Pending::new(alloc),
             offset: 0,
         }

@@ -1,7 +1,7 @@
 //! The loop of a session, and the top calls.
 ghost use Rattle.std.specs.Prelude.{◌≡◌, ◌≢◌, ◌+◌, ◌*◌, ◌<◌, ◌≤◌, ◌⊎◌, ℕ, List, Some, None};
 ghost use Rattle.gv_base.specs.Counts.{Rose, RoseBy};
-ghost use Rattle.gv_tool.specs.Desk.{loads_of};
+ghost use Rattle.gv_tool.specs.Desk.{work_of, ArePaths};
 ghost use Rattle.gv_tool.specs.Script.{IsBeginning};
 ghost use Rattle.gv_tool.specs.Outcome.{OnlyWhereRose, limit};
 ghost use Rattle.gv_tool.specs.Turn.{Turns, Ends, Runs, verdict_of, work_left};
@@ -42,15 +42,17 @@ fn finish<O: Sink>(alloc: Global, session: &Session, output: &mut O) -> Status
     }
 }
 
-/// Answers the next command, or takes a piece of the script. A command does at most 1,024 loads, and has a byte.
+/// Answers the next command, or takes a piece of the script. A command does at most 16,384 loads and runs of analyzers together, and has a byte.
 fn turn<I: Source, O: Sink>(
     alloc: Global,
     session: &mut Session,
     input: &mut I,
     output: &mut O,
 ) -> Option<Status>
-    requires room { loads_of session.old.desk.kits ≤ 1024 * session.old.offset }
-    ensures room { result ≡ None → loads_of session.new.desk.kits ≤ 1024 * session.new.offset }
+    requires room { work_of session.old.desk.kits ≤ 16384 * session.old.offset }
+    requires paths { ArePaths session.old.desk.files }
+    ensures room { result ≡ None → work_of session.new.desk.kits ≤ 16384 * session.new.offset }
+    ensures paths { result ≡ None → ArePaths session.new.desk.files }
     ensures turns { Turns (I.view input.old) (I.view input.new) (O.view output.old) (O.view output.new) session.old session.new result }
     ensures source_fault { OnlyWhereRose (I.view input.old).faults (I.view input.new).faults (result ≡ Some Status.SourceFault) }
     ensures sink_fault { OnlyWhereRose (O.view output.old).faults (O.view output.new).faults (result ≡ Some Status.SinkFault) }
@@ -79,14 +81,20 @@ fn turn<I: Source, O: Sink>(
     }
 }
 
-/// Reads a script, and answers each of its commands. The session's cache is of this key, on which no answer depends.
-pub fn run<I: Source, O: Sink>(alloc: Global, key: Key, input: &mut I, output: &mut O) -> Status
-    ensures outcome { Runs (I.view input.old) (I.view input.new) (O.view output.old) (O.view output.new) result }
+/// Reads a script, and answers each of its commands with these analyzers. The session's cache is of this key, on which no answer depends.
+pub fn run<I: Source, O: Sink>(
+    alloc: Global,
+    key: Key,
+    only: u16,
+    input: &mut I,
+    output: &mut O,
+) -> Status
+    ensures outcome { Runs only (I.view input.old) (I.view input.new) (O.view output.old) (O.view output.new) result }
     ensures source_fault { OnlyWhereRose (I.view input.old).faults (I.view input.new).faults (result ≡ Status.SourceFault) }
     ensures sink_fault { OnlyWhereRose (O.view output.old).faults (O.view output.new).faults (result ≡ Status.SinkFault) }
     ensures stuck { OnlyWhereRose (O.view output.old).stalls (O.view output.new).stalls (result ≡ Status.Stuck) }
 {
-    let mut session = Session::new(alloc, key);
+    let mut session = Session::new(alloc, key, only);
     'script: loop {
         if let Some(status) = turn(alloc, &mut session, input, output) {
             return status;

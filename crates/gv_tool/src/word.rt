@@ -7,7 +7,10 @@ ghost use Rattle.gv_tool.specs.Words.{text_of, shape_of, number_of};
 pub enum Word {
     Put,
     Del,
+    Show,
     Check,
+    Report,
+    Fix,
     Stats,
     End,
 }
@@ -25,18 +28,21 @@ pub enum Shape {
 
 impl Word {
     /// How many words there are.
-    pub(crate) const COUNT: usize = 5;
+    pub(crate) const COUNT: usize = 8;
 
     /// The word of a number below `COUNT`.
     pub(crate) fn of_number(number: usize) -> Word
-        requires { number < 5 }
+        requires { number < 8 }
         ensures { number_of result ≡ number }
     {
         match number {
             0 => Word::Put,
             1 => Word::Del,
-            2 => Word::Check,
-            3 => Word::Stats,
+            2 => Word::Show,
+            3 => Word::Check,
+            4 => Word::Report,
+            5 => Word::Fix,
+            6 => Word::Stats,
             _ => Word::End,
         }
     }
@@ -48,7 +54,10 @@ impl Word {
         match self {
             Word::Put => b"put ",
             Word::Del => b"del ",
+            Word::Show => b"show ",
             Word::Check => b"check\n",
+            Word::Report => b"report\n",
+            Word::Fix => b"fix\n",
             Word::Stats => b"stats\n",
             Word::End => b"end\n",
         }
@@ -61,7 +70,10 @@ impl Word {
         match self {
             Word::Put => Shape::File,
             Word::Del => Shape::Path,
+            Word::Show => Shape::Path,
             Word::Check => Shape::Bare,
+            Word::Report => Shape::Bare,
+            Word::Fix => Shape::Bare,
             Word::Stats => Shape::Bare,
             Word::End => Shape::Bare,
         }

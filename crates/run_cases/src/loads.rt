@@ -2,7 +2,7 @@
 use crate::told::{add, said, unread};
 use action_graph::{Kit, Load, LoadInput, Unloaded, texts_of_load};
 use bundles::bytes_of;
-use go_kit::GoKit;
+use go_kit::{GoKit, Loaded};
 use gv_base::{Bytes, NoMemory, Row, Text};
 use std::alloc::Global;
 
@@ -52,7 +52,7 @@ fn texts(alloc: Global, input: &str) -> Result<Vec<u8>, NoMemory> {
 }
 
 /// The text of what comes of a load, behind `a` where the package is accepted, and `r` where it is refused.
-fn shown(alloc: Global, load: &Load<()>) -> Result<Vec<u8>, NoMemory> {
+fn shown(alloc: Global, load: &Load<Loaded>) -> Result<Vec<u8>, NoMemory> {
     let (letter, bytes) = match load {
         Load::Accepted { loaded: _, export } => ("a ", export.as_slice()),
         Load::Refused { marks } => ("r ", marks.as_slice()),

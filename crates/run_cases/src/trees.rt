@@ -1,6 +1,7 @@
 //! Small trees: the reply and the work of a run, twice.
 use crate::told::{add, said};
 use action_graph::Unloaded;
+use analysis_core::{Command, Options};
 use bundles::bytes_of;
 use fact_cache::Cache;
 use go_kit::GoKit;
@@ -42,10 +43,16 @@ fn report_says(alloc: Global, report: &TreeReport) -> Result<Vec<u8>, NoMemory> 
     Ok(out)
 }
 
+/// A check runs no analyzer.
+const CHECK: Options = Options {
+    command: Command::Check,
+    only: 0,
+};
+
 /// What is told of a tree, by a new kit.
 fn told(alloc: Global, files: &Files, cache: &mut Cache) -> Result<Vec<u8>, NoMemory> {
     let mut kits = [GoKit::new(alloc)];
-    match report_on(alloc, files, cache, &mut kits) {
+    match report_on(alloc, files, CHECK, cache, &mut kits) {
         Ok(report) => report_says(alloc, &report),
         Err(Unloaded::NoMemory) => Err(NoMemory),
         Err(Unloaded::Stuck) => said(alloc, "circle"),

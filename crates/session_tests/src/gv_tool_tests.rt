@@ -1,5 +1,6 @@
 //! Whole sessions over devices in memory. What no clause says is looked at here: that a call with
 //! ample memory answers, and the printed lines.
+mod analyses;
 mod keys;
 mod limits;
 mod types;
@@ -35,7 +36,7 @@ type Case = (&'static [u8], &'static [u8], u8);
 
 /// Scripts, and the output and the status of each.
 #[rattlefmt::skip]
-const SCRIPTS: [Case; 23] = [
+const SCRIPTS: [Case; 37] = [
     (b"", b"", 0),
     (b"end\nrubbish", b"", 0),
     (b"check\nput a.go 100\npackage a\n", b"packages 0, errors 0\nscript refused at 6\n", 8),
@@ -59,6 +60,21 @@ const SCRIPTS: [Case; 23] = [
     (b"stats\n", b"nodes 0, missing 0, loads 0, runs 0\n", 0),
     (b"stats \n", b"script refused at 0\n", 8),
     (b"stat\n", b"script refused at 0\n", 8),
+    (b"report \n", b"script refused at 0\n", 8),
+    (b"fix a\n", b"script refused at 0\n", 8),
+    (b"fi", b"script refused at 0\n", 8),
+    (b"show b.go\n", b"no file b.go\n", 0),
+    (b"put a/b 3\nx\ny\nshow a/b\n", b"file a/b 3\nx\ny\n", 0),
+    (b"put a 0\n\nshow a\n", b"file a 0\n\n", 0),
+    (b"put a 1\nx\ndel a\nshow a\n", b"no file a\n", 0),
+    (b"put a 1\nx\nput a 2\nyz\nshow a\nshow b\nshow a\n", b"file a 2\nyz\nno file b\nfile a 2\nyz\n", 0),
+    // a path that begins another, and one that it begins
+    (b"put a/b 1\nx\nshow a\nshow a/b/c\n", b"no file a\nno file a/b/c\n", 0),
+    (b"show a b\n", b"script refused at 0\n", 8),
+    (b"show \n", b"script refused at 0\n", 8),
+    (b"show\n", b"script refused at 0\n", 8),
+    (b"show a", b"script refused at 0\n", 8),
+    (b"show ../a\n", b"script refused at 0\n", 8),
 ];
 
 /// Trees, and the reply to a check of each: rules at their places.

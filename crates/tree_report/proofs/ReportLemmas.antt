@@ -1,21 +1,23 @@
 -- Over one cache a tree has one report.
-use Rattle.std.proofs.Common.{◌≡◌, inl, inr, Option, List, length, map, sum_by, sym, ap, ◌∙◌, subst}
+use Rattle.std.proofs.Common.{◌≡◌, ℕ, inl, inr, Option, List, length, map, sym, ap, ◌∙◌, subst}
 use Rattle.gv_base.specs.Files.{Entry}
 use Rattle.go_tree.specs.declared.head.Head.{Head}
 use Rattle.parse_file.specs.declared.verdict.FileVerdict.{FileVerdict}
 use Rattle.import_graph.specs.declared.pack.Package.{Package}
-use Rattle.gv_driver.proofs.WholeLaws.{unique-plan}
-use Rattle.gv_driver.proofs.OnceLaws.{report-once, cache-once, honest-after}
-use Rattle.gv_driver.specs.Caches.{IsCacheAfter, IsHonest, missing_of}
-use Rattle.gv_driver.specs.Loads.{IsPlan}
-use Rattle.gv_driver.specs.Reports.{IsReport}
-use Rattle.gv_driver.specs.Runs.{some_in}
+use Rattle.gv_driver.proofs.PlanLaws.{unique-plan}
+use Rattle.gv_driver.proofs.OnceLaws.{report-once, found-once, cache-once, honest-after}
+use Rattle.gv_driver.specs.Caches.{IsCacheAfter, IsHonest, loads_of, missing_of, runs_of}
+use Rattle.gv_driver.specs.Loads.{IsPlan, all_inputs}
+use Rattle.gv_driver.specs.Reports.{IsReport, IsRunReport}
 use Rattle.fact_cache.specs.declared.list.Entry.{Entry as Kept}
-use Rattle.analysis_core.specs.declared.command.Command.TheVariants.{Check}
+use Rattle.analysis_core.specs.declared.command.Command.{Command}
 use Rattle.analysis_core.specs.declared.reply.Counts.{Counts}
 use Rattle.analysis_core.specs.declared.reply.Reply.{Reply}
 use Rattle.analysis_core.specs.declared.reply.TreeLimit.{TreeLimit}
-use Rattle.analysis_core.specs.Replies.{check_reply, is_found, limit_line, reply_text}
+use Rattle.analysis_core.specs.Replies.{is_found, limit_line, reply_text}
+use Rattle.tree_findings.specs.Lines.{all_lines}
+use Rattle.tree_findings.specs.Telling.{chosen_by, IsTold}
+use Rattle.tree_findings.proofs.ToldLemmas.{told-once}
 use Rattle.tree_report.specs.declared.print.TreeReport.{TreeReport}
 use Rattle.tree_report.specs.Form.{HasReading, IsForm}
 use Rattle.tree_report.specs.Lines.{error_lines}
@@ -34,81 +36,83 @@ same-counts a b n m l r =
     ∙ (ap (λ x. record { nodes = b.nodes; missing = b.missing; loads = x; runs = a.runs }) l
     ∙ ap (λ x. record { nodes = b.nodes; missing = b.missing; loads = b.loads; runs = x }) r))
 
-same-reply : (a b : Reply) → a ≡ check_reply a.packages a.errors a.counts → b ≡ check_reply b.packages b.errors b.counts → a.packages ≡ b.packages → a.errors ≡ b.errors → a.counts ≡ b.counts → a ≡ b
-same-reply a b one two p e c =
-    one
-    ∙ (ap (λ x. check_reply x a.errors a.counts) p
-    ∙ (ap (λ x. check_reply b.packages x a.counts) e
-    ∙ (ap (λ x. check_reply b.packages b.errors x) c ∙ sym two)))
+same-report : (a b : TreeReport) → a.text ≡ b.text → a.found ≡ b.found → a.counts ≡ b.counts → a.changed ≡ b.changed → a ≡ b
+same-report a b t f c x =
+    ap (λ z. record { text = z; found = a.found; counts = a.counts; changed = a.changed }) t
+    ∙ (ap (λ z. record { text = b.text; found = z; counts = a.counts; changed = a.changed }) f
+    ∙ (ap (λ z. record { text = b.text; found = b.found; counts = z; changed = a.changed }) c
+    ∙ ap (λ z. record { text = b.text; found = b.found; counts = b.counts; changed = z }) x))
 
-same-report : (a b : TreeReport) → a.text ≡ b.text → a.found ≡ b.found → a.counts ≡ b.counts → a ≡ b
-same-report a b t f c =
-    ap (λ x. record { text = x; found = a.found; counts = a.counts }) t
-    ∙ (ap (λ x. record { text = b.text; found = x; counts = a.counts }) f
-    ∙ ap (λ x. record { text = b.text; found = b.found; counts = x }) c)
+module _ (asked : Command) (only : ℕ) (tree : List Entry) (before after other : List Kept) (a b : TreeReport) (r : ReportsPackages asked only tree before after a) (s : ReportsPackages asked only tree before other b) where
+  same-form : Same r.verdicts s.verdicts r.heads s.heads r.packages s.packages
+  same-form = form-once tree r.verdicts s.verdicts r.heads s.heads r.packages s.packages r.form s.form
 
-inputs-once : (tree : List Entry) (before after other : List Kept) (a b : TreeReport) (r : ReportsPackages tree before after a) (s : ReportsPackages tree before other b) → r.inputs ≡ s.inputs
-inputs-once tree before after other a b r s =
-    let same : r.packages ≡ s.packages = (form-once tree r.verdicts s.verdicts r.heads s.heads r.packages s.packages r.form s.form).packages in
-    unique-plan (map (texts_of tree) s.packages) r.inputs s.inputs (subst (λ p. IsPlan (map (texts_of tree) p) r.inputs) same r.plan) s.plan
+  plan-once : r.plan ≡ s.plan
+  plan-once = unique-plan (map (texts_of tree) s.packages) (chosen_by asked only) r.plan s.plan (subst (λ p. IsPlan (map (texts_of tree) p) (chosen_by asked only) r.plan) same-form.packages r.is_plan) s.is_plan
 
-packages-cache-once : (tree : List Entry) (before after other : List Kept) (a b : TreeReport) → ReportsPackages tree before after a → ReportsPackages tree before other b → after ≡ other
-packages-cache-once tree before after other a b r s =
-    cache-once before after other s.inputs (subst (λ i. IsCacheAfter before after i) (inputs-once tree before after other a b r s) r.cache) s.cache
+  packages-cache-once : after ≡ other
+  packages-cache-once = cache-once before after other (all_inputs s.plan) (subst (λ i. IsCacheAfter before after (all_inputs i)) plan-once r.cache) s.cache
 
-counts-once : (tree : List Entry) (before after other : List Kept) (a b : TreeReport) (r : ReportsPackages tree before after a) (s : ReportsPackages tree before other b) → r.reply.counts ≡ s.reply.counts
-counts-once tree before after other a b r s =
-    let inputs : r.inputs ≡ s.inputs = inputs-once tree before after other a b r s in
-    same-counts r.reply.counts s.reply.counts
-    (r.nodes ∙ (ap (sum_by some_in) inputs ∙ sym s.nodes))
-    (r.missing ∙ (ap (λ i. length (missing_of before i)) inputs ∙ sym s.missing))
-    (r.loads ∙ (ap (λ i. length (missing_of before i)) inputs ∙ sym s.loads))
-    (r.runs ∙ sym s.runs)
+  counts-once : r.reply.counts ≡ s.reply.counts
+  counts-once =
+      same-counts r.reply.counts s.reply.counts
+      (r.nodes ∙ (ap (λ i. length (all_inputs i)) plan-once ∙ sym s.nodes))
+      (r.missing ∙ (ap (λ i. length (missing_of before (all_inputs i))) plan-once ∙ sym s.missing))
+      (r.loads ∙ (ap (loads_of before) plan-once ∙ sym s.loads))
+      (r.runs ∙ (ap (runs_of before) plan-once ∙ sym s.runs))
 
-reply-once : (tree : List Entry) (before after other : List Kept) (a b : TreeReport) (r : ReportsPackages tree before after a) (s : ReportsPackages tree before other b) → r.reply ≡ s.reply
-reply-once tree before after other a b r s =
-    let same = form-once tree r.verdicts s.verdicts r.heads s.heads r.packages s.packages r.form s.form in
-    let outcomes : r.outcomes ≡ s.outcomes = report-once (map (texts_of tree) s.packages) r.outcomes s.outcomes (subst (λ p. IsReport (map (texts_of tree) p) r.outcomes) same.packages r.outcome) s.outcome in
-    same-reply r.reply s.reply r.plain s.plain
-    (r.size ∙ (ap length same.packages ∙ sym s.size))
-    (r.errors ∙ (ap (λ v. error_lines r.heads v r.packages r.outcomes) same.verdicts ∙ (ap (λ h. error_lines h s.verdicts r.packages r.outcomes) same.heads
-    ∙ (ap (λ p. error_lines s.heads s.verdicts p r.outcomes) same.packages ∙ (ap (λ o. error_lines s.heads s.verdicts s.packages o) outcomes ∙ sym s.errors)))))
-    (counts-once tree before after other a b r s)
+  outcomes-once : r.outcomes ≡ s.outcomes
+  outcomes-once = report-once (map (texts_of tree) s.packages) r.outcomes s.outcomes (subst (λ p. IsReport (map (texts_of tree) p) r.outcomes) same-form.packages r.outcome) s.outcome
 
-packages-report-once : (tree : List Entry) (before after other : List Kept) (a b : TreeReport) → ReportsPackages tree before after a → ReportsPackages tree before other b → a ≡ b
-packages-report-once tree before after other a b r s =
-    let reply : r.reply ≡ s.reply = reply-once tree before after other a b r s in
-    same-report a b
-    (r.text ∙ (ap (reply_text tree Check) reply ∙ sym s.text))
-    (r.found ∙ (ap is_found reply ∙ sym s.found))
-    (r.counts ∙ (ap (λ (x : Reply). x.counts) reply ∙ sym s.counts))
+  findings-once : r.findings ≡ s.findings
+  findings-once =
+      found-once (map (texts_of tree) s.packages) (chosen_by asked only) s.outcomes r.findings s.findings s.outcome
+      (subst (λ o. IsRunReport (map (texts_of tree) s.packages) (chosen_by asked only) o r.findings) outcomes-once
+      (subst (λ p. IsRunReport (map (texts_of tree) p) (chosen_by asked only) r.outcomes r.findings) same-form.packages r.finds)) s.finds
 
-packages-honest : (tree : List Entry) (before after : List Kept) (a : TreeReport) → IsHonest before → ReportsPackages tree before after a → IsHonest after
-packages-honest tree before after a honest r = honest-after before after r.inputs honest r.cache
+  reply-once : r.reply ≡ s.reply
+  reply-once =
+      told-once asked tree (all_lines s.packages s.findings) r.reply s.reply
+      (subst (λ f. IsTold asked tree (all_lines s.packages f) r.reply) findings-once (subst (λ p. IsTold asked tree (all_lines p r.findings) r.reply) same-form.packages r.told)) s.told
+      (r.size ∙ (ap length same-form.packages ∙ sym s.size))
+      (r.errors ∙ (ap (λ v. error_lines r.heads v r.packages r.outcomes) same-form.verdicts ∙ (ap (λ h. error_lines h s.verdicts r.packages r.outcomes) same-form.heads
+      ∙ (ap (λ p. error_lines s.heads s.verdicts p r.outcomes) same-form.packages ∙ (ap (λ o. error_lines s.heads s.verdicts s.packages o) outcomes-once ∙ sym s.errors)))))
+      counts-once
+
+  packages-report-once : a ≡ b
+  packages-report-once =
+      same-report a b
+      (r.text ∙ (ap (reply_text tree asked) reply-once ∙ sym s.text))
+      (r.found ∙ (ap is_found reply-once ∙ sym s.found))
+      (r.counts ∙ (ap (λ (x : Reply). x.counts) reply-once ∙ sym s.counts))
+      (r.changed ∙ (ap (λ (x : Reply). x.changed) reply-once ∙ sym s.changed))
+
+packages-honest : (asked : Command) (only : ℕ) (tree : List Entry) (before after : List Kept) (a : TreeReport) → IsHonest before → ReportsPackages asked only tree before after a → IsHonest after
+packages-honest asked only tree before after a honest r = honest-after before after (all_inputs r.plan) honest r.cache
 
 -- ---- over a limit or not
 
 limit-report-once : (tree : List Entry) (a b : TreeReport) → ReportsLimit tree a → ReportsLimit tree b → a ≡ b
 limit-report-once tree a b r s =
     let same : r.limit ≡ s.limit = first-once tree r.limit s.limit r.first s.first in
-    same-report a b (r.text ∙ (ap (λ (l : TreeLimit). limit_line l) same ∙ sym s.text)) (r.found ∙ sym s.found) (r.counts ∙ sym s.counts)
+    same-report a b (r.text ∙ (ap (λ (l : TreeLimit). limit_line l) same ∙ sym s.text)) (r.found ∙ sym s.found) (r.counts ∙ sym s.counts) (r.changed ∙ sym s.changed)
 
-pub report-once-of : (tree : List Entry) (before after other : List Kept) (a b : TreeReport) → Reports tree before after a → Reports tree before other b → a ≡ b
-report-once-of tree before after other a b (of_limit r kept) (of_limit s same) = limit-report-once tree a b r s
-report-once-of tree before after other a b (of_limit r kept) (of_packages s) = absurd (not-within tree (r.limit, r.first) s.form.within)
-report-once-of tree before after other a b (of_packages r) (of_limit s same) = absurd (not-within tree (s.limit, s.first) r.form.within)
-report-once-of tree before after other a b (of_packages r) (of_packages s) = packages-report-once tree before after other a b r s
+pub report-once-of : (asked : Command) (only : ℕ) (tree : List Entry) (before after other : List Kept) (a b : TreeReport) → Reports asked only tree before after a → Reports asked only tree before other b → a ≡ b
+report-once-of asked only tree before after other a b (of_limit r kept) (of_limit s same) = limit-report-once tree a b r s
+report-once-of asked only tree before after other a b (of_limit r kept) (of_packages s) = absurd (not-within tree (r.limit, r.first) s.form.within)
+report-once-of asked only tree before after other a b (of_packages r) (of_limit s same) = absurd (not-within tree (s.limit, s.first) r.form.within)
+report-once-of asked only tree before after other a b (of_packages r) (of_packages s) = packages-report-once asked only tree before after other a b r s
 
-pub cache-once-of : (tree : List Entry) (before after other : List Kept) (a b : TreeReport) → Reports tree before after a → Reports tree before other b → after ≡ other
-cache-once-of tree before after other a b (of_limit r kept) (of_limit s same) = kept ∙ sym same
-cache-once-of tree before after other a b (of_limit r kept) (of_packages s) = absurd (not-within tree (r.limit, r.first) s.form.within)
-cache-once-of tree before after other a b (of_packages r) (of_limit s same) = absurd (not-within tree (s.limit, s.first) r.form.within)
-cache-once-of tree before after other a b (of_packages r) (of_packages s) = packages-cache-once tree before after other a b r s
+pub cache-once-of : (asked : Command) (only : ℕ) (tree : List Entry) (before after other : List Kept) (a b : TreeReport) → Reports asked only tree before after a → Reports asked only tree before other b → after ≡ other
+cache-once-of asked only tree before after other a b (of_limit r kept) (of_limit s same) = kept ∙ sym same
+cache-once-of asked only tree before after other a b (of_limit r kept) (of_packages s) = absurd (not-within tree (r.limit, r.first) s.form.within)
+cache-once-of asked only tree before after other a b (of_packages r) (of_limit s same) = absurd (not-within tree (s.limit, s.first) r.form.within)
+cache-once-of asked only tree before after other a b (of_packages r) (of_packages s) = packages-cache-once asked only tree before after other a b r s
 
-pub read-of : (tree : List Entry) (before after : List Kept) (a : TreeReport) → Reports tree before after a → HasReading tree
-read-of tree before after a (of_limit r kept) = inl (r.limit, r.first)
-read-of tree before after a (of_packages r) = inr (r.verdicts, (r.heads, (r.packages, r.form)))
+pub read-of : (asked : Command) (only : ℕ) (tree : List Entry) (before after : List Kept) (a : TreeReport) → Reports asked only tree before after a → HasReading tree
+read-of asked only tree before after a (of_limit r kept) = inl (r.limit, r.first)
+read-of asked only tree before after a (of_packages r) = inr (r.verdicts, (r.heads, (r.packages, r.form)))
 
-pub honest-after-of : (tree : List Entry) (before after : List Kept) (a : TreeReport) → IsHonest before → Reports tree before after a → IsHonest after
-honest-after-of tree before after a honest (of_limit r kept) = subst (λ l. IsHonest l) (sym kept) honest
-honest-after-of tree before after a honest (of_packages r) = packages-honest tree before after a honest r
+pub honest-after-of : (asked : Command) (only : ℕ) (tree : List Entry) (before after : List Kept) (a : TreeReport) → IsHonest before → Reports asked only tree before after a → IsHonest after
+honest-after-of asked only tree before after a honest (of_limit r kept) = subst (λ l. IsHonest l) (sym kept) honest
+honest-after-of asked only tree before after a honest (of_packages r) = packages-honest asked only tree before after a honest r

@@ -1,9 +1,9 @@
--- Each place of a tree's error lines stands in one of its files.
+-- Each place of a tree's error lines and diagnostics stands in one of its files.
 use Rattle.std.proofs.Common.{◌≡◌, ℕ, zero, suc, ◌+◌, ◌<◌, ◌≤◌, ◌^◌, Bool, true, false, cond, Option, Some, None, List, [], ◌∷◌, ◌++◌, length, map, filter, flat_map, slice_get, get_or, codes, bytes_eq, refl, sym, ap, ◌∙◌, subst, arith}
 use Rattle.std.specs.List.{All, AllByRecursion, list_any, Contains}
 use Rattle.std.proofs.lemmas.List.{length-map}
-use Rattle.std.proofs.lemmas.List.Elements.{All-from_recursion, recursion_from_All}
-use Rattle.std.proofs.lemmas.Option.{slice_get_within, slice_get-get_or, get_or_from_slice_get}
+use Rattle.std.proofs.lemmas.List.Elements.{All-append, All-from_recursion, All-map, All-weaker, recursion_from_All}
+use Rattle.std.proofs.lemmas.Option.{same_Some, slice_get_within, slice_get-get_or, get_or_from_slice_get}
 use Rattle.gv_base.specs.Files.{Entry}
 use Rattle.gv_base.specs.declared.place.Place.{Place}
 use Rattle.go_tree.specs.declared.head.Head.{Head}
@@ -20,14 +20,22 @@ use Rattle.import_graph.specs.declared.pack.PackState.TheVariants.{Broken, NameC
 use Rattle.import_graph.specs.declared.pack.Package.{Package}
 use Rattle.import_graph.proofs.ListLemmas.{get-map}
 use Rattle.action_graph.specs.Judging.{text_of}
+use Rattle.action_graph.specs.Standing.{bytes_at, CanBeMade, IsFoundIn}
 use Rattle.action_graph.specs.declared.marks.MarkLine.{MarkLine}
+use Rattle.fix_apply.specs.declared.edits.Fix.{Fix}
+use Rattle.fix_apply.specs.Rewriting.{LieIn}
+use Rattle.analysis_core.specs.declared.diagnostic.Diagnostic.{Diagnostic}
 use Rattle.analysis_core.specs.declared.reply.ErrorLine.{ErrorLine}
+use Rattle.analysis_core.specs.declared.reply.FoundLine.{FoundLine}
 use Rattle.analysis_core.specs.Replies.{file_numbered}
 use Rattle.report_text.specs.Standing.{LiesIn, StandsIn}
+use Rattle.report_text.specs.ReplyStanding.{FoundStands}
+use Rattle.tree_findings.specs.Lines.{all_lines, fix_in_tree, line_in_tree}
+use Rattle.tree_findings.specs.Mending.{Fits as CanMake, FixFits, FoundFits}
 use Rattle.gv_driver.specs.declared.reply.Verdict.{Verdict}
 use Rattle.gv_driver.specs.declared.reply.Verdict.TheVariants.{Faulty, Blocked, Refused, Accepted}
 use Rattle.gv_driver.specs.declared.tree.PackageTexts.{PackageTexts}
-use Rattle.gv_driver.specs.Standing.{AllStand, AreVerdictsIn, Stands, StandsIn as VerdictStands}
+use Rattle.gv_driver.specs.Standing.{AllStand, AreFoundIn, AreVerdictsIn, Stands, StandsIn as VerdictStands}
 use Rattle.tree_report.specs.Form.{IsForm}
 use Rattle.tree_report.specs.Limits.{IsWithin}
 use Rattle.tree_report.specs.Reading.{AreRead, AreHeads, IsRead, head_by, head_in}
@@ -257,3 +265,62 @@ pub error-lines-stand : (tree : List Entry) (verdicts : List (Option FileVerdict
 error-lines-stand tree verdicts heads packages outcomes form are =
     All-from_recursion (StandsIn tree) (error_lines heads verdicts packages outcomes)
     (lines-stand tree verdicts heads packages outcomes 0 packages form are (λ j p at. let z : 0 + j ≡ j = omega arith in ap (slice_get packages) z ∙ at))
+
+-- ---- diagnostics
+
+-- a diagnostic of a package stands in one of the files
+found-stands : (tree : List Entry) (path files : List ℕ) (d : Diagnostic) → IsWithin tree → AllByRecursion (Fits tree) files → IsFoundIn (map (file_numbered tree) files) d → FoundStands tree (line_in_tree path files d)
+found-stands tree path files d within fit stands =
+    let size : length (map (file_numbered tree) files) ≡ length files = length-map files (file_numbered tree) in
+    let low : d.place.file < length (map (file_numbered tree) files) = stands.file in
+    let l : d.place.file < length files = omega (arith, size, low) in
+    let f = nth-fits tree files d.place.file fit l in
+    let text : get_or (map text_of (map (file_numbered tree) files)) d.place.file [] ≡ f.entry.1 = text-of-nth tree files d.place.file l ∙ ap (λ (e : Entry). e.1) (text-at tree (get_or files d.place.file 0) f) in
+    lies tree (get_or files d.place.file 0) d.place.offset within f (subst (λ (t : List ℕ). d.place.offset ≤ length t) text stands.offset)
+
+-- and its fix can be made there
+fix-fits : (tree : List Entry) (files : List ℕ) (file : ℕ) (fix : Option Fix) → file < length files → CanBeMade file (bytes_at (map (file_numbered tree) files) file) fix
+    → (more : Fix) → fix_in_tree files fix ≡ Some more → FixFits tree more
+fix-fits tree files file None l can more is = cc
+fix-fits tree files file (Some fix) l can more is =
+    let text : bytes_at (map (file_numbered tree) files) file ≡ (file_numbered tree (get_or files file 0)).1 = text-of-nth tree files file l in
+    let here : CanMake (file_numbered tree (get_or files file 0)).1 fix.edits = record {
+      lie = subst (λ (b : List ℕ). LieIn b fix.edits) text can.lie;
+      apart = can.apart;
+    } in
+    subst (FixFits tree) (same_Some (record { file = get_or files fix.file 0; edits = fix.edits }) more is)
+    (subst (λ (n : ℕ). CanMake (file_numbered tree (get_or files n 0)).1 fix.edits) (sym can.file_is) here)
+
+found-fits : (tree : List Entry) (path files : List ℕ) (d : Diagnostic) → IsFoundIn (map (file_numbered tree) files) d → FoundFits tree (line_in_tree path files d)
+found-fits tree path files d stands =
+    let size : length (map (file_numbered tree) files) ≡ length files = length-map files (file_numbered tree) in
+    let low : d.place.file < length (map (file_numbered tree) files) = stands.file in
+    fix-fits tree files d.place.file d.fix (omega (arith, size, low)) stands.fix
+
+-- what holds of the diagnostics of each package holds of all
+each-line : (P : FoundLine → Type 0) (packages : List Package) (found : List (List Diagnostic))
+    → ((k : ℕ) (p : Package) (ds : List Diagnostic) → slice_get packages k ≡ Some p → slice_get found k ≡ Some ds → All (λ d. P (line_in_tree p.path p.files d)) ds) → All P (all_lines packages found)
+each-line P [] found h = λ k d lt. absurd (omega (arith, lt))
+each-line P (p ∷ ps) [] h = λ k d lt. absurd (omega (arith, lt))
+each-line P (p ∷ ps) (ds ∷ found) h =
+    All-append P (map (line_in_tree p.path p.files) ds) (all_lines ps found) (All-map P (line_in_tree p.path p.files) ds (h 0 p ds refl refl))
+    (each-line P ps found (λ k q es at there. h (suc k) q es at there))
+
+found-at : (tree : List Entry) (packages : List Package) (found : List (List Diagnostic)) (k : ℕ) (p : Package) (ds : List Diagnostic) → AreFoundIn (map (texts_of tree) packages) found → slice_get packages k ≡ Some p → slice_get found k ≡ Some ds
+    → All (IsFoundIn (map (file_numbered tree) p.files)) ds
+found-at tree packages found k p ds are at there = are.stand k (texts_of tree p) ds (get-map (texts_of tree) packages k p at) there
+
+-- each place of the diagnostics stands in one of the files
+pub found-lines-stand : (tree : List Entry) (verdicts : List (Option FileVerdict)) (heads : List (Option Head)) (packages : List Package) (found : List (List Diagnostic)) → IsForm tree verdicts heads packages
+    → AreFoundIn (map (texts_of tree) packages) found → All (FoundStands tree) (all_lines packages found)
+found-lines-stand tree verdicts heads packages found form are =
+    each-line (FoundStands tree) packages found (λ k p ds at there.
+    All-weaker (IsFoundIn (map (file_numbered tree) p.files)) (λ d. FoundStands tree (line_in_tree p.path p.files d))
+    (λ d is. found-stands tree p.path p.files d form.within (files-fit tree p.path p.files (form.packed.each k p at).files) is) ds (found-at tree packages found k p ds are at there))
+
+-- and their fixes can be made there
+pub found-lines-fit : (tree : List Entry) (packages : List Package) (found : List (List Diagnostic)) → AreFoundIn (map (texts_of tree) packages) found → All (FoundFits tree) (all_lines packages found)
+found-lines-fit tree packages found are =
+    each-line (FoundFits tree) packages found (λ k p ds at there.
+    All-weaker (IsFoundIn (map (file_numbered tree) p.files)) (λ d. FoundFits tree (line_in_tree p.path p.files d))
+    (λ d is. found-fits tree p.path p.files d is) ds (found-at tree packages found k p ds are at there))

@@ -1,11 +1,13 @@
 -- What the code holds of a tree, and of its reply.
 use Rattle.std.specs.Prelude.{◌≡◌, Option, Some, List, [], length, map}
 use Rattle.gv_base.specs.Files.{Entry}
-use Rattle.analysis_core.specs.declared.command.Command.TheVariants.{Check}
+use Rattle.analysis_core.specs.declared.command.Command.{Command}
 use Rattle.analysis_core.specs.declared.reply.Reply.{Reply}
 use Rattle.analysis_core.specs.declared.reply.TreeLimit.{TreeLimit}
-use Rattle.analysis_core.specs.Replies.{check_reply, is_found, no_counts, reply_text}
+use Rattle.analysis_core.specs.Replies.{is_found, no_counts, reply_text}
 use Rattle.gv_driver.specs.declared.reply.Judgement.{Judgement}
+use Rattle.tree_findings.specs.Lines.{all_lines}
+use Rattle.tree_findings.specs.Telling.{IsTold}
 use Rattle.parse_file.specs.declared.verdict.FileVerdict.{FileVerdict}
 use Rattle.tree_report.specs.Lines.{refusal_of, error_lines}
 use Rattle.tree_report.specs.declared.formed.Formed.{Formed}
@@ -27,18 +29,16 @@ IsKnown tree (known.Of f) = Holds tree f
 abbrev pub limit_reply : TreeLimit → Reply
 limit_reply first = record { limit = Some first; packages = 0; errors = []; diagnostics = []; facts = []; choices = []; changed = []; counts = no_counts }
 
--- The reply of a run over the packages of a tree, which has nothing besides error lines.
-pub record IsReplyOf (f : Formed) (ran : Judgement) (reply : Reply) : Type 0 where
-  pub plain : reply ≡ check_reply reply.packages reply.errors reply.counts
+-- The reply of a run over the packages of a tree, as it is asked.
+pub record IsReplyOf (tree : List Entry) (asked : Command) (f : Formed) (ran : Judgement) (reply : Reply) : Type 0 where
+  pub told : IsTold asked tree (all_lines f.packages.items ran.found) reply
   pub size : reply.packages ≡ length f.packages.items
   pub errors : reply.errors ≡ error_lines f.heads.items f.refusals.items f.packages.items ran.verdicts
-  pub nodes : reply.counts.nodes ≡ ran.counts.nodes
-  pub missing : reply.counts.missing ≡ ran.counts.missing
-  pub loads : reply.counts.loads ≡ ran.counts.loads
-  pub runs : reply.counts.runs ≡ ran.counts.runs
+  pub counts : reply.counts ≡ ran.counts
 
--- the report is that of the reply to a check
-pub record Tells (tree : List Entry) (reply : Reply) (report : TreeReport) : Type 0 where
-  pub text : report.text ≡ reply_text tree Check reply
+-- the report is that of the reply to this command
+pub record Tells (tree : List Entry) (asked : Command) (reply : Reply) (report : TreeReport) : Type 0 where
+  pub text : report.text ≡ reply_text tree asked reply
   pub found : report.found ≡ is_found reply
   pub counts : report.counts ≡ reply.counts
+  pub changed : report.changed ≡ reply.changed

@@ -1,5 +1,5 @@
 -- What a run answers of a tree, and what it leaves in the cache.
-use Rattle.std.specs.Prelude.{◌≡◌, ℕ, ◌+◌, true, Option, List, length, map, sum_by, All}
+use Rattle.std.specs.Prelude.{◌≡◌, ℕ, true, Option, List, [], length, map, All}
 use Rattle.gv_base.specs.Files.{Entry}
 use Rattle.fact_cache.specs.declared.texts.Input.{Input}
 use Rattle.fact_cache.specs.declared.list.Entry.{Entry as Kept}
@@ -9,16 +9,22 @@ use Rattle.import_graph.specs.declared.pack.Package.{Package}
 use Rattle.gv_driver.specs.declared.tree.PackageTexts.{PackageTexts}
 use Rattle.gv_driver.specs.declared.reply.Verdict.{Verdict}
 pub use Rattle.gv_driver.specs.Caches.{IsHonest}
-use Rattle.gv_driver.specs.Caches.{IsCacheAfter, missing_of}
-use Rattle.gv_driver.specs.Loads.{IsPlan}
-use Rattle.gv_driver.specs.Reports.{IsReport}
-use Rattle.gv_driver.specs.Runs.{IsCutOff, MeetsCircle, some_in}
+use Rattle.gv_driver.specs.Caches.{IsCacheAfter, loads_of, missing_of, runs_of}
+use Rattle.gv_driver.specs.Loads.{IsPlan, all_inputs}
+use Rattle.gv_driver.specs.Reports.{IsReport, IsRunReport}
+use Rattle.gv_driver.specs.Runs.{IsCutOff, MeetsCircle}
+use Rattle.gv_driver.specs.Tallies.{Tally}
 use Rattle.gv_driver.specs.Whole.{HasStuck}
-use Rattle.analysis_core.specs.declared.command.Command.TheVariants.{Check}
+use Rattle.analysis_core.specs.declared.command.Command.{Command}
+use Rattle.analysis_core.specs.declared.diagnostic.Diagnostic.{Diagnostic}
 use Rattle.analysis_core.specs.declared.reply.Reply.{Reply}
 use Rattle.analysis_core.specs.declared.reply.TreeLimit.{TreeLimit}
-use Rattle.analysis_core.specs.Replies.{check_reply, file_numbered, is_found, limit_line, no_counts, reply_text}
+use Rattle.analysis_core.specs.Replies.{file_numbered, is_found, limit_line, no_counts, reply_text}
 use Rattle.report_text.specs.Standing.{StandsIn}
+use Rattle.report_text.specs.ReplyStanding.{FoundStands}
+use Rattle.tree_findings.specs.Lines.{all_lines}
+pub use Rattle.tree_findings.specs.Telling.{AreFilesOf}
+use Rattle.tree_findings.specs.Telling.{IsTold, chosen_by}
 use Rattle.tree_report.specs.declared.print.TreeReport.{TreeReport}
 use Rattle.go_tree.specs.declared.head.Head.{Head}
 use Rattle.tree_report.specs.Form.{IsForm}
@@ -29,70 +35,77 @@ use Rattle.tree_report.specs.Lines.{error_lines}
 abbrev pub texts_of : List Entry → Package → PackageTexts
 texts_of tree p = record { path = p.path; stub = p.stub; sound = is_sound p.state; imports = p.imports; files = map (file_numbered tree) p.files }
 
--- The report of a tree over a limit: the line of the first, and nothing more. There are no nodes, so that all counts are 0.
+-- The report of a tree over a limit, whatever is asked: the line of the first, and nothing more. There are no nodes, so that all counts are 0, and no file changes.
 pub record ReportsLimit (tree : List Entry) (report : TreeReport) : Type 0 where
   pub limit : TreeLimit
   pub first : IsFirstLimit tree limit
   pub text : report.text ≡ limit_line limit
   pub found : report.found ≡ true
   pub counts : report.counts ≡ no_counts
+  pub changed : report.changed ≡ []
 
--- The report of a tree within the limits, over one cache and leaving another. What comes of its packages comes of their
--- sources, and knows neither cache nor export texts. The nodes are the loads of its packages; exactly those for whose
--- inputs the cache had nothing were executed, and stand in it then. The reply is that of a check: it has error lines, and
--- neither diagnostics nor facts, fixes or changed files.
-pub record ReportsPackages (tree : List Entry) (before after : List Kept) (report : TreeReport) : Type 0 where
+-- The report of a tree within the limits, as it is asked and with these analyzers, over one cache and leaving another. What comes of its packages
+-- and what is found in them comes of their sources, and knows neither cache nor export texts. The nodes are the loads of its packages and the runs
+-- of analyzers over those that are accepted; those for whose inputs the cache had nothing were executed and stand in it then, and so were the loads
+-- that a run needed. The reply has the error lines, and what the command asks for besides.
+pub record ReportsPackages (asked : Command) (only : ℕ) (tree : List Entry) (before after : List Kept) (report : TreeReport) : Type 0 where
   pub verdicts : List (Option FileVerdict)
   pub heads : List (Option Head)
   pub packages : List Package
   pub form : IsForm tree verdicts heads packages
   pub outcomes : List Verdict
   pub outcome : IsReport (map (texts_of tree) packages) outcomes
-  pub inputs : List (Option Input)
-  pub plan : IsPlan (map (texts_of tree) packages) inputs
-  pub cache : IsCacheAfter before after inputs
+  pub findings : List (List Diagnostic)
+  pub finds : IsRunReport (map (texts_of tree) packages) (chosen_by asked only) outcomes findings
+  pub plan : List (List Input)
+  pub is_plan : IsPlan (map (texts_of tree) packages) (chosen_by asked only) plan
+  pub cache : IsCacheAfter before after (all_inputs plan)
   pub reply : Reply
-  pub plain : reply ≡ check_reply reply.packages reply.errors reply.counts
+  pub told : IsTold asked tree (all_lines packages findings) reply
   pub size : reply.packages ≡ length packages
   pub errors : reply.errors ≡ error_lines heads verdicts packages outcomes
-  pub nodes : reply.counts.nodes ≡ sum_by some_in inputs
-  pub missing : reply.counts.missing ≡ length (missing_of before inputs)
-  pub loads : reply.counts.loads ≡ length (missing_of before inputs)
-  pub runs : reply.counts.runs ≡ 0
-  pub text : report.text ≡ reply_text tree Check reply
+  pub nodes : reply.counts.nodes ≡ length (all_inputs plan)
+  pub missing : reply.counts.missing ≡ length (missing_of before (all_inputs plan))
+  pub loads : reply.counts.loads ≡ loads_of before plan
+  pub runs : reply.counts.runs ≡ runs_of before plan
+  pub text : report.text ≡ reply_text tree asked reply
   pub found : report.found ≡ is_found reply
   pub counts : report.counts ≡ reply.counts
+  pub changed : report.changed ≡ reply.changed
 
 -- The report of a tree, over one cache and leaving another: where it is over a limit it knows neither, and the cache stays as it was.
-pub data Reports (tree : List Entry) (before after : List Kept) (report : TreeReport) : Type 0 where
-  of_limit : ReportsLimit tree report → after ≡ before → Reports tree before after report
-  of_packages : ReportsPackages tree before after report → Reports tree before after report
+pub data Reports (asked : Command) (only : ℕ) (tree : List Entry) (before after : List Kept) (report : TreeReport) : Type 0 where
+  of_limit : ReportsLimit tree report → after ≡ before → Reports asked only tree before after report
+  of_packages : ReportsPackages asked only tree before after report → Reports asked only tree before after report
 
--- What holds over any cache of a report that tells of packages: it is that of a check's reply to the packages of a tree within the limits, and each
+-- What holds over any cache of a report that tells of packages: it is that of a reply to the command for the packages of a tree within the limits, and each
 -- place in it stands in one of the files.
-pub record TellsPackages (tree : List Entry) (report : TreeReport) : Type 0 where
+pub record TellsPackages (asked : Command) (tree : List Entry) (report : TreeReport) : Type 0 where
   pub verdicts : List (Option FileVerdict)
   pub heads : List (Option Head)
   pub packages : List Package
   pub form : IsForm tree verdicts heads packages
+  pub findings : List (List Diagnostic)
   pub reply : Reply
-  pub plain : reply ≡ check_reply reply.packages reply.errors reply.counts
+  pub told : IsTold asked tree (all_lines packages findings) reply
   pub size : reply.packages ≡ length packages
   pub stand : All (StandsIn tree) reply.errors
-  pub text : report.text ≡ reply_text tree Check reply
+  pub found_stand : All (FoundStands tree) reply.diagnostics
+  pub text : report.text ≡ reply_text tree asked reply
   pub found : report.found ≡ is_found reply
+  pub changed : report.changed ≡ reply.changed
 
--- What holds of a report over any cache: it tells of packages, or of a limit, and then the cache and the loads stayed as they were.
-pub data IsSafe (tree : List Entry) (before after : List Kept) (count now : ℕ) (report : TreeReport) : Type 0 where
-  of_limit : ReportsLimit tree report → after ≡ before → now ≡ count → IsSafe tree before after count now report
-  of_packages : TellsPackages tree report → IsSafe tree before after count now report
+-- What holds of a report over any cache: it tells of packages, or of a limit, and then the cache, the loads and the runs stayed as they were.
+pub data IsSafe (asked : Command) (tree : List Entry) (before after : List Kept) (count now : Tally) (report : TreeReport) : Type 0 where
+  of_limit : ReportsLimit tree report → after ≡ before → now ≡ count → IsSafe asked tree before after count now report
+  of_packages : TellsPackages asked tree report → IsSafe asked tree before after count now report
 
--- After want of memory, or a circle: no package was looked at, and nothing has changed; or the tree is within the limits, at most the missing loads of its
--- packages were executed, and the cache has gained the entries of the first of them alone, within its limits.
-pub data IsStopped (tree : List Entry) (before after : List Kept) (count now : ℕ) : Type 0 where
-  not_run : after ≡ before → now ≡ count → IsStopped tree before after count now
+-- After want of memory, or a circle: no package was looked at, and nothing has changed; or the tree is within the limits, at most the missing nodes of its
+-- packages and the loads that they need were executed, and the cache has gained the entries of the first of them alone, within its limits.
+pub data IsStopped (asked : Command) (only : ℕ) (tree : List Entry) (before after : List Kept) (count now : Tally) : Type 0 where
+  not_run : after ≡ before → now ≡ count → IsStopped asked only tree before after count now
   in_run : (verdicts : List (Option FileVerdict)) (heads : List (Option Head)) (packages : List Package) → IsForm tree verdicts heads packages
-      → IsCutOff (map (texts_of tree) packages) before after count now → IsStopped tree before after count now
+      → IsCutOff (map (texts_of tree) packages) (chosen_by asked only) before after count now → IsStopped asked only tree before after count now
 
 -- Over any cache: some sound package is stuck over what the run had of its environment.
 pub record MetCircle (tree : List Entry) (before : List Kept) : Type 0 where

@@ -1,23 +1,27 @@
 //! The report of a tree.
-ghost use Rattle.std.specs.Prelude.{◌≡◌, ◌<◌, ◌≤◌, ◌+◌, ◌^◌, ℕ, true, Some, Err, length, slice_get, sum_by, IfOk, OnErr};
+ghost use Rattle.std.specs.Prelude.{◌≡◌, ◌<◌, ◌≤◌, ◌+◌, ◌^◌, ℕ, All, true, Some, Err, length, slice_get, sum_by, IfOk, OnErr};
 ghost use Rattle.fact_cache.specs.Caches.{is_within};
 ghost use Rattle.import_graph.specs.Packages.{paths_of};
 ghost use Rattle.import_graph.specs.Tables.{AreAscending};
+ghost use Rattle.gv_driver.specs.Tallies.{tally};
+ghost use Rattle.tree_findings.specs.Lines.{all_lines};
+ghost use Rattle.tree_findings.specs.Mending.{FoundFits};
 ghost use Rattle.tree_report.specs.Formed.{Holds, IsReplyOf, limit_reply};
 ghost use Rattle.tree_report.specs.Limits.{IsFirstLimit};
-ghost use Rattle.tree_report.specs.Reports.{HasCircle, IsHonest, IsSafe, IsStopped, MetCircle, Reports, ReportsLimit, ReportsPackages, TellsPackages};
+ghost use Rattle.tree_report.specs.Reports.{AreFilesOf, HasCircle, IsHonest, IsSafe, IsStopped, MetCircle, Reports, ReportsLimit, ReportsPackages, TellsPackages};
 
 use crate::formed::{Formed, Known, known_of};
 use crate::print::{TreeReport, printed};
 use crate::states::{Found, error_lines};
 use crate::texts::all_texts;
 use action_graph::{Kit, Unloaded};
-use analysis_core::{Counts, Reply, TreeLimit};
+use analysis_core::{Command, Counts, Options, Reply, TreeLimit};
 use fact_cache::Cache;
 use gv_base::{Files, NoMemory, Row, Text, files_are_in_order};
 use gv_driver::Judgement;
 use import_graph::Package;
 use std::alloc::Global;
+use tree_findings::{Results, chosen_by, reply_to};
 
 /// The numbers of a run without nodes.
 const NO_COUNTS: Counts = Counts {
@@ -39,12 +43,20 @@ fn paths_of(alloc: Global, packages: &[Package]) -> Result<Vec<Text>, NoMemory>
     Ok(paths)
 }
 
-/// The reply of a run over the packages of a tree.
-fn reply_of(alloc: Global, formed: &Formed, ran: &Judgement) -> Result<Reply, NoMemory>
+/// The reply of a run over the packages of a tree, as it is asked.
+fn reply_of(
+    alloc: Global,
+    files: &Files,
+    asked: Command,
+    formed: &Formed,
+    ran: &Judgement,
+) -> Result<Reply, NoMemory>
     requires order { AreAscending (paths_of formed.now.packages.items) }
     requires few { length formed.now.packages.items ≤ 1024 }
     requires size { length ran.now.verdicts ≡ length formed.now.packages.items }
-    ensures { IfOk result (λ reply. IsReplyOf formed.now ran.now reply) }
+    requires found { length ran.now.found ≡ length formed.now.packages.items }
+    requires fit { All (FoundFits files.now) (all_lines formed.now.packages.items ran.now.found) }
+    ensures { IfOk result (λ reply. IsReplyOf files.now asked formed.now ran.now reply) }
 {
     let outcomes = ran.verdicts.as_slice();
     let paths = paths_of(alloc, &formed.packages)?;
@@ -58,8 +70,14 @@ fn reply_of(alloc: Global, formed: &Formed, ran: &Judgement) -> Result<Reply, No
             paths: &paths,
         },
     )?;
-    let packages = formed.packages.len() as u32;
-    Ok(Reply::of_check(alloc, packages, Row::new(errors), ran.counts))
+    let found = ran.found.as_slice();
+    let results = Results {
+        packages: &formed.packages,
+        found,
+        counts: ran.counts,
+    };
+    let reply = reply_to(alloc, asked, files, &results, Row::new(errors))?;
+    Ok(reply)
 }
 
 /// The reply of a run over a tree that is over a limit.
@@ -83,7 +101,7 @@ fn report_limit(alloc: Global, files: &Files, limit: TreeLimit) -> Result<TreeRe
     requires { IsFirstLimit files.now limit }
     ensures { IfOk result (ReportsLimit files.now) }
 {
-    let report = printed(alloc, files, &limit_reply(alloc, limit))?;
+    let report = printed(alloc, files, Command::Check, limit_reply(alloc, limit))?;
     Ok(report)
 }
 
@@ -91,19 +109,22 @@ fn report_limit(alloc: Global, files: &Files, limit: TreeLimit) -> Result<TreeRe
 fn report_formed<K: Kit>(
     alloc: Global,
     files: &Files,
+    options: Options,
     formed: &Formed,
     cache: &mut Cache,
     kits: &mut [K],
 ) -> Result<TreeReport, Unloaded>
     requires form { Holds files.now formed.now }
     requires some { 0 < length kits.old }
-    requires room { (k : ℕ) (kit : K) → slice_get kits.old k ≡ Some kit → K.loads kit ≤ 2 ^ 62 }
-    ensures bound { sum_by K.loads kits.new ≤ sum_by K.loads kits.old + 1024 }
-    ensures runs { sum_by K.runs kits.new ≡ sum_by K.runs kits.old }
-    ensures safe { IfOk result (TellsPackages files.now) }
-    ensures told { IsHonest cache.old → IfOk result (ReportsPackages files.now cache.old cache.new) }
-    ensures cut_off { IsHonest cache.old → OnErr result (IsStopped files.now cache.old cache.new (sum_by K.loads kits.old) (sum_by K.loads kits.new)) }
+    requires loads { (k : ℕ) (kit : K) → slice_get kits.old k ≡ Some kit → K.loads kit ≤ 2 ^ 62 }
+    requires runs { (k : ℕ) (kit : K) → slice_get kits.old k ≡ Some kit → K.runs kit ≤ 2 ^ 62 }
+    ensures bound { sum_by K.loads kits.new + sum_by K.runs kits.new ≤ sum_by K.loads kits.old + sum_by K.runs kits.old + 16384 }
+    ensures changed { IfOk result (λ report. AreFilesOf files.now report.changed) }
+    ensures safe { IfOk result (TellsPackages options.command files.now) }
+    ensures told { IsHonest cache.old → IfOk result (ReportsPackages options.command options.only files.now cache.old cache.new) }
+    ensures cut_off { IsHonest cache.old → OnErr result (IsStopped options.command options.only files.now cache.old cache.new (tally (sum_by K.loads kits.old) (sum_by K.runs kits.old)) (tally (sum_by K.loads kits.new) (sum_by K.runs kits.new))) }
     ensures loads { IsHonest cache.old → IfOk result (λ report. sum_by K.loads kits.new ≡ sum_by K.loads kits.old + report.counts.loads) }
+    ensures runs { IsHonest cache.old → IfOk result (λ report. sum_by K.runs kits.new ≡ sum_by K.runs kits.old + report.counts.runs) }
     ensures circle { result ≡ Err Unloaded.Stuck → MetCircle files.now cache.old }
     ensures stuck { IsHonest cache.old → result ≡ Err Unloaded.Stuck → HasCircle files.now }
     ensures honest { IsHonest cache.old → IsHonest cache.new }
@@ -111,30 +132,33 @@ fn report_formed<K: Kit>(
 {
     files_are_in_order(files);
     let tree = all_texts(alloc, files, &formed.packages)?;
-    let ran = gv_driver::run(alloc, &tree, cache, kits)?;
-    let reply = reply_of(alloc, formed, &ran)?;
-    let report = printed(alloc, files, &reply)?;
+    let ran = gv_driver::run(alloc, &tree, chosen_by(options), cache, kits)?;
+    let reply = reply_of(alloc, files, options.command, formed, &ran)?;
+    let report = printed(alloc, files, options.command, reply)?;
     Ok(report)
 }
 
-/// Reports on a tree with the first of the kits, and with what the cache has; what was executed is kept. Of a tree over a limit the first one is told, and
-/// nothing is looked up, executed or kept. Every tree is taken. Over any cache each place of the report stands in one of the files. Where a package is stuck,
-/// since its rules go in a circle or what is seen of it can't be told, nothing is told of the tree. After that, as after want of memory, no more
-/// was executed than was missing, and the cache has gained entries of what was missing alone. A cache within its limits stays there.
+/// Reports on a tree as it is asked, with the first of the kits, and with what the cache has; what was executed is kept. Of a tree over a limit the first one is told, and
+/// nothing is looked up, executed or kept. Every tree is taken. Over any cache each place of the report stands in one of the files, and each file that is changed is one of them.
+/// Where a package is stuck, since its rules go in a circle or what is seen of it can't be told, nothing is told of the tree. After that, as after want of memory, no more
+/// was executed than was missing or needed, and the cache has gained entries of what was missing alone. A cache within its limits stays there.
 pub fn report_on<K: Kit>(
     alloc: Global,
     files: &Files,
+    options: Options,
     cache: &mut Cache,
     kits: &mut [K],
 ) -> Result<TreeReport, Unloaded>
     requires some { 0 < length kits.old }
-    requires room { (k : ℕ) (kit : K) → slice_get kits.old k ≡ Some kit → K.loads kit ≤ 2 ^ 62 }
-    ensures bound { sum_by K.loads kits.new ≤ sum_by K.loads kits.old + 1024 }
-    ensures runs { sum_by K.runs kits.new ≡ sum_by K.runs kits.old }
-    ensures safe { IfOk result (IsSafe files.now cache.old cache.new (sum_by K.loads kits.old) (sum_by K.loads kits.new)) }
-    ensures cut_off { IsHonest cache.old → OnErr result (IsStopped files.now cache.old cache.new (sum_by K.loads kits.old) (sum_by K.loads kits.new)) }
-    ensures told { IsHonest cache.old → IfOk result (Reports files.now cache.old cache.new) }
+    requires loads { (k : ℕ) (kit : K) → slice_get kits.old k ≡ Some kit → K.loads kit ≤ 2 ^ 62 }
+    requires runs { (k : ℕ) (kit : K) → slice_get kits.old k ≡ Some kit → K.runs kit ≤ 2 ^ 62 }
+    ensures bound { sum_by K.loads kits.new + sum_by K.runs kits.new ≤ sum_by K.loads kits.old + sum_by K.runs kits.old + 16384 }
+    ensures changed { IfOk result (λ report. AreFilesOf files.now report.changed) }
+    ensures safe { IfOk result (IsSafe options.command files.now cache.old cache.new (tally (sum_by K.loads kits.old) (sum_by K.runs kits.old)) (tally (sum_by K.loads kits.new) (sum_by K.runs kits.new))) }
+    ensures told { IsHonest cache.old → IfOk result (Reports options.command options.only files.now cache.old cache.new) }
+    ensures cut_off { IsHonest cache.old → OnErr result (IsStopped options.command options.only files.now cache.old cache.new (tally (sum_by K.loads kits.old) (sum_by K.runs kits.old)) (tally (sum_by K.loads kits.new) (sum_by K.runs kits.new))) }
     ensures loads { IsHonest cache.old → IfOk result (λ report. sum_by K.loads kits.new ≡ sum_by K.loads kits.old + report.counts.loads) }
+    ensures runs { IsHonest cache.old → IfOk result (λ report. sum_by K.runs kits.new ≡ sum_by K.runs kits.old + report.counts.runs) }
     ensures circle { result ≡ Err Unloaded.Stuck → MetCircle files.now cache.old }
     ensures stuck { IsHonest cache.old → result ≡ Err Unloaded.Stuck → HasCircle files.now }
     ensures honest { IsHonest cache.old → IsHonest cache.new }
@@ -147,7 +171,7 @@ pub fn report_on<K: Kit>(
             Ok(report)
         }
         Known::Of(formed) => {
-            let report = report_formed(alloc, files, &formed, cache, kits)?;
+            let report = report_formed(alloc, files, options, &formed, cache, kits)?;
             Ok(report)
         }
     }

@@ -6,6 +6,7 @@ pub script-preserved : goal.script-preserved
 script-preserved g c = record {
   so_far = SoFar-turn c.script.invariant.so_far c.in_default.ensures.turns;
   room = c.in_default.ensures.room refl;
+  paths = c.in_default.ensures.paths refl;
   source = omega (arith, c.in_default.ensures.source_fault.later);
   sink = omega (arith, c.in_default.ensures.sink_fault.later);
   stalls = omega (arith, c.in_default.ensures.stuck.later);

@@ -15,4 +15,5 @@ returns c = record {
   text = c.in_ok-report.ensures.text ∙ ap (reply_text c.args.files.now Check) c.limit_reply.ensures;
   found = c.in_ok-report.ensures.found ∙ ap is_found c.limit_reply.ensures;
   counts = c.in_ok-report.ensures.counts ∙ ap (λ (r : Reply). r.counts) c.limit_reply.ensures;
+  changed = c.in_ok-report.ensures.changed ∙ ap (λ (r : Reply). r.changed) c.limit_reply.ensures;
 }
