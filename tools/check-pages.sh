@@ -1,12 +1,13 @@
 #!/usr/bin/env bash
-# Runs what the pages show: each file that a page of docs/rules calls refused or accepted, the worked session of docs/FORMATS.md, and the
-# sessions of README.md. Prints each that gives something else than its page says, each rule that has no refused or no accepted file,
+# Runs what the pages show: each file that a page of docs/rules calls refused or accepted, each in which a page of docs/analyzers says that
+# something is reported or that nothing is, the worked session of docs/FORMATS.md, and the sessions of README.md. Prints each that gives something else than its page says, each rule that has no refused or no accepted file,
 # and how many were run; ends with 1 where something is wrong, or nothing was found on a page.
 #
 #     tools/check-pages.sh [PROGRAM]     PROGRAM is gvet as it was built; with none it is ./gvet, which proves and builds where it has to
 #
 # On a page of docs/rules stands, below a heading `### E31 ..`, a paragraph `Refused, `LINE` and `LINE`:` or `Accepted:`, and a go block:
-# a file, or several, each behind a line `-- PATH --`. All that is printed of it are those lines. A session is a block of lines
+# a file, or several, each behind a line `-- PATH --`. All that is printed of it are those lines. On a page of docs/analyzers the paragraphs
+# are `Reported, `LINE` and `LINE`:` and `Silent:`, and the lines are those of `report`. A session is a block of lines
 # `$ COMMAND` and of what each prints.
 set -u
 cd "$(dirname "$0")/.." || exit 1
@@ -38,8 +39,8 @@ take_out() {
             next
         }
         in_block { print > text; next }
-        /^Refused, / { kind = "refused"; words = "" }
-        /^Accepted:/ { kind = "accepted"; words = "" }
+        /^(Refused|Reported), / { kind = "refused"; words = "" }
+        /^(Accepted|Silent):/ { kind = "accepted"; words = "" }
         /^```go$/ {
             if (kind == "") { print page ": " rule " has a file that is neither refused nor accepted" ; kind = "accepted"; words = "" }
             in_block = 1
@@ -70,7 +71,7 @@ take_out() {
     ' "$1"
 }
 
-# The script that puts the files of a text and checks them. A text without a line `-- PATH --` is one file, at the path given.
+# The script that puts the files of a text, and then the command. A text without a line `-- PATH --` is one file, at the path given.
 script_of() {
     local files=$room/files
     rm -rf "$files"
@@ -87,20 +88,24 @@ script_of() {
         cat "$file"
         echo
     done
-    echo check
+    echo "$3"
 }
 
-# Runs one example of a rules page.
+# Runs one example of a page by a command.
 run_example() {
-    local base=$1 name first packages errors due
+    local base=$1 command=$2 name first packages lines due
     name=$(cat "$base.name")
     first=$(head -n 1 "$base.want" | cut -d: -f1)
-    script_of "$base.text" "${first:-a/a.go}" >"$base.script"
+    script_of "$base.text" "${first:-a/a.go}" "$command" >"$base.script"
     packages=$(sed -n 's/^put \(.*\)\/[^/ ]* [0-9]*$/\1/p' "$base.script" | sort -u | wc -l | tr -d ' ')
-    errors=$(wc -l <"$base.want" | tr -d ' ')
+    lines=$(wc -l <"$base.want" | tr -d ' ')
     due=0
-    [ "$errors" -eq 0 ] || due=1
-    { cat "$base.want"; echo "packages $packages, errors $errors"; } >"$base.due"
+    [ "$lines" -eq 0 ] || due=1
+    cat "$base.want" >"$base.due"
+    case $command in
+    check) echo "packages $packages, errors $lines" ;;
+    report) echo "packages $packages, errors 0, diagnostics $lines" ;;
+    esac >>"$base.due"
     "$program" session <"$base.script" >"$base.reply"
     local ended=$?
     if ! cmp -s "$base.due" "$base.reply"; then
@@ -174,23 +179,30 @@ run_worked() {
     sessions=$((sessions + count))
 }
 
+# Runs the examples of all pages of a folder by a command.
+run_pages() {
+    local folder=$1 command=$2 page place lacks count
+    for page in "$folder"/*.md; do
+        [ "$page" != "$folder/README.md" ] || continue
+        place=$room/$command-$(basename "$page" .md)
+        mkdir "$place"
+        lacks=$(take_out "$page" "$place")
+        [ -z "$lacks" ] || wrong "$lacks"
+        count=0
+        for text in "$place"/*.text; do
+            [ -e "$text" ] || continue
+            run_example "${text%.text}" "$command"
+            count=$((count + 1))
+        done
+        [ $count -gt 0 ] || wrong "$page: no example was found"
+        examples=$((examples + count))
+    done
+}
+
 examples=0
 sessions=0
-for page in docs/rules/*.md; do
-    [ "$page" != docs/rules/README.md ] || continue
-    place=$room/$(basename "$page" .md)
-    mkdir "$place"
-    lacks=$(take_out "$page" "$place")
-    [ -z "$lacks" ] || wrong "$lacks"
-    count=0
-    for text in "$place"/*.text; do
-        [ -e "$text" ] || continue
-        run_example "${text%.text}"
-        count=$((count + 1))
-    done
-    [ $count -gt 0 ] || wrong "$page: no example was found"
-    examples=$((examples + count))
-done
+run_pages docs/rules check
+run_pages docs/analyzers report
 run_sessions README.md "$room/readme"
 run_worked docs/FORMATS.md "$room/formats"
 [ $examples -gt 0 ] || wrong "no page of docs/rules has an example"

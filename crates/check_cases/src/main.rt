@@ -1,11 +1,12 @@
 //! Has the trees in the folders that lie where it runs checked, and prints a line for each: as expected, or each error that differs from those
-//! that comments in the files expect.
+//! that comments in the files expect. Of the trees in one of the folders it asks for a report.
 #![tactic(auto)]
 
 mod comparison;
 mod expected;
 mod found;
 mod report;
+mod reported;
 mod session;
 mod trees;
 

@@ -150,7 +150,7 @@ pub fn run_tree<R: Threads + Sync + RandomSource>(
     if group == ACCEPTED && wanted.len() > 0 {
         println!(rt; "{name}: stands among accepted files and expects errors")?;
     }
-    let script = script_of(rt.alloc(), files)?;
+    let script = script_of(rt.alloc(), files, "check")?;
     let (status, text) = reply(threads, rt.alloc(), script.as_str())?;
     let (errors, last) = found_in(rt.alloc(), text.as_str())?;
     if ends_well(rt, name, folders(files), errors.len(), last, status)? {

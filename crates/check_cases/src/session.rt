@@ -1,4 +1,4 @@
-//! A tree, checked by the tool's session.
+//! A tree in the tool's session.
 use crate::trees::SourceFile;
 use anyhow::{Result, bail};
 use gv_base::{MemSink, SureKeeper, SureSource, SureTree};
@@ -8,14 +8,14 @@ use std::fmt::Write;
 use std::random::RandomSource;
 use std::thread::Threads;
 
-/// The script that puts the files and checks the tree.
-pub fn script_of(alloc: Global, files: &[SourceFile<'_>]) -> Result<String> {
+/// The script that puts the files and then gives the command.
+pub fn script_of(alloc: Global, files: &[SourceFile<'_>], command: &str) -> Result<String> {
     let mut script = String::new(alloc);
     for file in files {
         writeln!(script, "put {} {}", file.path, file.text.len())?;
         writeln!(script, "{}", file.text)?;
     }
-    writeln!(script, "check")?;
+    writeln!(script, "{command}")?;
     Ok(script)
 }
 

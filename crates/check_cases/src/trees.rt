@@ -1,11 +1,15 @@
 //! Trees of files: a file alone, or those of a bundle.
 use crate::report::run_tree;
+use crate::reported::run_reported;
 use anyhow::{Result, bail};
 use bundles::{Section, sections};
 use std::alloc::Global;
 use std::fs;
 use std::random::RandomSource;
 use std::thread::Threads;
+
+/// The folder of trees with what is reported of them.
+const ANALYZERS: &str = "analyzers";
 
 /// A file of a tree.
 #[derive(Clone, Copy, Drop)]
@@ -39,6 +43,9 @@ pub fn run_file<R: Threads + Sync + RandomSource>(
     if name.ends_with(".txtar") {
         let sections = sections(rt.alloc(), bytes.as_slice())?;
         let files = files_of(rt.alloc(), sections.as_slice())?;
+        if group == ANALYZERS {
+            return run_reported(rt, threads, path.as_str(), files.as_slice());
+        }
         return run_tree(rt, threads, path.as_str(), group, files.as_slice());
     }
     if !name.ends_with(".go") {
