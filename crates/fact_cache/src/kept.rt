@@ -1,7 +1,7 @@
 //! Texts, each kept once, with the number of its uses.
 //!
 //! A place whose uses have ended stays in its chain, empty, and the next text of its bucket takes it.
-ghost use Rattle.std.specs.Prelude.{◌≡◌, ◌<◌, ◌+◌, ◌-◌, ◌^◌, ◌++◌, ◌∷◌, [], ℕ, Some, IfSome, IfNone, IfOk, OnOk, OnErr, length, slice_get, slice_set};
+ghost use Rattle.std.specs.Prelude.{◌≡◌, ◌<◌, ◌+◌, ◌-◌, ◌^◌, ◌++◌, ◌∷◌, [], ℕ, true, Some, IfSome, IfNone, IfOk, OnOk, OnErr, length, slice_get, slice_set};
 ghost use Rattle.fact_cache.specs.declared.kept.Place.{Place};
 ghost use Rattle.fact_cache.specs.declared.spread.Key.{Key as Spread};
 ghost use Rattle.std.specs.Str.{bytes_eq};
@@ -85,6 +85,23 @@ fn is_text(places: &[Place], n: usize, number: u64, bytes: &[u8]) -> bool
         return false;
     }
     text(places, n) == bytes
+}
+
+fn are_same(a: &[u8], b: &[u8]) -> bool
+    ensures { result ≡ true → a.now ≡ b.now }
+{
+    a == b
+}
+
+/// Whether a text is kept at a place.
+fn is_kept_at(places: &[Place], n: usize, bytes: &[u8]) -> bool
+    ensures { result ≡ true → (0 < uses_at places.now n) × (text_at places.now n ≡ bytes.now) }
+{
+    let count = uses(places, n);
+    if count > 0 {
+        return are_same(text(places, n), bytes);
+    }
+    false
 }
 
 /// The place of a kept text.
@@ -309,6 +326,25 @@ impl Kept {
                 Ok(n)
             }
         }
+    }
+
+    /// The same of a text that is likely to be kept at a place: where it is, its bytes are compared and aren't gone through for its number.
+    pub(crate) fn hold_likely(
+        &mut self,
+        key: Key,
+        bytes: &Bytes,
+        likely: usize,
+    ) -> Result<usize, NoMemory>
+        requires { AreMixed key self.old }
+        ensures held { IfOk result (λ n. IsHeld self.old self.new bytes.now n) }
+        ensures mixed { AreMixed key self.new }
+        ensures unchanged { OnErr result (self.new ≡ self.old) }
+    {
+        if is_kept_at(&self.places, likely, bytes.as_slice()) {
+            self.hold_again(likely)?;
+            return Ok(likely);
+        }
+        self.hold(key, bytes)
     }
 
     /// Keeps a text that isn't kept yet, and answers its place; `None` where it is kept.

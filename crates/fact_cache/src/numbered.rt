@@ -56,6 +56,7 @@ fn hold_one(
     kept: &mut Kept,
     numbers: &mut Vec<usize>,
     text: &Bytes,
+    likely: usize,
 ) -> Result<usize, NoMemory>
     requires { AreMixed key kept.old }
     ensures mixed { AreMixed key kept.new }
@@ -63,7 +64,7 @@ fn hold_one(
     ensures like { OnErr result (IsLike kept.old kept.new) }
     ensures same { OnErr result (numbers.new.items ≡ numbers.old.items) }
 {
-    let n = kept.hold(key, text)?;
+    let n = kept.hold_likely(key, text, likely)?;
     match numbers.push(n) {
         Ok(()) => Ok(n),
         Err(_) => {
@@ -84,12 +85,21 @@ pub(crate) fn free_all(kept: &mut Kept, numbers: &[usize])
     }
 }
 
-/// Holds texts; where memory is wanting, none of them.
+/// Where the next text is likely to be kept.
+fn place_at(likely: &[usize], numbers: &Vec<usize>) -> usize {
+    match likely.get(numbers.len()) {
+        None => 0,
+        Some(place) => *place,
+    }
+}
+
+/// Holds texts, which are likely to be kept at these places; where memory is wanting, none of them.
 fn hold_all(
     key: Key,
     kept: &mut Kept,
     numbers: &mut Vec<usize>,
     texts: &[Bytes],
+    likely: &[usize],
 ) -> Result<(), NoMemory>
     requires mixed { AreMixed key kept.old }
     requires none { numbers.old.items ≡ [] }
@@ -98,7 +108,8 @@ fn hold_all(
     ensures like { OnErr result (IsLike kept.old kept.new) }
 {
     for text in texts {
-        match hold_one(key, kept, numbers, text) {
+        let place = place_at(likely, numbers);
+        match hold_one(key, kept, numbers, text, place) {
             Ok(_n) => {}
             Err(error) => {
                 free_all(kept, numbers);
@@ -119,13 +130,14 @@ pub(crate) fn free_row(kept: &mut Kept, row: &Numbered)
     kept.free(row.outcome);
 }
 
-/// Holds an entry's texts; where memory is wanting, none of them.
+/// Holds an entry's texts; where memory is wanting, none of them. Those of its input are likely to be kept at these places.
 pub(crate) fn hold_row(
     alloc: Global,
     key: Key,
     kept: &mut Kept,
     input: &Input,
     outcome: &Bytes,
+    likely: &[usize],
 ) -> Result<Numbered, NoMemory>
     requires { AreMixed key kept.old }
     ensures mixed { AreMixed key kept.new }
@@ -134,7 +146,7 @@ pub(crate) fn hold_row(
     ensures like { OnErr result (IsLike kept.old kept.new) }
 {
     let mut numbers = Vec::new(alloc);
-    hold_all(key, kept, &mut numbers, input.texts.as_slice())?;
+    hold_all(key, kept, &mut numbers, input.texts.as_slice(), likely)?;
     match kept.hold(key, outcome) {
         Ok(outcome) => Ok(Numbered {
             node: input.node,

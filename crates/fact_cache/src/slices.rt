@@ -25,7 +25,7 @@ fn mix_slices(key: Key, seed: u64, texts: &[&[u8]]) -> u64
 }
 
 #[tactic(auto, unfolding(crate::specs::Spread::bucket_of))]
-fn bucket(key: Key, node: u8, texts: &[&[u8]]) -> usize
+pub(crate) fn bucket(key: Key, node: u8, texts: &[&[u8]]) -> usize
     ensures value { result ≡ bucket_of key (record { node = node; texts = map (λ t. t.now) texts.now }) }
     ensures below { result < 2 ^ 16 }
 {
@@ -68,6 +68,33 @@ fn row_at(rows: &VecDeque<Numbered>, at: usize) -> &Numbered
     &rows[at]
 }
 
+/// The outcome of the input of a node and these texts, whose chain begins at this head.
+pub(crate) fn seek_from<'a>(
+    key: Key,
+    kept: &'a Kept,
+    index: &Index,
+    rows: &VecDeque<Numbered>,
+    head: usize,
+    node: u8,
+    texts: &[&[u8]],
+) -> Option<&'a [u8]>
+    requires cache { IsCache key [] kept.now index.now rows.now.items }
+    requires head { head ≡ bucket_of key (record { node = node; texts = map (λ t. t.now) texts.now }) }
+    requires below { head < 2 ^ 16 }
+    ensures { option_map (λ o. o.now) result ≡ lookup (map (entry_in kept.now) rows.now.items) (record { node = node; texts = map (λ t. t.now) texts.now }) }
+{
+    let _ = key;
+    let mut at = index.last(head);
+    while at > 0 {
+        let row = row_at(rows, at - 1);
+        if is_row_of(kept, row, node, texts) {
+            return Some(kept.text(row.outcome));
+        }
+        at = index.before(at - 1);
+    }
+    None
+}
+
 /// The outcome of the input of a node and these texts.
 pub(crate) fn seek_slices<'a>(
     key: Key,
@@ -80,13 +107,6 @@ pub(crate) fn seek_slices<'a>(
     requires { IsCache key [] kept.now index.now rows.now.items }
     ensures { option_map (λ o. o.now) result ≡ lookup (map (entry_in kept.now) rows.now.items) (record { node = node; texts = map (λ t. t.now) texts.now }) }
 {
-    let mut at = index.last(bucket(key, node, texts));
-    while at > 0 {
-        let row = row_at(rows, at - 1);
-        if is_row_of(kept, row, node, texts) {
-            return Some(kept.text(row.outcome));
-        }
-        at = index.before(at - 1);
-    }
-    None
+    let head = bucket(key, node, texts);
+    seek_from(key, kept, index, rows, head, node, texts)
 }
