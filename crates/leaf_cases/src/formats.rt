@@ -2,7 +2,7 @@
 use crate::told::{add, add_comma, said, unread};
 use bundles::bytes_of;
 use gv_base::NoMemory;
-use printf_format::{Directive, Format, directives};
+use printf_format::{Directive, Ending, Format, FormatRead, directives, read_format};
 use std::alloc::Global;
 
 /// Adds a directive: its start and its end, its flags, the arguments of its stars, its argument, whether it is indexed, its verb.
@@ -19,14 +19,23 @@ fn add_directive(alloc: Global, out: &mut Vec<u8>, directive: &Directive) -> Res
     add(out, text.as_str())
 }
 
+fn add_directives(
+    alloc: Global,
+    out: &mut Vec<u8>,
+    directives: &[Directive],
+) -> Result<(), NoMemory> {
+    for directive in directives {
+        add_directive(alloc, out, directive)?;
+    }
+    Ok(())
+}
+
 /// The directives, or what the format lacks and where.
 fn format_says(alloc: Global, format: &Format) -> Result<Vec<u8>, NoMemory> {
     match format {
         Format::List(list) => {
             let mut out = Vec::new(alloc);
-            for directive in list.as_slice() {
-                add_directive(alloc, &mut out, directive)?;
-            }
+            add_directives(alloc, &mut out, list.as_slice())?;
             Ok(out)
         }
         Format::NoVerb { at } => {
@@ -38,6 +47,37 @@ fn format_says(alloc: Global, format: &Format) -> Result<Vec<u8>, NoMemory> {
             said(alloc, text.as_str())
         }
     }
+}
+
+/// The directives, and what ends them, if the text doesn't.
+fn read_says(alloc: Global, read: &FormatRead) -> Result<Vec<u8>, NoMemory> {
+    let mut out = Vec::new(alloc);
+    add_directives(alloc, &mut out, read.directives.as_slice())?;
+    match read.ending {
+        Ending::Over => Ok(out),
+        Ending::NoVerb { at } => {
+            add_comma(&mut out)?;
+            let text = format!(in alloc; "no verb {at}")?;
+            add(&mut out, text.as_str())?;
+            Ok(out)
+        }
+        Ending::BadIndex { at } => {
+            add_comma(&mut out)?;
+            let text = format!(in alloc; "bad index {at}")?;
+            add(&mut out, text.as_str())?;
+            Ok(out)
+        }
+    }
+}
+
+/// `TEXT`: its directives, and what ends them.
+pub fn reads(alloc: Global, input: &str) -> Result<Vec<u8>, NoMemory> {
+    let bytes = bytes_of(alloc, input)?;
+    if bytes.len() > 65536 {
+        return unread(alloc);
+    }
+    let read = read_format(alloc, &bytes)?;
+    read_says(alloc, &read)
 }
 
 /// `TEXT`: what the format says.

@@ -1,5 +1,5 @@
 //! Operators and conversions of constants, and formats.
-use crate::formats::formats;
+use crate::formats::{formats, reads};
 use crate::told::{add, add_value, number, said, unread};
 use bundles::bytes_of;
 use const_eval::{ConstAnswer, binary, convert, unary};
@@ -143,6 +143,7 @@ pub fn answer(alloc: Global, name: &str, input: &str) -> Result<Vec<u8>, NoMemor
         "conversions" => conversion(alloc, input),
         "formats" => formats(alloc, input),
         "joined" => joined(alloc, input),
+        "reads" => reads(alloc, input),
         "single" => single(alloc, input),
         "integers" | "texts" | "truths" => two(alloc, input),
         _ => unread(alloc),

@@ -2,3 +2,4 @@ pub mod FirstCharacters
 pub mod Digits
 pub mod Readings
 pub mod OneFormat
+pub mod OneRead

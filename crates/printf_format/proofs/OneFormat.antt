@@ -121,7 +121,7 @@ whole_start f g p q same = cc
 whole_parts : (f g : ℕ) (p q : Parts) → Whole f p ≡ Whole g q → p ≡ q
 whole_parts f g p q same = cc
 
-one_reading : (text : List ℕ) (at next : ℕ) (ds es : List Directive) (a b : Turn) → Reads text at next ds a → Reads text at next es b → (ds ≡ es) × (a ≡ b)
+pub one_reading : (text : List ℕ) (at next : ℕ) (ds es : List Directive) (a b : Turn) → Reads text at next ds a → Reads text at next es b → (ds ≡ es) × (a ≡ b)
 one_reading text at next [] [] a b x y = (refl, one_turn text at a b x.0 y.0)
 one_reading text at next [] (e ∷ es) a b x y = absurd (subst IsLast (one_turn text at a (Whole y.0 y.1) x.0 y.2) x.1)
 one_reading text at next (d ∷ ds) [] a b x y = absurd (subst IsLast (one_turn text at b (Whole x.0 x.1) y.0 x.2) y.1)

@@ -5,4 +5,5 @@ pub mod Grammar
 pub mod Bounds
 pub mod Arguments
 pub mod Formats
+pub mod Whole
 pub mod SpecificationFacts

@@ -10,6 +10,8 @@ mod grammar;
 mod parts;
 mod reading;
 mod turn;
+mod whole;
 
 pub use format::{Directive, Format};
 pub use reading::directives;
+pub use whole::{Ending, FormatRead, read_format};
