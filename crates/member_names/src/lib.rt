@@ -1,0 +1,10 @@
+//! Which functions and methods nodes name, as facts name them.
+#![tactic(auto)]
+
+mod named;
+mod naming;
+mod selecting;
+mod ways;
+
+pub use named::Named;
+pub use naming::named_at;
