@@ -1,0 +1,136 @@
+//! Calls by number: of functions of the package, and of functions of other packages that never return.
+ghost use Rattle.std.specs.Prelude.{◌≡◌, ◌<◌, ◌≤◌, ◌^◌, IfOk, IfSome, Some};
+ghost use Rattle.never_returns.specs.Admits.{Named};
+ghost use Rattle.never_returns.specs.Bodies.{numbered, call_of};
+ghost use Rattle.findings.specs.Passes.{unit_in, marks_in, IsPass};
+ghost use Rattle.own_functions.specs.Functions.{is_own, number};
+ghost use Rattle.vet_never.specs.InCode.{member_in, callee_in, AreCallees, AreCalls};
+ghost use Rattle.vet_never.specs.Knowing.{handed_in, IsKnown};
+
+use crate::callees::told_of;
+use crate::told::Told;
+use crate::words::utf8;
+use fact_codec::Never;
+use findings::Pass;
+use flow::Call;
+use gv_base::NoMemory;
+use handed_facts::Handed;
+use member_names::Named as Name;
+use std::alloc::Global;
+use std::collections::HashMap;
+use unit_read::find;
+
+/// What is known of functions by name: those of other packages that never return, and the numbers of the package's own.
+#[derive(Drop)]
+pub(crate) struct Known<'k, 'a> {
+    pub handed: &'k Handed<'a, Never>,
+    pub numbers: &'k HashMap<&'a [u8], usize>,
+}
+
+fn is_own(p: &Pass, m: &Name) -> bool
+    ensures { result ≡ is_own 0 (unit_in p.now) (member_in m.now) }
+{
+    m.path.as_slice() == p.subject.path
+}
+
+fn as_call(number: usize) -> Call
+    requires { number < 2 ^ 32 }
+    ensures { result ≡ numbered (Some number) }
+{
+    Call::Function(number as u32)
+}
+
+fn own_number(p: &Pass, known: &Known<'_, '_>, m: &Name) -> Option<usize>
+    requires { IsKnown (unit_in p.now) known.now }
+    ensures is { result ≡ number 0 (unit_in p.now) (member_in m.now) }
+    ensures below { IfSome result (λ i. i < 2 ^ 32) }
+{
+    if is_own(p, m) {
+        find(known.numbers, &m.name)
+    } else {
+        None
+    }
+}
+
+fn own_call(p: &Pass, known: &Known<'_, '_>, m: &Name) -> Call
+    requires { IsKnown (unit_in p.now) known.now }
+    ensures { result ≡ numbered (number 0 (unit_in p.now) (member_in m.now)) }
+{
+    match own_number(p, known, m) {
+        Some(number) => as_call(number),
+        None => Call::Passes,
+    }
+}
+
+fn is_handed(p: &Pass, known: &Known<'_, '_>, m: &Name) -> Result<bool, NoMemory>
+    requires { IsKnown (unit_in p.now) known.now }
+    ensures { IfOk result (λ b. b ≡ handed_in known.now (member_in m.now)) }
+{
+    let _ = p;
+    let name = utf8(&m.name)?;
+    let handed = known.handed.has(&m.path, name);
+    Ok(handed)
+}
+
+fn named_call(p: &Pass, known: &Known<'_, '_>, m: &Name) -> Result<Call, NoMemory>
+    requires { IsKnown (unit_in p.now) known.now }
+    ensures { IfOk result (λ call. call ≡ call_of (handed_in known.now) (number 0 (unit_in p.now)) (Named (member_in m.now))) }
+{
+    let stops = is_handed(p, known, m)?;
+    if stops {
+        return Ok(Call::Stops);
+    }
+    Ok(own_call(p, known, m))
+}
+
+/// A call by number.
+fn call(p: &Pass, known: &Known<'_, '_>, told: &Told) -> Result<Call, NoMemory>
+    requires { IsKnown (unit_in p.now) known.now }
+    ensures { IfOk result (λ call. call ≡ call_of (handed_in known.now) (number 0 (unit_in p.now)) (callee_in told.now)) }
+{
+    match told {
+        Told::Other => Ok(Call::Passes),
+        Told::Panic => Ok(Call::Stops),
+        Told::Named(m) => {
+            let call = named_call(p, known, m)?;
+            Ok(call)
+        }
+    }
+}
+
+/// What the nodes of a file call.
+pub(crate) fn told_row(
+    alloc: Global,
+    p: &Pass,
+    file: u32,
+    count: usize,
+) -> Result<Vec<Told>, NoMemory>
+    requires pass { IsPass p.now }
+    requires small { count ≤ 2 ^ 32 }
+    ensures { IfOk result (λ row. AreCallees (unit_in p.now) (marks_in p.now) file count row.items) }
+{
+    let mut row = Vec::new(alloc);
+    for n in 0..count {
+        let told = told_of(alloc, p, file, n as u32)?;
+        row.push(told)?;
+    }
+    Ok(row)
+}
+
+/// The same by number.
+pub(crate) fn call_row(
+    alloc: Global,
+    p: &Pass,
+    known: &Known<'_, '_>,
+    row: &[Told],
+) -> Result<Vec<Call>, NoMemory>
+    requires { IsKnown (unit_in p.now) known.now }
+    ensures { IfOk result (λ calls. AreCalls (handed_in known.now) (number 0 (unit_in p.now)) row.now calls.items) }
+{
+    let mut calls = Vec::new(alloc);
+    for told in row {
+        let one = call(p, known, told)?;
+        calls.push(one)?;
+    }
+    Ok(calls)
+}

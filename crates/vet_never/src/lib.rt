@@ -1,0 +1,14 @@
+//! Functions that never return: the analyzer `ctrlflow`, which has facts alone.
+#![tactic(auto)]
+
+mod bodies;
+mod callees;
+mod calls;
+mod files;
+mod laws;
+mod never;
+mod told;
+mod words;
+
+pub use laws::one_never_text;
+pub use never::CtrlFlow;
