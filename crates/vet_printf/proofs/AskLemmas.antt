@@ -6,16 +6,21 @@ use Rattle.std.proofs.lemmas.List.Elements.{Contains-append_left, Contains-appen
 use Rattle.type_model.specs.declared.term.Method.{Method}
 use Rattle.type_model.specs.declared.term.TypeId.{TypeId}
 use Rattle.type_model.specs.declared.table.TypeTable.{TypeTable}
-use Rattle.type_model.specs.GoTypes.{GoType, types_at, SignatureBelow, MethodsBelow}
+use Rattle.type_model.specs.GoTypes.{GoType, types_at, methods_of, SignatureBelow, MethodsBelow}
 use Rattle.type_model.specs.Parts.{GoMethod, method_of}
 use Rattle.type_model.specs.Tables.{types_in, declarations_in}
 use Rattle.method_sets.specs.Selections.{IsMethodSet}
 use Rattle.vet_printf.specs.declared.asking.Wanted.{Wanted}
 use Rattle.vet_printf.specs.Fitting.{are_none, is_wanted, Has}
+use Rattle.vet_printf.specs.Forwards.{has_none}
 
 pub none_counted : (types : List GoType) (list : List TypeId) → (length list == 0) ≡ are_none (types_at types list)
 none_counted types [] = refl
 none_counted types (id ∷ list) = grind (arith, nat_tests)
+
+pub methods_counted : (types : List GoType) (list : List Method) → (length list == 0) ≡ has_none (methods_of types list)
+methods_counted types [] = refl
+methods_counted types (m ∷ list) = grind (arith, nat_tests)
 
 or_cases : (a b : Bool) → (a || b) ≡ true → (a ≡ true) ⊎ (b ≡ true)
 or_cases true b e = inl refl

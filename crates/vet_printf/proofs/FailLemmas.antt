@@ -33,7 +33,7 @@ place_of {X} (y ∷ xs) x there = elim (Contains-append_cases (y ∷ []) xs x th
   | inr later ↦ (let r = place_of xs x later in (suc r.0, r.1))
 ]
 
-at_place : {X : Type 0} (xs : List X) (k : ℕ) (x : X) → slice_get xs k ≡ Some x → Contains xs x
+pub at_place : {X : Type 0} (xs : List X) (k : ℕ) (x : X) → slice_get xs k ≡ Some x → Contains xs x
 at_place {X} [] k x e = absurd (cc)
 at_place {X} (y ∷ xs) zero x e = subst (λ (z : X). Contains (y ∷ xs) z) (same_some e) (Contains-append_left (y ∷ []) xs y (Contains-push [] y))
 at_place {X} (y ∷ xs) (suc k) x e = Contains-append_right (y ∷ []) xs x (at_place xs k x e)
@@ -52,7 +52,7 @@ unmapped {X} {Y} f (x ∷ xs) y there = elim (Contains-append_cases (f x ∷ [])
   | inr later ↦ (let r = unmapped f xs y later in (r.0, Contains-append_right (x ∷ []) xs r.0 r.1, r.2))
 ]
 
-item_at : {X : Type 0} (xs : List X) (k : ℕ) → k < length xs → (x : X) × (slice_get xs k ≡ Some x)
+pub item_at : {X : Type 0} (xs : List X) (k : ℕ) → k < length xs → (x : X) × (slice_get xs k ≡ Some x)
 item_at [] k low = absurd (omega (arith, low))
 item_at (x ∷ xs) zero low = (x, refl)
 item_at (x ∷ xs) (suc k) low = item_at xs k (omega arith)
@@ -63,7 +63,7 @@ or_right : (a b : Bool) → b ≡ true → (a || b) ≡ true
 or_right true b e = refl
 or_right false b e = e
 
-any_in : (M : ℕ → Bool) (ids : List ℕ) (id : ℕ) → Contains ids id → M id ≡ true → any_of M ids ≡ true
+pub any_in : (M : ℕ → Bool) (ids : List ℕ) (id : ℕ) → Contains ids id → M id ≡ true → any_of M ids ≡ true
 any_in M [] id there e = absurd (none_in id there)
 any_in M (x ∷ ids) id there e = elim (Contains-append_cases (x ∷ []) ids id there) [
   | inl here ↦ ap (λ b. b || any_of M ids) (ap M (single_is x id here) ∙ e)
@@ -74,7 +74,7 @@ or_cases : (a b : Bool) → (a || b) ≡ true → (a ≡ true) ⊎ (b ≡ true)
 or_cases true b e = inl refl
 or_cases false b e = inr e
 
-in_any : (M : ℕ → Bool) (ids : List ℕ) → any_of M ids ≡ true → (id : ℕ) × Contains ids id × (M id ≡ true)
+pub in_any : (M : ℕ → Bool) (ids : List ℕ) → any_of M ids ≡ true → (id : ℕ) × Contains ids id × (M id ≡ true)
 in_any M [] e = absurd (cc)
 in_any M (x ∷ ids) e = elim (or_cases (M x) (any_of M ids) e) [
   | inl here ↦ (x, Contains-append_left (x ∷ []) ids x (Contains-push [] x), here)
@@ -94,10 +94,10 @@ opened M true parted ids e = absurd (cc)
 opened M false true ids e = (refl, inr e)
 opened M false false ids e = (refl, inl refl)
 
-open_at : (M : ℕ → Bool) (fit : Bool) (o : Option Shape) (x : Shape) → o ≡ Some x → option_map_or (fails_shape M fit) o false ≡ true → (fit ≡ false) × ((x.parted ≡ false) ⊎ (any_of M x.parts ≡ true))
+pub open_at : (M : ℕ → Bool) (fit : Bool) (o : Option Shape) (x : Shape) → o ≡ Some x → option_map_or (fails_shape M fit) o false ≡ true → (fit ≡ false) × ((x.parted ≡ false) ⊎ (any_of M x.parts ≡ true))
 open_at M fit o x is e = opened M fit x.parted x.parts (sym (ap (λ p. option_map_or (fails_shape M fit) p false) is) ∙ e)
 
-closed_at : (M : ℕ → Bool) (fit : Bool) (o : Option Shape) (x : Shape) → o ≡ Some x → fit ≡ false → (not x.parted || any_of M x.parts) ≡ true → option_map_or (fails_shape M fit) o false ≡ true
+pub closed_at : (M : ℕ → Bool) (fit : Bool) (o : Option Shape) (x : Shape) → o ≡ Some x → fit ≡ false → (not x.parted || any_of M x.parts) ≡ true → option_map_or (fails_shape M fit) o false ≡ true
 closed_at M fit o x is out e = ap (λ p. option_map_or (fails_shape M fit) p false) is ∙ (ap (λ b. not b && (not x.parted || any_of M x.parts)) out ∙ e)
 
 unparted : (parted rest : Bool) → parted ≡ false → (not parted || rest) ≡ true

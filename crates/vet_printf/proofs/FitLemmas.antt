@@ -21,7 +21,7 @@ pub fit_told : (t : TypeTable) (class : Class) (n : ℕ) (x : Asked) (b : Bool) 
 fit_told t class n x b asked is = subst (λ (y : Bool). IsFitAt t class n y) (sym is)
     (by_parts (fits_type (declarations_in t) class (ty t n)) x.format (takes_text class) x.text (Has (declarations_in t) (ty t n) w.Format) (Has (declarations_in t) (ty t n) w.Text) asked.format asked.text)
 
-past : {X : Type 0} (xs : List X) (n : ℕ) → slice_get xs n ≡ None → length xs ≤ n
+pub past : {X : Type 0} (xs : List X) (n : ℕ) → slice_get xs n ≡ None → length xs ≤ n
 past [] n e = omega arith
 past (x ∷ xs) zero e = absurd (cc)
 past (x ∷ xs) (suc n) e = let high = past xs n e in omega (arith, high)

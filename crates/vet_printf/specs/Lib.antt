@@ -5,3 +5,13 @@ pub mod FailLaws
 pub mod Faults
 pub mod Texts
 pub mod Tables
+pub mod Formats
+pub mod Wrappers
+pub mod Calls
+pub mod Forwards
+pub mod Wraps
+pub mod Handing
+pub mod Kinds
+pub mod Knowing
+pub mod Walk
+pub mod Items

@@ -22,7 +22,13 @@ star_text name = codes "format * has argument " ++ (name ++ codes " that is not 
 abbrev pub type_rest : List ℕ → List ℕ
 type_rest name = codes " has argument " ++ (name ++ codes " of wrong type")
 
--- the text of a fault, where the argument that has it is spelled so
+abbrev pub needs_text : ℕ → ℕ → List ℕ
+needs_text n count = codes "call needs " ++ (decimal n ++ (codes " arguments but has " ++ decimal count))
+
+abbrev pub possible_text : List ℕ → List ℕ
+possible_text name = codes "possible formatting directive in " ++ (name ++ codes " call")
+
+-- the text of a fault, where the argument that has it, or what is called, is spelled so
 abbrev pub fault_text : List ℕ → Fault → List ℕ
 fault_text name (f.Unknown verb) = unknown_text verb
 fault_text name (f.Flag verb flag) = verb_text verb (flag_rest flag)
@@ -30,3 +36,7 @@ fault_text name f.Errorf = codes "format %w is only for errorf"
 fault_text name (f.Reads n count) = reads_text n count
 fault_text name (f.Star n) = star_text name
 fault_text name (f.WrongType verb n) = verb_text verb (type_rest name)
+fault_text name f.NoVerb = codes "format is missing a verb at its end"
+fault_text name f.BadIndex = codes "format has a bad argument index"
+fault_text name (f.Needs n count) = needs_text n count
+fault_text name f.Possible = possible_text name

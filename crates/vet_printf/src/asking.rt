@@ -39,7 +39,7 @@ fn is_text_kind(kind: Kind) -> bool
     matches!(kind, Kind::Text)
 }
 
-fn is_text(t: &TypeTable, of: TypeId) -> bool
+pub(crate) fn is_text(t: &TypeTable, of: TypeId) -> bool
     requires table { IsTable t.now }
     requires within { of.0 < count t.now }
     ensures { result ≡ is_text (type_at (types_in t.now) of) }

@@ -28,7 +28,7 @@ pub struct Argument {
     pub classes: Classes,
 }
 
-/// A fault of a directive.
+/// A fault of a directive, of a format or of a call.
 #[derive(Clone, Copy, Drop)]
 pub enum Fault {
     /// The verb isn't known.
@@ -43,6 +43,14 @@ pub enum Fault {
     Star(u32),
     /// The verb doesn't take the argument.
     WrongType(char, u32),
+    /// The format ends where a verb is due.
+    NoVerb,
+    /// A `[` in an index's place begins none.
+    BadIndex,
+    /// As many arguments are read, and there are more.
+    Needs(u32, u32),
+    /// What is printed as it stands looks like a format.
+    Possible,
 }
 
 // ---- arguments
@@ -97,7 +105,7 @@ fn is_taken_at(list: &[Argument], takes: Takes, n: u32) -> bool
     }
 }
 
-fn count_of(list: &[Argument]) -> u32
+pub(crate) fn count_of(list: &[Argument]) -> u32
     requires { length list.now < 2 ^ 32 }
     ensures { result ≡ length list.now }
 {
@@ -106,7 +114,7 @@ fn count_of(list: &[Argument]) -> u32
 
 // ---- faults
 
-fn or_else(a: Option<Fault>, b: Option<Fault>) -> Option<Fault>
+pub(crate) fn or_else(a: Option<Fault>, b: Option<Fault>) -> Option<Fault>
     ensures { result ≡ or_else a b }
 {
     match a {
@@ -115,7 +123,7 @@ fn or_else(a: Option<Fault>, b: Option<Fault>) -> Option<Fault>
     }
 }
 
-fn fault_if(b: bool, fault: Fault) -> Option<Fault>
+pub(crate) fn fault_if(b: bool, fault: Fault) -> Option<Fault>
     ensures { result ≡ fault_if b fault }
 {
     if b { Some(fault) } else { None }

@@ -34,7 +34,7 @@ impl Readers {
         &self.items
     }
 
-    fn add(&mut self, reader: u32) -> Result<(), NoMemory>
+    pub(crate) fn add(&mut self, reader: u32) -> Result<(), NoMemory>
         ensures { OnOk result (self.new ≡ self.old ++ reader ∷ []) }
     {
         self.items.push(reader)?;
@@ -42,7 +42,7 @@ impl Readers {
     }
 }
 
-fn no_rows(alloc: Global, count: usize) -> Result<Vec<Readers>, NoMemory>
+pub(crate) fn no_rows(alloc: Global, count: usize) -> Result<Vec<Readers>, NoMemory>
     ensures size { IfOk result (λ rows. length rows.items ≡ count) }
     ensures empty { IfOk result (λ rows. (j : ℕ) → row_of rows.items j ≡ []) }
 {

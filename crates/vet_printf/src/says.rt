@@ -1,7 +1,7 @@
 //! What is said of a fault.
 ghost use Rattle.std.specs.Prelude.{◌≡◌, ◌++◌, codes, encode_utf8, IfOk, OnOk};
 ghost use Rattle.std.specs.Fmt.{decimal};
-ghost use Rattle.vet_printf.specs.Texts.{unknown_text, verb_text, flag_rest, reads_text, star_text, type_rest, fault_text};
+ghost use Rattle.vet_printf.specs.Texts.{unknown_text, verb_text, flag_rest, reads_text, star_text, type_rest, needs_text, possible_text, fault_text};
 
 use crate::fault::Fault;
 use gv_base::NoMemory;
@@ -100,15 +100,37 @@ fn type_text(alloc: Global, verb: char, name: &[u8]) -> Result<Vec<u8>, NoMemory
     Ok(text)
 }
 
-fn errorf_text(alloc: Global) -> Result<Vec<u8>, NoMemory>
-    ensures { IfOk result (λ text. text.items ≡ codes "format %w is only for errorf") }
+fn needs_text(alloc: Global, n: u32, count: u32) -> Result<Vec<u8>, NoMemory>
+    ensures { IfOk result (λ text. text.items ≡ needs_text n count) }
 {
     let mut text = Vec::new(alloc);
-    text.extend_from_slice(b"format %w is only for errorf")?;
+    text.extend_from_slice(b"call needs ")?;
+    push_number(alloc, &mut text, n)?;
+    text.extend_from_slice(b" arguments but has ")?;
+    push_number(alloc, &mut text, count)?;
     Ok(text)
 }
 
-/// The text of a fault. `name` is how the argument that has it is spelled.
+fn possible_text(alloc: Global, name: &[u8]) -> Result<Vec<u8>, NoMemory>
+    ensures { IfOk result (λ text. text.items ≡ possible_text name.now) }
+{
+    let mut text = Vec::new(alloc);
+    text.extend_from_slice(b"possible formatting directive in ")?;
+    text.extend_from_slice(name)?;
+    text.extend_from_slice(b" call")?;
+    Ok(text)
+}
+
+/// A text that says nothing of the call.
+fn plain_text(alloc: Global, said: &[u8]) -> Result<Vec<u8>, NoMemory>
+    ensures { IfOk result (λ text. text.items ≡ said.now) }
+{
+    let mut text = Vec::new(alloc);
+    text.extend_from_slice(said)?;
+    Ok(text)
+}
+
+/// The text of a fault. `name` is how the argument that has it, or what is called, is spelled.
 pub fn fault_text(alloc: Global, name: &[u8], fault: Fault) -> Result<Vec<u8>, NoMemory>
     ensures { IfOk result (λ text. text.items ≡ fault_text name.now fault) }
 {
@@ -122,7 +144,23 @@ pub fn fault_text(alloc: Global, name: &[u8], fault: Fault) -> Result<Vec<u8>, N
             Ok(text)
         }
         Fault::Errorf => {
-            let text = errorf_text(alloc)?;
+            let text = plain_text(alloc, b"format %w is only for errorf")?;
+            Ok(text)
+        }
+        Fault::NoVerb => {
+            let text = plain_text(alloc, b"format is missing a verb at its end")?;
+            Ok(text)
+        }
+        Fault::BadIndex => {
+            let text = plain_text(alloc, b"format has a bad argument index")?;
+            Ok(text)
+        }
+        Fault::Needs(n, count) => {
+            let text = needs_text(alloc, n, count)?;
+            Ok(text)
+        }
+        Fault::Possible => {
+            let text = possible_text(alloc, name)?;
             Ok(text)
         }
         Fault::Reads(n, count) => {

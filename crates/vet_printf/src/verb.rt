@@ -39,7 +39,7 @@ pub struct Verb {
 
 // ---- the table
 
-fn is_one_of(verbs: &[u8], verb: char) -> bool
+pub(crate) fn is_one_of(verbs: &[u8], verb: char) -> bool
     ensures { result ≡ is_one_of verbs.now verb }
 {
     for v in verbs {
@@ -160,7 +160,7 @@ pub(crate) fn takes_kind(class: Class, kind: Kind) -> bool
 
 // ---- flags
 
-fn has_flag(flags: u8, weight: u8) -> bool
+pub(crate) fn has_flag(flags: u8, weight: u8) -> bool
     requires { 0 < weight }
     ensures { result ≡ has_flag flags weight }
 {

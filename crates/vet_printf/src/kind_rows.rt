@@ -1,0 +1,117 @@
+//! In which ways what nodes name prints.
+ghost use Rattle.std.specs.Prelude.{◌≡◌, ◌≤◌, ◌^◌, IfOk};
+ghost use Rattle.findings.specs.Passes.{unit_in, marks_in, IsPass};
+ghost use Rattle.vet_printf.specs.Items.{prints, kinds_of_member, IsKindsCell, AreKindsCells, AreKindsRow, AreKindsRows};
+ghost use Rattle.vet_printf.specs.Knowing.{IsKnown};
+
+use crate::kinds::kinds_number;
+use crate::known::{Known, is_given, own_place};
+use crate::printing::{Printing, is_marked};
+use crate::spreads::node_count;
+use fact_codec::WrapKind;
+use findings::Pass;
+use gv_base::NoMemory;
+use member_names::{Named, named_at};
+use std::alloc::Global;
+
+fn prints(
+    p: &Pass,
+    known: &Known<'_, '_>,
+    kind: WrapKind,
+    flags: &[bool],
+    m: &Named,
+) -> Result<bool, NoMemory>
+    requires { IsKnown (unit_in p.now) (marks_in p.now) known.now }
+    ensures { IfOk result (λ b. b ≡ prints known.now (unit_in p.now) kind flags.now m.now.path.items m.now.name.items) }
+{
+    let given = is_given(p, known, kind, m)?;
+    let own = is_marked(flags, own_place(p, known, m));
+    Ok(given || own)
+}
+
+fn kinds_of_member(p: &Pass, known: &Known<'_, '_>, x: &Printing, m: &Named) -> Result<u8, NoMemory>
+    requires { IsKnown (unit_in p.now) (marks_in p.now) known.now }
+    ensures { IfOk result (λ c. c ≡ kinds_of_member known.now (unit_in p.now) x.now m.now.path.items m.now.name.items) }
+{
+    let print = prints(p, known, WrapKind::Print, &x.print, m)?;
+    let printf = prints(p, known, WrapKind::Printf, &x.printf, m)?;
+    let errorf = prints(p, known, WrapKind::Errorf, &x.errorf, m)?;
+    Ok(kinds_number(print, printf, errorf))
+}
+
+fn kinds_at(
+    alloc: Global,
+    p: &Pass,
+    known: &Known<'_, '_>,
+    x: &Printing,
+    file: u32,
+    n: u32,
+) -> Result<u8, NoMemory>
+    requires pass { IsPass p.now }
+    requires known { IsKnown (unit_in p.now) (marks_in p.now) known.now }
+    ensures { IfOk result (IsKindsCell known.now (unit_in p.now) (marks_in p.now) x.now file n) }
+{
+    let named = named_at(alloc, p, file, n)?;
+    match named {
+        Some(m) => {
+            let kinds = kinds_of_member(p, known, x, &m)?;
+            Ok(kinds)
+        }
+        None => Ok(0),
+    }
+}
+
+fn kinds_to(
+    alloc: Global,
+    p: &Pass,
+    known: &Known<'_, '_>,
+    x: &Printing,
+    file: u32,
+    end: usize,
+) -> Result<Vec<u8>, NoMemory>
+    requires pass { IsPass p.now }
+    requires known { IsKnown (unit_in p.now) (marks_in p.now) known.now }
+    requires small { end ≤ 2 ^ 32 }
+    ensures { IfOk result (λ row. AreKindsCells known.now (unit_in p.now) (marks_in p.now) x.now file end row.items) }
+{
+    let mut row = Vec::new(alloc);
+    for n in 0..end {
+        let one = kinds_at(alloc, p, known, x, file, n as u32)?;
+        row.push(one)?;
+    }
+    Ok(row)
+}
+
+fn kinds_row(
+    alloc: Global,
+    p: &Pass,
+    known: &Known<'_, '_>,
+    x: &Printing,
+    file: u32,
+) -> Result<Vec<u8>, NoMemory>
+    requires pass { IsPass p.now }
+    requires known { IsKnown (unit_in p.now) (marks_in p.now) known.now }
+    ensures { IfOk result (AreKindsRow known.now (unit_in p.now) (marks_in p.now) x.now file) }
+{
+    let row = kinds_to(alloc, p, known, x, file, node_count(p, file))?;
+    Ok(row)
+}
+
+/// For each node of each file in which ways the function or method that it names prints.
+pub(crate) fn kinds_rows(
+    alloc: Global,
+    p: &Pass,
+    known: &Known<'_, '_>,
+    x: &Printing,
+) -> Result<Vec<Vec<u8>>, NoMemory>
+    requires pass { IsPass p.now }
+    requires known { IsKnown (unit_in p.now) (marks_in p.now) known.now }
+    ensures { IfOk result (λ rows. AreKindsRows known.now (unit_in p.now) (marks_in p.now) x.now rows.items) }
+{
+    let mut rows = Vec::new(alloc);
+    for file in 0..p.subject.trees.len() {
+        let row = kinds_row(alloc, p, known, x, file as u32)?;
+        rows.push(row)?;
+    }
+    Ok(rows)
+}
