@@ -7,6 +7,7 @@ use Rattle.std.proofs.lemmas.List.Elements.{Contains-append_cases, Contains-push
 use Rattle.fix_apply.specs.declared.edits.Fix.{Fix}
 use Rattle.go_tree.specs.declared.tree.Node.{Node}
 use Rattle.go_tree.specs.declared.tree.NodeRef.{NodeRef}
+use Rattle.object_order.specs.Spots.{place}
 use Rattle.package_objects.specs.Declares.{gather, part}
 use Rattle.typed_marks.specs.declared.item.Item.{Item}
 use Rattle.typed_marks.specs.Meanings.{Meaning}
@@ -17,7 +18,7 @@ use Rattle.analysis_core.specs.declared.analyzer_name.AnalyzerName.TheVariants a
 use Rattle.analysis_core.specs.declared.diagnostic.Diagnostic.{Diagnostic}
 use Rattle.findings.specs.Reported.{AreFindings}
 use Rattle.vet_words.specs.Diagnosing.{diagnosed, diagnosed_at}
-use Rattle.vet_words.specs.Forms.{is_plain_call}
+use Rattle.vet_words.specs.Forms.{bare, is_plain_call}
 use Rattle.vet_words.specs.Marked.{calls_type, is_conversion}
 use Rattle.vet_words.specs.Quiet.{is_quiet}
 use Rattle.vet_words.specs.Texts.{is_same}
@@ -28,7 +29,11 @@ use Rattle.vet_simple.specs.NilFunctions.{IsNilCompared}
 use Rattle.vet_simple.specs.RuneTexts.{rune_edits, rune_fix, rune_found, rune_operand, rune_callee, rune_parts, rune_text, rune_texts, to_text, of_integer, gives_rune, goes_into_rune, IsRuneText}
 use Rattle.vet_simple.specs.StructTags.{is_struct, fault_at, name_fault, nth_fault, field_count, field_faults, node_faults, part_faults, tag_faults, IsTagFault}
 use Rattle.vet_simple.specs.Unused.{IsUnused}
+use Rattle.handed_facts.specs.Handed.{Named}
 use Rattle.vet_locks.specs.CopyLocks.{IsLockCopy}
+use Rattle.vet_printf.specs.declared.ways.Way.{Way}
+use Rattle.vet_printf.specs.declared.ways.Way.TheVariants as way
+use Rattle.vet_printf.specs.Calls.{param_count, way_of, IsWayFound, IsPrintFault}
 use Rattle.vet_flow.specs.Unreachable.{IsUnreachable}
 use Rattle.vet_suite.specs.Suite.{FoundOf, FoundIf, FoundBy}
 
@@ -173,6 +178,17 @@ module _ (u : Unit) (P : Diagnostic → Type 0) where
   locks_each : HoldsOf u a.CopyLocks P → (marks : Item → Meaning) (at : NodeRef) (node : Node) (d : Diagnostic) → IsLockCopy u marks at node d → P d
   locks_each holds marks at node d (i, low, (s, e, (lock, told))) = plain_at a.CopyLocks holds at.file s.node _ d told
 
+  -- ---- printf
+
+  way_each : HoldsOf u a.Printf P → (marks : Item → Meaning) (f n : ℕ) (node : Node) (callee count : ℕ) (w : Way) (d : Diagnostic) → slice_get (nodes_at u f) n ≡ Some node → IsWayFound u marks f node callee count w d → P d
+  way_each holds marks f n node callee count (way.Format errorf) d there (text, t, (fault, is, e)) = subst P (sym e) (holds.plain f n _ node there)
+  way_each holds marks f n node callee count way.Plain d there (text, t, (read, reads, possible, e)) = subst P (sym e) (holds.plain f n _ node there)
+  way_each holds marks f n node callee count way.Silent d there of = absurd of
+
+  calls_each : HoldsOf u a.Printf P → (kinds : NodeRef → ℕ) (marks : Item → Meaning) (at : NodeRef) (node : Node) (d : Diagnostic) → node_at u at ≡ Some node → IsPrintFault kinds u marks at node d → P d
+  calls_each holds kinds marks at node d there (call, (callee, p, (x, k, found))) =
+      way_each holds marks at.file at.node node callee (param_count x.of) (way_of (kinds (place at.file (bare (nodes_at u at.file) callee)))) d there found
+
   -- ---- all of them
 
   -- exactly what is reported
@@ -183,25 +199,25 @@ module _ (u : Unit) (P : Diagnostic → Type 0) where
   empty_each : (found : List Diagnostic) → found ≡ [] → Each found
   empty_each found e d there = none d (subst (λ (l : List Diagnostic). Contains l d) e there)
 
-  named_each : (name : AnalyzerName) → HoldsOf u name P → (marks : Item → Meaning) (paths : List (List ℕ)) (found : List Diagnostic) → FoundOf name u marks paths found → Each found
-  named_each a.Assign holds marks paths found is = found_each IsSelfAssigned marks found is (λ at node d there of. assign_each holds marks at node there d of)
-  named_each a.Bools holds marks paths found is = found_each bools.IsBoolFound marks found is (λ at node d there of. bools_each holds marks at node d of)
-  named_each a.CopyLocks holds marks paths found is = found_each IsLockCopy marks found is (λ at node d there of. locks_each holds marks at node d of)
-  named_each a.CtrlFlow holds marks paths found is = empty_each found is
-  named_each a.NilFunc holds marks paths found is = found_each IsNilCompared marks found is (λ at node d there of. nil_each holds marks at node d there of)
-  named_each a.Printf holds marks paths found is = empty_each found is
-  named_each a.StringIntConv holds marks paths found is = found_each (IsRuneText is.free) marks found is.are (λ at node d there of. rune_each holds is.free marks at node there d of)
-  named_each a.StructTag holds marks paths found is = found_each (IsTagFault paths) marks found is (λ at node d there of. tags_each holds paths marks at node d of)
-  named_each a.Unreachable holds marks paths found is = found_each IsUnreachable marks found is (λ at node d there of. dead_each holds marks at node d there of)
-  named_each a.UnusedResult holds marks paths found is = found_each IsUnused marks found is (λ at node d there of. unused_each holds marks at node d there of)
+  named_each : (name : AnalyzerName) → HoldsOf u name P → (marks : Item → Meaning) (paths : List (List ℕ)) (given : List Named) (found : List Diagnostic) → FoundOf name u marks paths given found → Each found
+  named_each a.Assign holds marks paths given found is = found_each IsSelfAssigned marks found is (λ at node d there of. assign_each holds marks at node there d of)
+  named_each a.Bools holds marks paths given found is = found_each bools.IsBoolFound marks found is (λ at node d there of. bools_each holds marks at node d of)
+  named_each a.CopyLocks holds marks paths given found is = found_each IsLockCopy marks found is (λ at node d there of. locks_each holds marks at node d of)
+  named_each a.CtrlFlow holds marks paths given found is = empty_each found is
+  named_each a.NilFunc holds marks paths given found is = found_each IsNilCompared marks found is (λ at node d there of. nil_each holds marks at node d there of)
+  named_each a.Printf holds marks paths given found is = found_each (IsPrintFault is.kinds) marks found is.are (λ at node d there of. calls_each holds is.kinds marks at node d there of)
+  named_each a.StringIntConv holds marks paths given found is = found_each (IsRuneText is.free) marks found is.are (λ at node d there of. rune_each holds is.free marks at node there d of)
+  named_each a.StructTag holds marks paths given found is = found_each (IsTagFault paths) marks found is (λ at node d there of. tags_each holds paths marks at node d of)
+  named_each a.Unreachable holds marks paths given found is = found_each IsUnreachable marks found is (λ at node d there of. dead_each holds marks at node d there of)
+  named_each a.UnusedResult holds marks paths given found is = found_each IsUnused marks found is (λ at node d there of. unused_each holds marks at node d there of)
 
-  if_each : (o : Option AnalyzerName) → ((name : AnalyzerName) → o ≡ Some name → HoldsOf u name P) → (marks : Item → Meaning) (paths : List (List ℕ)) (found : List Diagnostic) → FoundIf o u marks paths found → Each found
-  if_each None holds marks paths found is = empty_each found is
-  if_each (Some name) holds marks paths found is = named_each name (holds name refl) marks paths found is
+  if_each : (o : Option AnalyzerName) → ((name : AnalyzerName) → o ≡ Some name → HoldsOf u name P) → (marks : Item → Meaning) (paths : List (List ℕ)) (given : List Named) (found : List Diagnostic) → FoundIf o u marks paths given found → Each found
+  if_each None holds marks paths given found is = empty_each found is
+  if_each (Some name) holds marks paths given found is = named_each name (holds name refl) marks paths given found is
 
-  pub each_of : (number : ℕ) → ((name : AnalyzerName) → analyzer_numbered number ≡ Some name → HoldsOf u name P) → (marks : Item → Meaning) (paths : List (List ℕ)) (found : List Diagnostic) → FoundBy number u marks paths found → Each found
+  pub each_of : (number : ℕ) → ((name : AnalyzerName) → analyzer_numbered number ≡ Some name → HoldsOf u name P) → (marks : Item → Meaning) (paths : List (List ℕ)) (given : List Named) (found : List Diagnostic) → FoundBy number u marks paths given found → Each found
   unfolding FoundBy
-  each_of number holds marks paths found is = if_each (analyzer_numbered number) holds marks paths found is
+  each_of number holds marks paths given found is = if_each (analyzer_numbered number) holds marks paths given found is
 
 -- of all of a list, place by place
 pub all_of : (P : Diagnostic → Type 0) (found : List Diagnostic) → ((d : Diagnostic) → Contains found d → P d) → All P found

@@ -9,12 +9,31 @@ use Rattle.go_tree.specs.declared.tree.Node.{Node}
 use Rattle.go_tree.specs.declared.tree.NodeRef.{NodeRef}
 use Rattle.unit_read.specs.Subjects.{flag}
 use Rattle.unit_read.specs.Units.{Unit, node_at, nodes_of}
+use Rattle.std.specs.List.{Contains}
+use Rattle.typed_marks.specs.declared.item.Item.{Item}
+use Rattle.typed_marks.specs.Meanings.{Meaning}
+use Rattle.analysis_core.specs.declared.diagnostic.Diagnostic.{Diagnostic}
+use Rattle.findings.specs.Reported.{IsReported, AreFindings}
+use Rattle.vet_simple.specs.RuneTexts.{rune_texts, IsRuneText}
 use Rattle.bind.specs.Answers.{AreSpelled}
 use Rattle.bind.specs.Denoting.{IsUndeclared}
 use Rattle.bind.specs.Sources.{Source, Sources, AreFiles}
 use Rattle.bind.specs.Undeclared.{AreUndeclared}
 use Rattle.vet_flow.specs.Unreachable.{AreTreesSpelled}
 use Rattle.vet_suite.specs.Free.{path_of, text_of, AreSourcesOf, IsFree, AreGiven}
+
+-- where nothing is reported, nothing is of any node
+pub none_found : (u : Unit) (marks : Item → Meaning) (free : NodeRef → Bool) (found : List Diagnostic) → AreFindings (IsRuneText free) u marks found → found ≡ [] → (at : NodeRef) (node : Node) → node_at u at ≡ Some node
+    → rune_texts free u marks at node ≡ []
+none_found u marks free found are empty at node there = by (rune_texts free u marks at node) refl where
+  none_in : (d : Diagnostic) → Contains {X = Diagnostic} [] d → ⊥
+  none_in d (k, low, e) = omega (arith, low)
+
+  by : (ds : List Diagnostic) → rune_texts free u marks at node ≡ ds → rune_texts free u marks at node ≡ []
+  by [] e = e
+  by (d ∷ ds) e =
+      let reported : IsReported (IsRuneText free) u marks d = record { at = at; node = node; stands = there; is = subst (λ (l : List Diagnostic). Contains l d) (sym e) (0, omega arith, refl) } in
+      absurd (none_in d (subst (λ (l : List Diagnostic). Contains l d) empty (are.every d reported)))
 
 abbrev File : Type 0
 File = List ℕ × List ℕ
@@ -69,9 +88,9 @@ node_in u at node there = by (slice_get u.trees at.file) refl there where
   by (Some t) e is = (t, e, within t.nodes at.node node is)
 
 -- the rows of a call say where the name is free
-pub rows_free : (u : Unit) (files named : List File) (name : List ℕ) (rows : List (Vec Bool)) → AreGiven u files named
+pub rows_free : (u : Unit) (files named facts : List File) (name : List ℕ) (rows : List (Vec Bool)) → AreGiven u files named facts
     → ((p : Sources) → p.named ≡ named → AreFiles u.trees files p.files → AreUndeclared p name rows) → IsFree (map path_of files) u name (flag rows)
-rows_free u files named name rows given bound = record {
+rows_free u files named facts name rows given bound = record {
   sources = record { files = (sources_of u.trees files given.spelled).0; named = named };
   are = record { files = files; paths_are = refl; texts_are = sym given.texts; named = given.named_is; sources = (sources_of u.trees files given.spelled).1 };
   each = λ p are at node there. told p are at node there;
@@ -88,8 +107,8 @@ rows_free u files named name rows given bound = record {
 -- ---- trees
 
 -- the text of each tree spells it
-pub trees_spelled : (u : Unit) (files named : List File) → AreGiven u files named → AreTreesSpelled u
-trees_spelled u files named given f tree there =
+pub trees_spelled : (u : Unit) (files named facts : List File) → AreGiven u files named facts → AreTreesSpelled u
+trees_spelled u files named facts given f tree there =
     let (e, file) = there_at files f (let low = slice_get_within u.trees f tree there in let size = given.spelled.size in omega (arith, low, size)) in
     subst (λ (b : List ℕ). Spelled tree.tokens b tree) (sym (text_there files f e file) ∙ ap (λ (l : List (List ℕ)). slice_index_or l f []) (sym given.texts)) (given.spelled.spelled f tree e there file) where
       there_at : (xs : List File) (i : ℕ) → i < length xs → (x : File) × (slice_get xs i ≡ Some x)

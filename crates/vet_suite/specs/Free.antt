@@ -5,6 +5,7 @@ use Rattle.go_tree.specs.declared.tree.NodeRef.{NodeRef}
 use Rattle.bind.specs.Answers.{AreSpelled}
 use Rattle.bind.specs.Denoting.{IsUndeclared}
 use Rattle.bind.specs.Sources.{Sources, AreFiles}
+use Rattle.handed_facts.specs.Handed.{ArePathsApart}
 use Rattle.package_faces.specs.Faces.{Face}
 use Rattle.unit_read.specs.Units.{Unit, node_at}
 use Rattle.vet_simple.specs.TagSpots.{AreShort}
@@ -34,10 +35,11 @@ pub record IsFree (paths : List (List ℕ)) (u : Unit) (name : List ℕ) (free :
   pub are : AreSourcesOf paths u sources
   pub each : (p : Sources) → AreSourcesOf paths u p → (at : NodeRef) (node : Node) → node_at u at ≡ Some node → (free at ≡ true) ↔ IsUndeclared p at name
 
--- What is handed to the analyzers beside a package: its files, and the path and the name of each package that is known.
-pub record AreGiven (u : Unit) (files named : List (List ℕ × List ℕ)) : Type 0 where
+-- What is handed to the analyzers beside a package: its files, the path and the name of each package that is known, and the path and the facts of those whose facts are read.
+pub record AreGiven (u : Unit) (files named given : List (List ℕ × List ℕ)) : Type 0 where
   pub texts : u.texts ≡ map text_of files
   pub spelled : AreSpelled u.trees files
   pub named_is : named ≡ known_in u.env
   pub few : length u.trees < 2 ^ 32
   pub short : AreShort u.texts
+  pub apart : ArePathsApart given

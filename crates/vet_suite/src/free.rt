@@ -15,11 +15,13 @@ pub fn free_rows(
     pass: &Pass,
     files: &[(Text, Bytes)],
     named: &[(Text, Text)],
+    given: &[(Text, Bytes)],
 ) -> Result<Vec<Vec<bool>>, NoMemory>
     requires pass { IsPass pass.now }
-    requires given { AreGiven (unit_in pass.now) files.now named.now }
+    requires given { AreGiven (unit_in pass.now) files.now named.now given.now }
     ensures { IfOk result (λ free. IsFree (map path_of files.now) (unit_in pass.now) (codes "rune") (flag free.items)) }
 {
+    let _ = given;
     let rows = undeclared(alloc, pass.subject.trees, files, named, b"rune")?;
     Ok(rows)
 }

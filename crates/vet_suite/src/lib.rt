@@ -5,5 +5,5 @@ mod free;
 mod laws;
 mod suite;
 
-pub use laws::{findings_stand, fixes_are_own, one_found};
-pub use suite::run;
+pub use laws::{findings_stand, fixes_are_own, one_facts, one_found};
+pub use suite::{Found, run};

@@ -1,10 +1,12 @@
 //! The analyzers, by their numbers.
-ghost use Rattle.std.specs.Prelude.{◌≡◌, [], IfOk, map};
+ghost use Rattle.std.specs.Prelude.{◌≡◌, ◌↔◌, [], IfOk, IsTrue, map};
 ghost use Rattle.findings.specs.Passes.{unit_in, marks_in, IsPass};
 ghost use Rattle.vet_suite.specs.Free.{path_of, AreGiven};
-ghost use Rattle.vet_suite.specs.Suite.{AreFreeRuneTexts, FoundOf, FoundIf, FoundBy};
+ghost use Rattle.vet_suite.specs.Suite.{AreFreeRuneTexts, FoundOf, FoundIf, FoundBy, no_facts, FactsOf, FactsIf, FactsBy};
 ghost use Rattle.vet_simple.specs.StructTags.{AreTagFaults};
 ghost use Rattle.vet_flow.specs.Unreachable.{AreUnreachable};
+ghost use Rattle.vet_never.specs.Never.{IsNeverText};
+ghost use Rattle.vet_printf.specs.Wraps.{IsWrapsText, ArePrintfFindings};
 
 use crate::free::{free_rows, paths_of};
 use analysis_core::{AnalyzerName, Diagnostic};
@@ -13,6 +15,8 @@ use gv_base::{Bytes, NoMemory, Text};
 use std::alloc::Global;
 use vet_flow::Unreachable;
 use vet_locks::CopyLocks;
+use vet_never::CtrlFlow;
+use vet_printf::Printf;
 use vet_simple::{Assign, Bools, NilFunc, StringIntConv, StructTag, UnusedResult};
 
 fn nothing(alloc: Global) -> Result<Vec<Diagnostic>, NoMemory>
@@ -22,17 +26,30 @@ fn nothing(alloc: Global) -> Result<Vec<Diagnostic>, NoMemory>
     Ok(found)
 }
 
+fn is_empty(found: &Vec<Diagnostic>) -> bool
+    ensures { IsTrue result ↔ (found.now.items ≡ []) }
+{
+    found.is_empty()
+}
+
+/// What `rune` denotes is asked where some integer is converted to a string.
 fn rune_texts(
     alloc: Global,
     pass: &Pass,
     files: &[(Text, Bytes)],
     named: &[(Text, Text)],
+    given: &[(Text, Bytes)],
 ) -> Result<Vec<Diagnostic>, NoMemory>
     requires pass { IsPass pass.now }
-    requires given { AreGiven (unit_in pass.now) files.now named.now }
+    requires given { AreGiven (unit_in pass.now) files.now named.now given.now }
     ensures { IfOk result (λ found. AreFreeRuneTexts (map path_of files.now) (unit_in pass.now) (marks_in pass.now) found.items) }
 {
-    let free = free_rows(alloc, pass, files, named)?;
+    let none = Vec::new(alloc);
+    let first = StringIntConv.run(alloc, pass, &none)?;
+    if is_empty(&first) {
+        return Ok(first);
+    }
+    let free = free_rows(alloc, pass, files, named, given)?;
     let found = StringIntConv.run(alloc, pass, &free)?;
     Ok(found)
 }
@@ -42,12 +59,14 @@ fn tag_faults(
     pass: &Pass,
     files: &[(Text, Bytes)],
     named: &[(Text, Text)],
+    given: &[(Text, Bytes)],
 ) -> Result<Vec<Diagnostic>, NoMemory>
     requires pass { IsPass pass.now }
-    requires given { AreGiven (unit_in pass.now) files.now named.now }
+    requires given { AreGiven (unit_in pass.now) files.now named.now given.now }
     ensures { IfOk result (λ found. AreTagFaults (map path_of files.now) (unit_in pass.now) (marks_in pass.now) found.items) }
 {
     let _ = named;
+    let _ = given;
     let paths = paths_of(alloc, files)?;
     let found = StructTag.run(alloc, pass, &paths)?;
     Ok(found)
@@ -58,14 +77,33 @@ fn dead_code(
     pass: &Pass,
     files: &[(Text, Bytes)],
     named: &[(Text, Text)],
+    given: &[(Text, Bytes)],
 ) -> Result<Vec<Diagnostic>, NoMemory>
     requires pass { IsPass pass.now }
-    requires given { AreGiven (unit_in pass.now) files.now named.now }
+    requires given { AreGiven (unit_in pass.now) files.now named.now given.now }
     ensures { IfOk result (λ found. AreUnreachable (unit_in pass.now) (marks_in pass.now) found.items) }
 {
     let _ = files;
     let _ = named;
+    let _ = given;
     let found = Unreachable.run(alloc, pass)?;
+    Ok(found)
+}
+
+fn print_faults(
+    alloc: Global,
+    pass: &Pass,
+    files: &[(Text, Bytes)],
+    named: &[(Text, Text)],
+    given: &[(Text, Bytes)],
+) -> Result<Vec<Diagnostic>, NoMemory>
+    requires pass { IsPass pass.now }
+    requires given { AreGiven (unit_in pass.now) files.now named.now given.now }
+    ensures { IfOk result (λ found. ArePrintfFindings (unit_in pass.now) (marks_in pass.now) given.now found.items) }
+{
+    let _ = files;
+    let _ = named;
+    let found = Printf.report(alloc, pass, given)?;
     Ok(found)
 }
 
@@ -75,10 +113,11 @@ fn run_named(
     pass: &Pass,
     files: &[(Text, Bytes)],
     named: &[(Text, Text)],
+    given: &[(Text, Bytes)],
 ) -> Result<Vec<Diagnostic>, NoMemory>
     requires pass { IsPass pass.now }
-    requires given { AreGiven (unit_in pass.now) files.now named.now }
-    ensures { IfOk result (λ found. FoundOf name (unit_in pass.now) (marks_in pass.now) (map path_of files.now) found.items) }
+    requires given { AreGiven (unit_in pass.now) files.now named.now given.now }
+    ensures { IfOk result (λ found. FoundOf name (unit_in pass.now) (marks_in pass.now) (map path_of files.now) given.now found.items) }
 {
     match name {
         AnalyzerName::Assign => {
@@ -102,19 +141,19 @@ fn run_named(
             Ok(found)
         }
         AnalyzerName::Printf => {
-            let found = nothing(alloc)?;
+            let found = print_faults(alloc, pass, files, named, given)?;
             Ok(found)
         }
         AnalyzerName::StringIntConv => {
-            let found = rune_texts(alloc, pass, files, named)?;
+            let found = rune_texts(alloc, pass, files, named, given)?;
             Ok(found)
         }
         AnalyzerName::StructTag => {
-            let found = tag_faults(alloc, pass, files, named)?;
+            let found = tag_faults(alloc, pass, files, named, given)?;
             Ok(found)
         }
         AnalyzerName::Unreachable => {
-            let found = dead_code(alloc, pass, files, named)?;
+            let found = dead_code(alloc, pass, files, named, given)?;
             Ok(found)
         }
         AnalyzerName::UnusedResult => {
@@ -130,14 +169,15 @@ fn run_if(
     pass: &Pass,
     files: &[(Text, Bytes)],
     named: &[(Text, Text)],
+    given: &[(Text, Bytes)],
 ) -> Result<Vec<Diagnostic>, NoMemory>
     requires pass { IsPass pass.now }
-    requires given { AreGiven (unit_in pass.now) files.now named.now }
-    ensures { IfOk result (λ found. FoundIf name (unit_in pass.now) (marks_in pass.now) (map path_of files.now) found.items) }
+    requires given { AreGiven (unit_in pass.now) files.now named.now given.now }
+    ensures { IfOk result (λ found. FoundIf name (unit_in pass.now) (marks_in pass.now) (map path_of files.now) given.now found.items) }
 {
     match name {
         Some(name) => {
-            let found = run_named(alloc, name, pass, files, named)?;
+            let found = run_named(alloc, name, pass, files, named, given)?;
             Ok(found)
         }
         None => {
@@ -147,20 +187,161 @@ fn run_if(
     }
 }
 
-/// What the analyzer of a number reports of a package. `files` are the paths and the bytes of its files, and `named` has the path and the
-/// name of each package of its environment. A number that no analyzer has gives nothing, as do analyzers that only say what others need.
-#[tactic(auto, unfolding(crate::specs::Suite::FoundBy))]
+// ---- facts
+
+#[tactic(auto, using(crate::proofs::FactLemmas::no_facts_text))]
+fn no_facts(alloc: Global) -> Result<Vec<u8>, NoMemory>
+    ensures { IfOk result (λ text. text.items ≡ no_facts) }
+{
+    let text = b"0;".to_vec(alloc)?;
+    Ok(text)
+}
+
+fn never_text(
+    alloc: Global,
+    pass: &Pass,
+    files: &[(Text, Bytes)],
+    named: &[(Text, Text)],
+    given: &[(Text, Bytes)],
+) -> Result<Vec<u8>, NoMemory>
+    requires pass { IsPass pass.now }
+    requires given { AreGiven (unit_in pass.now) files.now named.now given.now }
+    ensures { IfOk result (λ text. IsNeverText (unit_in pass.now) (marks_in pass.now) given.now text.items) }
+{
+    let _ = files;
+    let _ = named;
+    let text = CtrlFlow.run(alloc, pass, given)?;
+    Ok(text)
+}
+
+fn wraps_text(
+    alloc: Global,
+    pass: &Pass,
+    files: &[(Text, Bytes)],
+    named: &[(Text, Text)],
+    given: &[(Text, Bytes)],
+) -> Result<Vec<u8>, NoMemory>
+    requires pass { IsPass pass.now }
+    requires given { AreGiven (unit_in pass.now) files.now named.now given.now }
+    ensures { IfOk result (λ text. IsWrapsText (unit_in pass.now) (marks_in pass.now) given.now text.items) }
+{
+    let _ = files;
+    let _ = named;
+    let text = Printf.facts(alloc, pass, given)?;
+    Ok(text)
+}
+
+fn facts_named(
+    alloc: Global,
+    name: AnalyzerName,
+    pass: &Pass,
+    files: &[(Text, Bytes)],
+    named: &[(Text, Text)],
+    given: &[(Text, Bytes)],
+) -> Result<Vec<u8>, NoMemory>
+    requires pass { IsPass pass.now }
+    requires given { AreGiven (unit_in pass.now) files.now named.now given.now }
+    ensures { IfOk result (λ text. FactsOf name (unit_in pass.now) (marks_in pass.now) given.now text.items) }
+{
+    match name {
+        AnalyzerName::Assign => {
+            let text = no_facts(alloc)?;
+            Ok(text)
+        }
+        AnalyzerName::Bools => {
+            let text = no_facts(alloc)?;
+            Ok(text)
+        }
+        AnalyzerName::CopyLocks => {
+            let text = no_facts(alloc)?;
+            Ok(text)
+        }
+        AnalyzerName::CtrlFlow => {
+            let text = never_text(alloc, pass, files, named, given)?;
+            Ok(text)
+        }
+        AnalyzerName::NilFunc => {
+            let text = no_facts(alloc)?;
+            Ok(text)
+        }
+        AnalyzerName::Printf => {
+            let text = wraps_text(alloc, pass, files, named, given)?;
+            Ok(text)
+        }
+        AnalyzerName::StringIntConv => {
+            let text = no_facts(alloc)?;
+            Ok(text)
+        }
+        AnalyzerName::StructTag => {
+            let text = no_facts(alloc)?;
+            Ok(text)
+        }
+        AnalyzerName::Unreachable => {
+            let text = no_facts(alloc)?;
+            Ok(text)
+        }
+        AnalyzerName::UnusedResult => {
+            let text = no_facts(alloc)?;
+            Ok(text)
+        }
+    }
+}
+
+fn facts_if(
+    alloc: Global,
+    name: Option<AnalyzerName>,
+    pass: &Pass,
+    files: &[(Text, Bytes)],
+    named: &[(Text, Text)],
+    given: &[(Text, Bytes)],
+) -> Result<Vec<u8>, NoMemory>
+    requires pass { IsPass pass.now }
+    requires given { AreGiven (unit_in pass.now) files.now named.now given.now }
+    ensures { IfOk result (λ text. FactsIf name (unit_in pass.now) (marks_in pass.now) given.now text.items) }
+{
+    match name {
+        Some(name) => {
+            let text = facts_named(alloc, name, pass, files, named, given)?;
+            Ok(text)
+        }
+        None => {
+            let text = no_facts(alloc)?;
+            Ok(text)
+        }
+    }
+}
+
+// ---- both
+
+/// What an analyzer reports, and its facts as their text.
+#[derive(Drop)]
+pub struct Found {
+    pub found: Vec<Diagnostic>,
+    pub facts: Bytes,
+}
+
+/// What the analyzer of a number reports of a package, and its facts. `files` are the paths and the bytes of its files, `named` has the path and the
+/// name of each package of its environment, and `given` the path and the facts of each package whose facts the analyzer reads. A number that no
+/// analyzer has gives nothing.
+#[tactic(auto, unfolding(crate::specs::Suite::FoundBy, crate::specs::Suite::FactsBy))]
 pub fn run(
     alloc: Global,
     number: u8,
     pass: &Pass,
     files: &[(Text, Bytes)],
     named: &[(Text, Text)],
-) -> Result<Vec<Diagnostic>, NoMemory>
+    given: &[(Text, Bytes)],
+) -> Result<Found, NoMemory>
     requires pass { IsPass pass.now }
-    requires given { AreGiven (unit_in pass.now) files.now named.now }
-    ensures { IfOk result (λ found. FoundBy number (unit_in pass.now) (marks_in pass.now) (map path_of files.now) found.items) }
+    requires given { AreGiven (unit_in pass.now) files.now named.now given.now }
+    ensures found { IfOk result (λ f. FoundBy number (unit_in pass.now) (marks_in pass.now) (map path_of files.now) given.now f.found.items) }
+    ensures facts { IfOk result (λ f. FactsBy number (unit_in pass.now) (marks_in pass.now) given.now f.facts) }
 {
-    let found = run_if(alloc, AnalyzerName::of_number(number), pass, files, named)?;
-    Ok(found)
+    let name = AnalyzerName::of_number(number);
+    let found = run_if(alloc, name, pass, files, named, given)?;
+    let facts = facts_if(alloc, name, pass, files, named, given)?;
+    Ok(Found {
+        found,
+        facts: Bytes::new(facts),
+    })
 }

@@ -13,4 +13,4 @@ pub undeclared-requires-clause-few : goal.undeclared-requires-clause-few
 undeclared-requires-clause-few c = c.requires.given.few
 
 pub returns : goal.returns
-returns c = rows_free (unit_in c.args.pass.now) c.args.files.now c.args.named.now (codes "rune") c.in_ok-rows.rows.items c.requires.given c.in_ok-rows.ensures
+returns c = rows_free (unit_in c.args.pass.now) c.args.files.now c.args.named.now c.args.given.now (codes "rune") c.in_ok-rows.rows.items c.requires.given c.in_ok-rows.ensures

@@ -3,4 +3,4 @@ use Rattle.vet_suite.proofs.FreeLemmas.{trees_spelled}
 use Rattle.vet_suite.proofs.suite.dead_code.Goals as goal
 
 pub run-requires-clause-spelled : goal.run-requires-clause-spelled
-run-requires-clause-spelled c = trees_spelled (unit_in c.args.pass.now) c.args.files.now c.args.named.now c.requires.given
+run-requires-clause-spelled c = trees_spelled (unit_in c.args.pass.now) c.args.files.now c.args.named.now c.args.given.now c.requires.given
