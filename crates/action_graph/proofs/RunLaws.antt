@@ -17,8 +17,8 @@ use Rattle.analysis_core.specs.Findings.{AreFindings, diagnostic_text}
 use Rattle.analysis_core.proofs.FindingLemmas.{spelled_is_read}
 use Rattle.std.proofs.lemmas.Option.{same_Some}
 use Rattle.vet_suite.specs.Free.{path_of}
-use Rattle.vet_suite.specs.Suite.{FoundBy}
-use Rattle.vet_suite.proofs.OneLemmas.{one_by}
+use Rattle.vet_suite.specs.Suite.{FactsBy, FoundBy}
+use Rattle.vet_suite.proofs.OneLemmas.{one_by, one_facts}
 use Rattle.vet_suite.specs.Standing.{NodesStand, Stands}
 use Rattle.std.proofs.lemmas.List.Elements.{All-weaker}
 use Rattle.action_graph.specs.Standing.{AllFound, IsFoundBy}
@@ -34,7 +34,7 @@ use Rattle.action_graph.proofs.OneFinding.{one-package, package-spelled}
 use Rattle.action_graph.proofs.JudgingLaws.{faces_once}
 use Rattle.action_graph.proofs.NodeStanding.{nodes-stand, stands-so}
 
-module _ (a : ℕ) (p : Package) (env : Env) (spelled : AreSpelled p.trees p.files) (x y f g : List ℕ) (one : IsAnalyzed a p env x f) (other : IsAnalyzed a p env y g) where
+module _ (a : ℕ) (p : Package) (env : Env) (given : List Named) (spelled : AreSpelled p.trees p.files) (x y f g : List ℕ) (one : IsAnalyzed a p env given x f) (other : IsAnalyzed a p env given y g) where
   unit-is : one.comes.unit ≡ other.comes.unit
   unit-is = the_unit p env one.comes.unit other.comes.unit one.comes.is other.comes.is spelled
 
@@ -44,18 +44,23 @@ module _ (a : ℕ) (p : Package) (env : Env) (spelled : AreSpelled p.trees p.fil
   marks-are : one.marks ≡ other.marks
   marks-are = fun_ext (other.annotated.alone one.marks first.is)
 
-  found-here : FoundBy a other.comes.unit other.marks (map path_of p.files) one.found
+  found-here : FoundBy a other.comes.unit other.marks (map path_of p.files) given one.found
   found-here =
-      subst (λ (m : Item → Meaning). FoundBy a other.comes.unit m (map path_of p.files) one.found) marks-are
-      (subst (λ (u : Unit). FoundBy a u one.marks (map path_of p.files) one.found) unit-is one.right)
+      subst (λ (m : Item → Meaning). FoundBy a other.comes.unit m (map path_of p.files) given one.found) marks-are
+      (subst (λ (u : Unit). FoundBy a u one.marks (map path_of p.files) given one.found) unit-is one.right)
 
   found-is : one.found ≡ other.found
-  found-is = one_by other.comes.unit other.marks a (map path_of p.files) one.found other.found found-here other.right
+  found-is = one_by other.comes.unit other.marks a (map path_of p.files) given one.found other.found found-here other.right
+
+  facts-here : FactsBy a other.comes.unit other.marks given f
+  facts-here =
+      subst (λ (m : Item → Meaning). FactsBy a other.comes.unit m given f) marks-are
+      (subst (λ (u : Unit). FactsBy a u one.marks given f) unit-is one.facts_are)
 
   analyzed_once : (x ≡ y) × (f ≡ g)
   analyzed_once = (
     one.spelled.whole ∙ (ap (λ (ds : List Diagnostic). items diagnostic_text ds) found-is ∙ sym other.spelled.whole),
-    one.facts_are ∙ sym other.facts_are,
+    one_facts other.comes.unit other.marks a given f g facts-here other.facts_are,
   )
 
 -- there is one finding
@@ -63,8 +68,8 @@ pub analyzes_once : (analyzer : ℕ) (path : List ℕ) (files : List Named) (env
     → Analyzes analyzer path files env given a f → Analyzes analyzer path files env given b g → (a ≡ b) × (f ≡ g)
 unfolding Analyzes
 analyzes_once analyzer path files env given a b f g (p, (of, is)) (q, (of2, is2)) =
-    analyzed_once analyzer q env (package-spelled path files q of2) a b f g
-    (subst (λ (x : Package). IsAnalyzed analyzer x env a f) (one-package path files p q of of2) is) is2
+    analyzed_once analyzer q env given (package-spelled path files q of2) a b f g
+    (subst (λ (x : Package). IsAnalyzed analyzer x env given a f) (one-package path files p q of of2) is) is2
 
 pub run_outcome_once : (run : RunInput) (a b : List ℕ) → IsRunOutcome run a → IsRunOutcome run b → a ≡ b
 run_outcome_once run a b h g =
@@ -128,12 +133,12 @@ unfolding Analyzes
 findings-there a path files env given findings facts (p, (of, is)) = (is.found, is.spelled)
 
 -- what is found stands in the files: the law is that of the analyzers
-pub found-stand : ((number : ℕ) (u : Unit) (marks : Item → Meaning) (paths : List (List ℕ)) (found : List Diagnostic) → NodesStand u → FoundBy number u marks paths found → All (Stands u number) found)
+pub found-stand : ((number : ℕ) (u : Unit) (marks : Item → Meaning) (paths : List (List ℕ)) (given : List Named) (found : List Diagnostic) → NodesStand u → FoundBy number u marks paths given found → All (Stands u number) found)
     → (a : ℕ) (path : List ℕ) (files : List Named) (env : Env) (given : List Named) (findings facts : List ℕ) (ds : List Diagnostic) → IsAnalyzer a → Analyzes a path files env given findings facts → AreFindings ds findings
     → AllFound files a ds
 unfolding Analyzes
 found-stand law a path files env given findings facts ds number (p, (of, is)) spelled =
     let same : is.found ≡ ds = same_Some is.found ds (sym (spelled_is_read findings is.found is.spelled) ∙ spelled_is_read findings ds spelled) in
     let u = is.comes.unit in
-    let stand : All (Stands u a) is.found = law a u is.marks (map path_of p.files) is.found (nodes-stand path files p env u of is.comes.is) is.right in
+    let stand : All (Stands u a) is.found = law a u is.marks (map path_of p.files) given is.found (nodes-stand path files p env u of is.comes.is) is.right in
     subst (λ (l : List Diagnostic). AllFound files a l) same (All-weaker (Stands u a) (IsFoundBy files a) (stands-so path files p env u of is.comes.is a number) is.found stand)

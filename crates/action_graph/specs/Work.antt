@@ -33,14 +33,14 @@ has_facts a = if a == 4 then true else a == 6
 abbrev pub IsChosen : ℕ → ℕ → Type 0
 IsChosen only a = only / 2 ^ a % 2 ≡ 1
 
--- the analyzers that are there so far
+-- the analyzers that are there: all that have a name
 abbrev pub is_there : AnalyzerName → Bool
 is_there analyzer.Assign = true
 is_there analyzer.Bools = true
 is_there analyzer.CopyLocks = true
-is_there analyzer.CtrlFlow = false
+is_there analyzer.CtrlFlow = true
 is_there analyzer.NilFunc = true
-is_there analyzer.Printf = false
+is_there analyzer.Printf = true
 is_there analyzer.StringIntConv = true
 is_there analyzer.StructTag = true
 is_there analyzer.Unreachable = true

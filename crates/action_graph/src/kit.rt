@@ -1,8 +1,7 @@
 //! What types packages, and runs analyzers over them.
-ghost use Rattle.std.specs.Prelude.{◌≡◌, ◌+◌, ◌<◌, ◌^◌, ℕ, Err, IfOk, OnOk, OnErr};
+ghost use Rattle.std.specs.Prelude.{◌≡◌, ◌+◌, ◌<◌, ◌^◌, ℕ, Err, IfOk, OnOk, OnErr, length};
 ghost use Rattle.action_graph.specs.Judging.{IfAccepted, IsLawful, IsOutcome, IsStuck, load_text};
-ghost use Rattle.action_graph.specs.Analyzing.{IsRunLawful, IsRunOutcome};
-ghost use Rattle.action_graph.specs.Outcomes.{run_text};
+ghost use Rattle.action_graph.specs.Analyzing.{AreGivenOnce, AreRunOutcomes};
 
 use gv_base::{Bytes, NoMemory, Row, Text};
 
@@ -24,6 +23,15 @@ pub struct RunInput {
     pub analyzer: u8,
     /// What the load of its package reads.
     pub load: LoadInput,
+    /// The path and the fact text of each package whose facts are read, by path.
+    pub facts: Row<(Text, Bytes)>,
+}
+
+/// What the run of an analyzer reads beside the load of its package.
+#[derive(Drop)]
+pub struct RunOf {
+    /// The analyzer's number.
+    pub analyzer: u8,
     /// The path and the fact text of each package whose facts are read, by path.
     pub facts: Row<(Text, Bytes)>,
 }
@@ -114,15 +122,23 @@ pub trait Kit {
         ensures refused { OnErr result (loads self.new ≡ loads self.old) }
         ensures runs { runs self.new ≡ runs self.old };
 
-    /// Runs an analyzer over a package that was loaded. What comes of it is by the input alone.
-    fn analyze(&mut self, loaded: &Self::Loaded, input: &RunInput) -> Result<RunOutcome, NoMemory>
-        requires runs { runs self.old < 2 ^ 63 }
+    /// Runs analyzers over a package that was loaded, and answers what comes of each, in turn. That is by the inputs alone. It answers all of
+    /// them or, for want of memory, none.
+    fn analyze(
+        &mut self,
+        loaded: &Self::Loaded,
+        load: &LoadInput,
+        asked: &[RunOf],
+    ) -> Result<Vec<RunOutcome>, NoMemory>
+        requires runs { runs self.old + length asked.now < 2 ^ 63 }
         requires holds { holds self.old }
-        requires is_of { is_of loaded.now input.now.load }
+        requires is_of { is_of loaded.now load.now }
         requires keeps { keeps loaded.now }
+        requires apart { AreGivenOnce asked.now }
         ensures holds { holds self.new }
-        ensures right { IsRunLawful input.now → IfOk result (λ outcome. IsRunOutcome input.now (run_text outcome)) }
-        ensures counted { OnOk result (runs self.new ≡ runs self.old + 1) }
+        ensures size { IfOk result (λ outcomes. length outcomes.items ≡ length asked.now) }
+        ensures right { IfOk result (λ outcomes. AreRunOutcomes load.now asked.now outcomes.items) }
+        ensures counted { OnOk result (runs self.new ≡ runs self.old + length asked.now) }
         ensures refused { OnErr result (runs self.new ≡ runs self.old) }
         ensures loads { loads self.new ≡ loads self.old };
 

@@ -11,7 +11,7 @@ mod texts;
 mod work;
 
 pub use choose::ready;
-pub use kit::{Kit, Load, LoadInput, RunInput, RunOutcome, Unloaded};
+pub use kit::{Kit, Load, LoadInput, RunInput, RunOf, RunOutcome, Unloaded};
 pub use laws::{
     findings_stand, marks_stand, one_finding, one_load_input, one_marks_text, one_outcome,
     one_run_input, one_run_outcome, outcome_is_read,

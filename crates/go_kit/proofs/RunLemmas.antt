@@ -1,6 +1,9 @@
 -- What an analyzer reads of a package that was loaded, and what comes of its run.
-use Rattle.std.proofs.Common.{◌≡◌, ℕ, zero, suc, ◌<◌, ◌≤◌, ◌^◌, List, [], ◌∷◌, length, map, slice_get, slice_index_or, refl, sym, ap, ◌∙◌, subst, arith}
+use Rattle.std.proofs.Common.{◌≡◌, ℕ, zero, suc, ◌+◌, ◌<◌, ◌≤◌, ◌^◌, inl, inr, Some, List, [], ◌∷◌, ◌++◌, length, map, slice_get, slice_index_or, refl, sym, ap, ◌∙◌, subst, arith}
 use Rattle.std.proofs.Math.Path.{fun_ext}
+use Rattle.std.proofs.lemmas.List.{length_push}
+use Rattle.std.proofs.lemmas.Option.{same_Some, slice_get-get_or, slice_get_within}
+use Rattle.gv_base.proofs.Lists.{push_cases}
 use Rattle.go_rules.specs.Stages.{rule}
 use Rattle.go_tree.specs.Bindings.{AreInOrder}
 use Rattle.go_tree.specs.declared.tree.FileTree.{FileTree}
@@ -20,20 +23,20 @@ use Rattle.check_pkg.specs.Packages.{IsUnit, Package, known_of, package_of}
 use Rattle.check_pkg.specs.Typings.{IsOneAnnotation, IsTyped, marks_of, unit_by}
 use Rattle.check_pkg.proofs.OneUnit.{the_unit}
 use Rattle.check_pkg.proofs.TypedLaws.{typed_scene, typed_unit}
-use Rattle.analysis_core.specs.declared.diagnostic.Diagnostic.{Diagnostic}
-use Rattle.analysis_core.specs.Findings.{AreFindings}
+use Rattle.handed_facts.specs.Handed.{ArePathsApart}
 use Rattle.vet_suite.specs.Free.{path_of, AreGiven}
-use Rattle.vet_suite.specs.Suite.{FoundBy}
+use Rattle.vet_suite.specs.Suite.{FactsBy, FoundBy}
 use Rattle.action_graph.specs.declared.kit.LoadInput.{LoadInput}
-use Rattle.action_graph.specs.declared.kit.RunInput.{RunInput}
-use Rattle.action_graph.specs.Analyzing.{Analyzes, no_facts, IsRunOutcome}
+use Rattle.action_graph.specs.declared.kit.RunOf.{RunOf}
+use Rattle.action_graph.specs.declared.kit.RunOutcome.{RunOutcome}
+use Rattle.action_graph.specs.Analyzing.{Analyzes, AreRunOutcomes, run_of, IsRunOutcome}
 use Rattle.action_graph.specs.Judging.{Env, text_of}
 use Rattle.action_graph.specs.Nodes.{Named}
-use Rattle.action_graph.specs.Outcomes.{outcome_text}
+use Rattle.action_graph.specs.Outcomes.{run_text}
 use Rattle.action_graph.proofs.JudgingLaws.{faces_once}
 use Rattle.action_graph.proofs.OneFinding.{one-package}
 use Rattle.go_kit.specs.declared.loaded.Loaded.{Loaded}
-use Rattle.go_kit.specs.Loading.{IsAcceptedOf, IsFindingsText, IsLoadOf, faces_over, unit_loaded}
+use Rattle.go_kit.specs.Loading.{AreOutcomesIn, IsAcceptedOf, IsLoadOf, IsOutcomeIn, faces_over, unit_loaded}
 use Rattle.go_kit.specs.Reading.{AreFilesOf}
 use Rattle.go_kit.proofs.LoadLemmas.{few-trees, files-small, files-spelled, package-is}
 
@@ -89,44 +92,74 @@ module _ (l : Loaded) (input : LoadInput) (of : IsLoadOf l input) where
       typed_scene rule own-unit l.typed typed s read (same ∙ unit-is) (subst (λ (terms : List Term). Extends terms (terms_in l.typed.state.table)) (sym types) (extends-itself (terms_in l.typed.state.table)))
 
   -- what is handed on beside the package
-  pub given-of : (u : Unit) (files named : List Named) → u ≡ unit_loaded l input → files ≡ input.files → named ≡ known_of (faces_over l) → AreGiven u files named
-  given-of u files named same here known = subst (λ (v : Unit). AreGiven v files named) (sym same) (record {
+  pub given-of : (u : Unit) (files named given : List Named) → u ≡ unit_loaded l input → files ≡ input.files → named ≡ known_of (faces_over l) → ArePathsApart given → AreGiven u files named given
+  given-of u files named given same here known once = subst (λ (v : Unit). AreGiven v files named given) (sym same) (record {
     texts = ap (map text_of) (sym here);
     spelled = files-spelled files input.files l.trees.items here of.files;
     named_is = known;
     few = few-files;
     short = short-at (map text_of input.files) l.trees.items of.files;
+    apart = once;
   })
 
-  -- what comes of the run of an analyzer
-  pub run-outcome : (run : RunInput) (findings facts : List ℕ) → run.load ≡ input → IsFindingsText run.analyzer (unit_loaded l input) (marks_of l.typed) (map path_of input.files) findings → facts ≡ no_facts
-      → IsRunOutcome run (outcome_text findings facts)
+  -- what comes of a run
+  pub run-outcome : (r : RunOf) (o : RunOutcome) → IsOutcomeIn r (unit_loaded l input) (marks_of l.typed) (map path_of input.files) o → IsRunOutcome (run_of input r) (run_text o)
   unfolding Analyzes
-  run-outcome run findings facts same (found, right, spelled) none =
-      subst (λ (load : LoadInput). IsRunOutcome (record { analyzer = run.analyzer; load = load; facts = run.facts }) (outcome_text findings facts)) (sym same) (record {
-        env = faces_over l;
-        findings = findings;
-        facts = facts;
-        faces = of.typed.faces;
-        analyzes = (
-          package_of input.path input.files l.trees.items,
-          (
-            package-is input.path input.files l.trees.items of.files,
-            record {
-              checked = accepted.checked;
-              comes = accepted.comes;
-              none = accepted.none;
-              marks = marks_of l.typed;
-              annotated = typed.annotated;
-              found = found;
-              right = subst (λ (u : Unit). FoundBy run.analyzer u (marks_of l.typed) (map path_of input.files) found) unit-is right;
-              spelled = spelled;
-              facts_are = none;
-            },
-          ),
-        );
-        tells = refl;
-      })
+  run-outcome r o x = record {
+    env = faces_over l;
+    findings = o.findings;
+    facts = o.facts;
+    faces = of.typed.faces;
+    analyzes = (
+      package_of input.path input.files l.trees.items,
+      (
+        package-is input.path input.files l.trees.items of.files,
+        record {
+          checked = accepted.checked;
+          comes = accepted.comes;
+          none = accepted.none;
+          marks = marks_of l.typed;
+          annotated = typed.annotated;
+          found = x.findings.0;
+          right = subst (λ (u : Unit). FoundBy r.analyzer u (marks_of l.typed) (map path_of input.files) r.facts x.findings.0) unit-is x.findings.1;
+          spelled = x.findings.2;
+          facts_are = subst (λ (u : Unit). FactsBy r.analyzer u (marks_of l.typed) r.facts o.facts) unit-is x.facts;
+        },
+      ),
+    );
+    tells = refl;
+  }
+
+  pub run-outcomes : (asked : List RunOf) (outcomes : List RunOutcome) → AreOutcomesIn (unit_loaded l input) (marks_of l.typed) (map path_of input.files) asked outcomes → AreRunOutcomes input asked outcomes
+  run-outcomes asked outcomes each k r o at there lawful = run-outcome r o (each k r o at there)
+
+-- ---- runs in turn
+
+-- what comes of the first few
+pub record AreFirst (u : Unit) (marks : Item → Meaning) (paths : List (List ℕ)) (asked : List RunOf) (n : ℕ) (outcomes : List RunOutcome) : Type 0 where
+  pub size : length outcomes ≡ n
+  pub each : AreOutcomesIn u marks paths asked outcomes
+
+module _ (u : Unit) (marks : Item → Meaning) (paths : List (List ℕ)) (asked : List RunOf) where
+  nothing-at : (outcomes : List RunOutcome) (k : ℕ) (o : RunOutcome) → outcomes ≡ [] → slice_get outcomes k ≡ Some o → ⊥
+  nothing-at outcomes k o none there = let low : k < 0 = slice_get_within [] k o (ap (λ (l : List RunOutcome). slice_get l k) (sym none) ∙ there) in omega (arith, low)
+
+  pub outcomes-none : (outcomes : List RunOutcome) → outcomes ≡ [] → AreFirst u marks paths asked 0 outcomes
+  outcomes-none outcomes none = record { size = ap (λ (l : List RunOutcome). length l) none; each = λ k r o at there. absurd (nothing-at outcomes k o none there) }
+
+  pub outcomes-more : (n : ℕ) (r : RunOf) (outcomes new : List RunOutcome) (o : RunOutcome) → r ≡ slice_index_or asked n r → n < length asked → AreFirst u marks paths asked n outcomes → IsOutcomeIn r u marks paths o
+      → new ≡ outcomes ++ o ∷ [] → AreFirst u marks paths asked (n + 1) new
+  outcomes-more n r outcomes new o item low first here pushed = subst (λ (l : List RunOutcome). AreFirst u marks paths asked (n + 1) l) (sym pushed) (record {
+    size = length_push outcomes o ∙ ap (λ (m : ℕ). m + 1) first.size;
+    each = λ k x y at there. elim (push_cases outcomes o y k there) [
+      | inl before ↦ first.each k x y at before
+      | inr last ↦
+          let place : k ≡ n = last.0 ∙ first.size in
+          let mine : slice_get asked n ≡ Some r = slice_get-get_or asked n r low ∙ ap Some (sym item) in
+          let asks : r ≡ x = same_Some r x (sym mine ∙ (ap (λ (m : ℕ). slice_get asked m) (sym place) ∙ at)) in
+          subst (λ (z : RunOutcome). IsOutcomeIn x u marks paths z) last.1 (subst (λ (z : RunOf). IsOutcomeIn z u marks paths o) asks here)
+    ];
+  })
 
 -- ---- however a package was loaded
 

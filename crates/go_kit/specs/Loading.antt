@@ -1,5 +1,5 @@
 -- A package as it is loaded, and what an analyzer finds of it.
-use Rattle.std.specs.Prelude.{◌≡◌, ℕ, ◌<◌, ◌^◌, List, [], length, map, Option, Some, None}
+use Rattle.std.specs.Prelude.{◌≡◌, ℕ, ◌<◌, ◌^◌, List, [], length, map, Option, Some, None, slice_get}
 use Rattle.go_rules.specs.Stages.{rule}
 use Rattle.go_tree.specs.declared.tree.FileTree.{FileTree}
 use Rattle.package_faces.specs.declared.interface.Interface.{Interface}
@@ -18,10 +18,12 @@ use Rattle.check_pkg.specs.Packages.{Package, package_of}
 use Rattle.check_pkg.specs.Typings.{unit_by}
 use Rattle.analysis_core.specs.declared.diagnostic.Diagnostic.{Diagnostic}
 use Rattle.analysis_core.specs.Findings.{AreFindings}
-use Rattle.vet_suite.specs.Suite.{FoundBy}
+use Rattle.vet_suite.specs.Suite.{FactsBy, FoundBy}
 use Rattle.action_graph.specs.declared.kit.Load.{Load}
 use Rattle.action_graph.specs.declared.kit.Load.TheVariants.{Accepted, Refused}
 use Rattle.action_graph.specs.declared.kit.LoadInput.{LoadInput}
+use Rattle.action_graph.specs.declared.kit.RunOf.{RunOf}
+use Rattle.action_graph.specs.declared.kit.RunOutcome.{RunOutcome}
 use Rattle.action_graph.specs.Judging.{Env, AreInterfaces, text_of}
 use Rattle.go_kit.specs.declared.loaded.Loaded.{Loaded}
 use Rattle.go_kit.specs.Keeping.{AreKnown}
@@ -68,5 +70,14 @@ abbrev pub unit_loaded : Loaded → LoadInput → Unit
 unit_loaded l input = unit_by input.path (map text_of input.files) l.trees.items (faces_over l) l.typed
 
 -- the text of what an analyzer finds
-abbrev pub IsFindingsText : ℕ → Unit → (Item → Meaning) → List (List ℕ) → List ℕ → Type 0
-IsFindingsText number u marks paths text = (found : List Diagnostic) × FoundBy number u marks paths found × AreFindings found text
+abbrev pub IsFindingsText : RunOf → Unit → (Item → Meaning) → List (List ℕ) → List ℕ → Type 0
+IsFindingsText r u marks paths text = (found : List Diagnostic) × FoundBy r.analyzer u marks paths r.facts found × AreFindings found text
+
+-- what comes of a run over a package with these marks, whose files have these paths
+pub record IsOutcomeIn (r : RunOf) (u : Unit) (marks : Item → Meaning) (paths : List (List ℕ)) (o : RunOutcome) : Type 0 where
+  pub findings : IsFindingsText r u marks paths o.findings
+  pub facts : FactsBy r.analyzer u marks r.facts o.facts
+
+-- and of the runs that are asked for, in turn
+abbrev pub AreOutcomesIn : Unit → (Item → Meaning) → List (List ℕ) → List RunOf → List RunOutcome → Type 0
+AreOutcomesIn u marks paths asked outcomes = (k : ℕ) (r : RunOf) (o : RunOutcome) → slice_get asked k ≡ Some r → slice_get outcomes k ≡ Some o → IsOutcomeIn r u marks paths o

@@ -1,8 +1,7 @@
 //! The kit of packages by the rules of Go.
-ghost use Rattle.std.specs.Prelude.{◌≡◌, ◌+◌, ◌<◌, ◌^◌, Err, IfOk, OnOk, OnErr};
-ghost use Rattle.action_graph.specs.Analyzing.{IsRunOutcome};
+ghost use Rattle.std.specs.Prelude.{◌≡◌, ◌+◌, ◌<◌, ◌^◌, Err, IfOk, OnOk, OnErr, length};
+ghost use Rattle.action_graph.specs.Analyzing.{AreGivenOnce, AreRunOutcomes};
 ghost use Rattle.action_graph.specs.Judging.{IfAccepted, IsLawful, IsReadable, IsOutcome, IsStuck, load_text};
-ghost use Rattle.action_graph.specs.Outcomes.{run_text};
 ghost use Rattle.go_kit.specs.Keeping.{IsStore};
 ghost use Rattle.go_kit.specs.Loading.{IsKeeping, IsLoadOf};
 ghost use Rattle.go_kit.specs.Reading.{IsUnread, RefusesUnmarked};
@@ -12,7 +11,7 @@ use crate::kept::Kept;
 use crate::loaded::Loaded;
 use crate::loading::load_package;
 use crate::storing::{chosen, released, stored};
-use action_graph::{Kit, Load, LoadInput, RunInput, RunOutcome, Unloaded};
+use action_graph::{Kit, Load, LoadInput, RunOf, RunOutcome, Unloaded};
 use gv_base::NoMemory;
 use std::alloc::Global;
 
@@ -101,19 +100,26 @@ impl Kit for GoKit {
         Ok(load)
     }
 
-    fn analyze(&mut self, loaded: &Loaded, input: &RunInput) -> Result<RunOutcome, NoMemory>
-        requires runs { self.old.runs < 2 ^ 63 }
+    fn analyze(
+        &mut self,
+        loaded: &Loaded,
+        load: &LoadInput,
+        asked: &[RunOf],
+    ) -> Result<Vec<RunOutcome>, NoMemory>
+        requires runs { self.old.runs + length asked.now < 2 ^ 63 }
         requires holds { IsStore self.old.kept }
-        requires is_of { IsLoadOf loaded.now input.now.load }
+        requires is_of { IsLoadOf loaded.now load.now }
+        requires apart { AreGivenOnce asked.now }
         ensures holds { IsStore self.new.kept }
-        ensures right { IfOk result (λ outcome. IsRunOutcome input.now (run_text outcome)) }
-        ensures counted { OnOk result (self.new.runs ≡ self.old.runs + 1) }
+        ensures size { IfOk result (λ outcomes. length outcomes.items ≡ length asked.now) }
+        ensures right { IfOk result (λ outcomes. AreRunOutcomes load.now asked.now outcomes.items) }
+        ensures counted { OnOk result (self.new.runs ≡ self.old.runs + length asked.now) }
         ensures refused { OnErr result (self.new.runs ≡ self.old.runs) }
         ensures loads { self.new.loads ≡ self.old.loads }
     {
-        let outcome = analyzed(self.alloc, loaded, input)?;
-        self.runs += 1;
-        Ok(outcome)
+        let outcomes = analyzed(self.alloc, loaded, load, asked)?;
+        self.runs += asked.len() as u64;
+        Ok(outcomes)
     }
 
     fn release(&mut self, loaded: Loaded)

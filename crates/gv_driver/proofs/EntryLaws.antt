@@ -7,7 +7,9 @@ use Rattle.fact_cache.specs.declared.texts.Input.{Input}
 use Rattle.fact_cache.specs.declared.list.Entry.{Entry}
 use Rattle.fact_cache.specs.Caches.{lookup, trimmed}
 use Rattle.action_graph.specs.declared.kit.LoadInput.{LoadInput}
-use Rattle.action_graph.specs.Analyzing.{IsRunOutcome}
+use Rattle.action_graph.specs.declared.kit.RunInput.{RunInput}
+use Rattle.action_graph.specs.Nodes.{Named}
+use Rattle.action_graph.specs.Analyzing.{IsRunLawful, IsRunOutcome}
 use Rattle.action_graph.specs.Judging.{IsLawful}
 use Rattle.action_graph.specs.Work.{IsAnalyzer}
 use Rattle.gv_driver.specs.declared.tree.PackageTexts.{PackageTexts}
@@ -17,11 +19,13 @@ use Rattle.gv_driver.specs.Analyzers.{analyzers_of}
 use Rattle.gv_driver.specs.Trees.{IsTree}
 use Rattle.gv_driver.specs.Caches.{IsHonest, IsCacheAfter, IsPartKept, input_of, is_cached, left_of, missing_of}
 use Rattle.gv_driver.specs.Entries.{all_entries, entries_in, entry_if, run_entries}
-use Rattle.gv_driver.specs.Loads.{load_input, run_key, run_keys, run_over}
+use Rattle.gv_driver.specs.Loads.{IsRunOf, load_input, run_input, run_key, run_keys, run_over}
 use Rattle.gv_driver.specs.Runs.{CanKeep}
 use Rattle.gv_driver.specs.Tables.{AreLookedUp, IsLookedUp, IsRightNode, IsTable, answer_text, fresh_in, fresh_inputs, fresh_node, fresh_runs, number_in, numbers_in, with_fresh}
 use Rattle.gv_driver.proofs.AnalyzerLaws.{analyzers-rise, are-analyzers}
 use Rattle.gv_driver.proofs.CacheLaws.{honest-append, lookup-append, lookup-others, not-found}
+use Rattle.gv_driver.proofs.FactLaws.{run-of-once}
+use Rattle.gv_driver.proofs.FactsTold.{run-lawful}
 use Rattle.gv_driver.proofs.MissingLaws.{fresh-missing, get-taken}
 use Rattle.gv_driver.proofs.Places.{at-contained, contains-head, contains-tail, get-mapped, get-unmapped, nothing-contained}
 use Rattle.gv_driver.proofs.WholeLaws.{same-number, unique-load}
@@ -112,15 +116,15 @@ distinct-missing cache [] h = tt
 distinct-missing cache (x ∷ xs) h = distinct-if (is_cached cache x) x (missing_of cache xs) (distinct-missing cache xs h.1) (λ c. h.0 (missing-in cache xs x c))
 
 -- the runs of distinct analyzers
-runs-distinct : (load : LoadInput) (ns : List ℕ) → ((j k a b : ℕ) → j < k → slice_get ns j ≡ Some a → slice_get ns k ≡ Some b → a < b) → Distinct (run_keys load ns)
-runs-distinct load [] rises = tt
-runs-distinct load (a ∷ ns) rises = (
+runs-distinct : (given : ℕ → List Named) (load : LoadInput) (ns : List ℕ) → ((j k a b : ℕ) → j < k → slice_get ns j ≡ Some a → slice_get ns k ≡ Some b → a < b) → Distinct (run_keys given load ns)
+runs-distinct given load [] rises = tt
+runs-distinct given load (a ∷ ns) rises = (
   λ c.
-      let h = get-unmapped (run_key load) ns c.0 (run_key load a) (at-contained (run_keys load ns) (run_key load a) c) in
+      let h = get-unmapped (run_key given load) ns c.0 (run_key given load a) (at-contained (run_keys given load ns) (run_key given load a) c) in
       let l : a < h.0 = rises 0 (suc c.0) a h.0 (omega arith) refl h.1 in
       let e : h.0 ≡ a = ap (λ (i : Input). i.node) h.2 in
       omega (arith, l, e),
-  runs-distinct load ns (λ j k x y l h g. rises (suc j) (suc k) x y (omega (arith, l)) h g),
+  runs-distinct given load ns (λ j k x y l h g. rises (suc j) (suc k) x y (omega (arith, l)) h g),
 )
 
 -- the node of p
@@ -130,8 +134,8 @@ pub record IsFrom (tree : List PackageTexts) (p : ℕ) (i : Input) : Type 0 wher
   pub path : get_or i.texts 0 [] ≡ pack.path
 
 module _ (tree : List PackageTexts) (only : ℕ) (before : List Entry) where
-  fresh-is : (p : ℕ) (n : Node) (l : IsLookedUp tree only before p n) → fresh_node n ≡ missing_of before (load_input l.load ∷ run_keys l.load (numbers_in n.runs))
-  fresh-is p n l = ap (λ (o : Option Input). with_fresh o (fresh_runs n.runs)) l.left ∙ (ap (λ (ks : List Input). with_fresh (left_of before (load_input l.load)) ks) l.runs ∙ fresh-missing before (load_input l.load) (run_keys l.load (numbers_in n.runs)))
+  fresh-is : (p : ℕ) (n : Node) (l : IsLookedUp tree only before p n) → fresh_node n ≡ missing_of before (load_input l.load ∷ run_keys l.given l.load (numbers_in n.runs))
+  fresh-is p n l = ap (λ (o : Option Input). with_fresh o (fresh_runs n.runs)) l.left ∙ (ap (λ (ks : List Input). with_fresh (left_of before (load_input l.load)) ks) l.runs ∙ fresh-missing before (load_input l.load) (run_keys l.given l.load (numbers_in n.runs)))
 
   numbers-rise : (p : ℕ) (n : Node) (l : IsLookedUp tree only before p n) → (j k a b : ℕ) → j < k → slice_get (numbers_in n.runs) j ≡ Some a → slice_get (numbers_in n.runs) k ≡ Some b → a < b
   numbers-rise p n l j k a b low h g =
@@ -142,31 +146,31 @@ module _ (tree : List PackageTexts) (only : ℕ) (before : List Entry) where
   number-some : (p : ℕ) (n : Node) (l : IsLookedUp tree only before p n) → (k a : ℕ) → slice_get (numbers_in n.runs) k ≡ Some a → 0 < a
   number-some p n l k a h = ((analyzers-rise only l.pack.stub).each k a (get-taken l.done k (analyzers_of only l.pack.stub) a (subst (λ (ns : List ℕ). slice_get ns k ≡ Some a) l.numbers h))).0
 
-  keys-distinct : (p : ℕ) (n : Node) (l : IsLookedUp tree only before p n) → Distinct (load_input l.load ∷ run_keys l.load (numbers_in n.runs))
+  keys-distinct : (p : ℕ) (n : Node) (l : IsLookedUp tree only before p n) → Distinct (load_input l.load ∷ run_keys l.given l.load (numbers_in n.runs))
   keys-distinct p n l = (
     λ c.
-        let h = get-unmapped (run_key l.load) (numbers_in n.runs) c.0 (load_input l.load) (at-contained (run_keys l.load (numbers_in n.runs)) (load_input l.load) c) in
+        let h = get-unmapped (run_key l.given l.load) (numbers_in n.runs) c.0 (load_input l.load) (at-contained (run_keys l.given l.load (numbers_in n.runs)) (load_input l.load) c) in
         let some : 0 < h.0 = number-some p n l c.0 h.0 h.1 in
         let e : h.0 ≡ 0 = ap (λ (i : Input). i.node) h.2 in
         omega (arith, some, e),
-    runs-distinct l.load (numbers_in n.runs) (numbers-rise p n l),
+    runs-distinct l.given l.load (numbers_in n.runs) (numbers-rise p n l),
   )
 
-  key-from : (p : ℕ) (n : Node) (l : IsLookedUp tree only before p n) (i : Input) → Contains (load_input l.load ∷ run_keys l.load (numbers_in n.runs)) i → IsFrom tree p i
+  key-from : (p : ℕ) (n : Node) (l : IsLookedUp tree only before p n) (i : Input) → Contains (load_input l.load ∷ run_keys l.given l.load (numbers_in n.runs)) i → IsFrom tree p i
   key-from p n l i (zero, low, e) = record { pack = l.pack; at = l.at; path = ap (λ (j : Input). get_or j.texts 0 []) (sym e) ∙ l.path }
   key-from p n l i (suc k, low, e) =
-      let c : Contains (run_keys l.load (numbers_in n.runs)) i = (k, (let m : suc k < length (load_input l.load ∷ run_keys l.load (numbers_in n.runs)) = low in omega (arith, m)), e) in
-      let h = get-unmapped (run_key l.load) (numbers_in n.runs) k i (at-contained (run_keys l.load (numbers_in n.runs)) i c) in
+      let c : Contains (run_keys l.given l.load (numbers_in n.runs)) i = (k, (let m : suc k < length (load_input l.load ∷ run_keys l.given l.load (numbers_in n.runs)) = low in omega (arith, m)), e) in
+      let h = get-unmapped (run_key l.given l.load) (numbers_in n.runs) k i (at-contained (run_keys l.given l.load (numbers_in n.runs)) i c) in
       record { pack = l.pack; at = l.at; path = ap (λ (j : Input). get_or j.texts 0 []) (sym h.2) ∙ l.path }
 
   fresh-from : (p : ℕ) (n : Node) → IsLookedUp tree only before p n → (i : Input) → Contains (fresh_node n) i → IsFrom tree p i
-  fresh-from p n l i c = key-from p n l i (missing-in before (load_input l.load ∷ run_keys l.load (numbers_in n.runs)) i (subst (λ (ks : List Input). Contains ks i) (fresh-is p n l) c))
+  fresh-from p n l i c = key-from p n l i (missing-in before (load_input l.load ∷ run_keys l.given l.load (numbers_in n.runs)) i (subst (λ (ks : List Input). Contains ks i) (fresh-is p n l) c))
 
   fresh-not : (p : ℕ) (n : Node) → IsLookedUp tree only before p n → (i : Input) → Contains (fresh_node n) i → is_cached before i ≡ false
-  fresh-not p n l i c = missing-not before (load_input l.load ∷ run_keys l.load (numbers_in n.runs)) i (subst (λ (ks : List Input). Contains ks i) (fresh-is p n l) c)
+  fresh-not p n l i c = missing-not before (load_input l.load ∷ run_keys l.given l.load (numbers_in n.runs)) i (subst (λ (ks : List Input). Contains ks i) (fresh-is p n l) c)
 
   node-distinct : (p : ℕ) (n : Node) → IsLookedUp tree only before p n → Distinct (fresh_node n)
-  node-distinct p n l = subst Distinct (sym (fresh-is p n l)) (distinct-missing before (load_input l.load ∷ run_keys l.load (numbers_in n.runs)) (keys-distinct p n l))
+  node-distinct p n l = subst Distinct (sym (fresh-is p n l)) (distinct-missing before (load_input l.load ∷ run_keys l.given l.load (numbers_in n.runs)) (keys-distinct p n l))
 
   -- the table from a place on
   abbrev AreFrom : ℕ → List (Option Node) → Type 0
@@ -232,57 +236,60 @@ module _ (tree : List PackageTexts) (only : ℕ) (before : List Entry) where
       let key : i ≡ load_input r.load = sym is ∙ ap load_input same in
       (inl (ap (λ (k : Input). k.node) key, record { load = r.load; is = ap (λ (k : Input). k.texts) key; lawful = r.lawful; outcome = r.outcome }), tt)
 
-  run-entry : (load : LoadInput) (r : RunNode) → IsLawful load → IsAnalyzer r.analyzer → r.fresh ≡ left_of before (run_key load r.analyzer) → IsRunOutcome (run_over r.analyzer load) r.outcome
-      → (o : Option Input) → r.fresh ≡ o → IsHonest (entry_if o r.outcome)
-  run-entry load r lawful number left outcome None e = tt
-  run-entry load r lawful number left outcome (Some i) e =
-      let is : run_key load r.analyzer ≡ i = (left-some (is_cached before (run_key load r.analyzer)) (run_key load r.analyzer) i (sym left ∙ e)).1 in
-      let node : r.analyzer ≡ i.node = ap (λ (k : Input). k.node) is in
-      let some : 0 < r.analyzer = number.0 in (
-        inr (
-          omega (arith, node, some),
-          record {
-            run = run_over r.analyzer load;
-            of = node;
-            is = ap (λ (k : Input). k.texts) (sym is);
-            lawful = record { load = lawful; number = number; named = tt };
-            outcome = outcome;
-          },
-        ),
-        tt,
-      )
+  -- a run, what it was looked up by, and what came of it
+  record IsEntered (r : RunNode) : Type 0 where
+    run : RunInput
+    analyzer : run.analyzer ≡ r.analyzer
+    lawful : IsRunLawful run
+    left : r.fresh ≡ left_of before (run_input run)
+    outcome : IsRunOutcome run r.outcome
 
-  run-all : (load : LoadInput) (runs : List RunNode) → IsLawful load → ((k : ℕ) (r : RunNode) → slice_get runs k ≡ Some r → IsAnalyzer r.analyzer)
-      → ((k : ℕ) (r : RunNode) → slice_get runs k ≡ Some r → r.fresh ≡ left_of before (run_key load r.analyzer)) → ((k : ℕ) (r : RunNode) → slice_get runs k ≡ Some r → IsRunOutcome (run_over r.analyzer load) r.outcome)
-      → IsHonest (run_entries runs)
-  run-all load [] lawful numbers left outcomes = tt
-  run-all load (r ∷ runs) lawful numbers left outcomes =
-      honest-append (entry_if r.fresh r.outcome) (run_entries runs)
-      (run-entry load r lawful (numbers 0 r refl) (left 0 r refl) (outcomes 0 r refl) r.fresh refl)
-      (run-all load runs lawful (λ k. numbers (suc k)) (λ k. left (suc k)) (λ k. outcomes (suc k)))
+  run-entry : (r : RunNode) (is : IsEntered r) (o : Option Input) → r.fresh ≡ o → IsHonest (entry_if o r.outcome)
+  run-entry r is None e = tt
+  run-entry r is (Some i) e =
+      let key : run_input is.run ≡ i = (left-some (is_cached before (run_input is.run)) (run_input is.run) i (sym is.left ∙ e)).1 in
+      let node : is.run.analyzer ≡ i.node = ap (λ (k : Input). k.node) key in
+      let some : 0 < is.run.analyzer = is.lawful.number.0 in
+      (inr (omega (arith, node, some), record { run = is.run; of = node; is = ap (λ (k : Input). k.texts) (sym key); lawful = is.lawful; outcome = is.outcome }), tt)
+
+  run-all : (runs : List RunNode) → ((k : ℕ) (r : RunNode) → slice_get runs k ≡ Some r → IsEntered r) → IsHonest (run_entries runs)
+  run-all [] each = tt
+  run-all (r ∷ runs) each = honest-append (entry_if r.fresh r.outcome) (run_entries runs) (run-entry r (each 0 r refl) r.fresh refl) (run-all runs (λ k. each (suc k)))
 
   number-of : (p : ℕ) (n : Node) (l : IsLookedUp tree only before p n) (k : ℕ) (r : RunNode) → slice_get n.runs k ≡ Some r → IsAnalyzer r.analyzer
   number-of p n l k r h =
       let at : slice_get (numbers_in n.runs) k ≡ Some r.analyzer = get-mapped number_in n.runs k r h in
       are-analyzers only l.pack.stub k r.analyzer (get-taken l.done k (analyzers_of only l.pack.stub) r.analyzer (subst (λ (ns : List ℕ). slice_get ns k ≡ Some r.analyzer) l.numbers at))
 
-  node-entries : (p : ℕ) (n : Node) → IsLookedUp tree only before p n → IsHonest before → IsRightNode tree only p n → IsHonest (entries_in (Some n))
-  node-entries p n l honest r =
-      let same : l.load ≡ r.load = unique-load tree p l.load r.load (l.of honest) r.of in
-      honest-append (entry_if n.fresh (answer_text n.answer)) (run_entries n.runs) (load-entry p n l honest r n.fresh refl)
-      (run-all r.load n.runs r.lawful (number-of p n l) (subst (λ (x : LoadInput). (k : ℕ) (r : RunNode) → slice_get n.runs k ≡ Some r → r.fresh ≡ left_of before (run_key x r.analyzer)) same l.each) r.runs)
+  -- a run of a node that is right
+  entered : IsTree tree → (p : ℕ) (n : Node) (l : IsLookedUp tree only before p n) → IsHonest before → (right : IsRightNode tree only p n) → (k : ℕ) (r : RunNode) → slice_get n.runs k ≡ Some r → IsEntered r
+  entered formed p n l honest right k r h =
+      let mine : IsRunOf tree r.analyzer p (run_over l.given r.analyzer l.load) = record { analyzer = refl; of = l.of honest; given = l.are_given honest k r h } in
+      let other : IsRunOf tree r.analyzer p (run_over right.given r.analyzer right.load) = record { analyzer = refl; of = right.of; given = right.are_given k r h } in
+      let same : run_over l.given r.analyzer l.load ≡ run_over right.given r.analyzer right.load = run-of-once tree r.analyzer p (run_over l.given r.analyzer l.load) (run_over right.given r.analyzer right.load) mine other in
+      record {
+        run = run_over right.given r.analyzer right.load;
+        analyzer = refl;
+        lawful = run-lawful tree r.analyzer p (run_over right.given r.analyzer right.load) formed right.lawful (number-of p n l k r h) other;
+        left = l.each k r h ∙ ap (λ (x : RunInput). left_of before (run_input x)) same;
+        outcome = right.runs k r h;
+      }
+
+  node-entries : IsTree tree → (p : ℕ) (n : Node) → IsLookedUp tree only before p n → IsHonest before → IsRightNode tree only p n → IsHonest (entries_in (Some n))
+  node-entries formed p n l honest r =
+      honest-append (entry_if n.fresh (answer_text n.answer)) (run_entries n.runs) (load-entry p n l honest r n.fresh refl) (run-all n.runs (entered formed p n l honest r))
 
   abbrev AreRightFrom : ℕ → List (Option Node) → Type 0
   AreRightFrom from table = (p : ℕ) (n : Node) → slice_get table p ≡ Some (Some n) → IsRightNode tree only (from + p) n
 
-  all-honest : IsHonest before → (from : ℕ) (table : List (Option Node)) → AreFrom from table → AreRightFrom from table → IsHonest (all_entries table)
-  all-honest honest from [] are right = tt
-  all-honest honest from (None ∷ table) are right =
-      all-honest honest (suc from) table (next-from from None table are) (λ p n h. subst (λ (q : ℕ). IsRightNode tree only q n) (omega arith) (right (suc p) n h))
-  all-honest honest from (Some n ∷ table) are right =
+  all-honest : IsTree tree → IsHonest before → (from : ℕ) (table : List (Option Node)) → AreFrom from table → AreRightFrom from table → IsHonest (all_entries table)
+  all-honest formed honest from [] are right = tt
+  all-honest formed honest from (None ∷ table) are right =
+      all-honest formed honest (suc from) table (next-from from None table are) (λ p n h. subst (λ (q : ℕ). IsRightNode tree only q n) (omega arith) (right (suc p) n h))
+  all-honest formed honest from (Some n ∷ table) are right =
       honest-append (entries_in (Some n)) (all_entries table)
-      (node-entries from n (subst (λ (q : ℕ). IsLookedUp tree only before q n) (omega arith) (are 0 n refl)) honest (subst (λ (q : ℕ). IsRightNode tree only q n) (omega arith) (right 0 n refl)))
-      (all-honest honest (suc from) table (next-from from (Some n) table are) (λ p m h. subst (λ (q : ℕ). IsRightNode tree only q m) (omega arith) (right (suc p) m h)))
+      (node-entries formed from n (subst (λ (q : ℕ). IsLookedUp tree only before q n) (omega arith) (are 0 n refl)) honest (subst (λ (q : ℕ). IsRightNode tree only q n) (omega arith) (right 0 n refl)))
+      (all-honest formed honest (suc from) table (next-from from (Some n) table are) (λ p m h. subst (λ (q : ℕ). IsRightNode tree only q m) (omega arith) (right (suc p) m h)))
 
   -- the entries of a table can be kept
   pub can-keep : (table : List (Option Node)) → IsTree tree → IsTable tree only before table → CanKeep before (all_entries table)
@@ -291,7 +298,7 @@ module _ (tree : List PackageTexts) (only : ℕ) (before : List Entry) where
       record {
         missing = λ k e h. all-not 0 table are e.input (subst (λ (ks : List Input). Contains ks e.input) (all-inputs table) (entry-contained (all_entries table) k e h));
         distinct = once (all_entries table) (subst Distinct (sym (all-inputs table)) (all-distinct formed 0 table are));
-        right = λ honest. all-honest honest 0 table are (λ p n h. subst (λ (q : ℕ). IsRightNode tree only q n) (omega arith) ((is.right honest).node p n h));
+        right = λ honest. all-honest formed honest 0 table are (λ p n h. subst (λ (q : ℕ). IsRightNode tree only q n) (omega arith) ((is.right honest).node p n h));
       }
 
 -- ---- kept

@@ -1,8 +1,7 @@
 -- Where no lawful load and no lawful run is without an outcome, no tree is without verdicts, findings, inputs and a cache.
-use Rattle.std.proofs.Common.{◌≡◌, ℕ, zero, suc, ◌+◌, ◌<◌, ◌≤◌, ◌⊎◌, inl, inr, Bool, true, false, if◌then◌else◌, Option, Some, None, List, [], ◌∷◌, ◌++◌, length, map, slice_get, refl, sym, ap, ◌∙◌, subst, arith}
+use Rattle.std.proofs.Common.{◌≡◌, ℕ, zero, suc, ◌+◌, ◌<◌, ◌≤◌, ◌⊎◌, inl, inr, Bool, true, false, if◌then◌else◌, Some, List, [], ◌∷◌, ◌++◌, length, map, slice_get, refl, sym, ap, ◌∙◌, subst, arith}
 use Rattle.std.specs.List.{Contains}
 use Rattle.std.proofs.lemmas.List.{length-append, length-map}
-use Rattle.std.proofs.lemmas.List.Elements.{Contains-append_left, Contains-push, Contains-push_cases}
 use Rattle.std.proofs.lemmas.Option.{same_Some, slice_get_within}
 use Rattle.package_faces.specs.Faces.{Face}
 use Rattle.analysis_core.specs.declared.diagnostic.Diagnostic.{Diagnostic}
@@ -10,8 +9,8 @@ use Rattle.action_graph.specs.declared.kit.LoadInput.{LoadInput}
 use Rattle.action_graph.specs.Nodes.{Named}
 use Rattle.action_graph.specs.declared.marks.MarkLine.{MarkLine}
 use Rattle.action_graph.specs.Analyzing.{IsRunOutcome}
-use Rattle.action_graph.specs.Judging.{Judged, Env, IsLawful, IsOutcome, Judges, Tells, accepted_text}
-use Rattle.action_graph.specs.Work.{IsAnalyzer}
+use Rattle.action_graph.specs.Judging.{Judged, IsLawful, IsOutcome, Tells, accepted_text}
+use Rattle.action_graph.specs.Work.{IsAnalyzer, has_facts}
 use Rattle.action_graph.specs.Judging.Judged.{Accepts, Refuses}
 use Rattle.fact_cache.specs.declared.texts.Input.{Input}
 use Rattle.fact_cache.specs.declared.list.Entry.{Entry}
@@ -20,138 +19,25 @@ use Rattle.gv_driver.specs.declared.tree.PackageTexts.{PackageTexts}
 use Rattle.gv_driver.specs.declared.reply.Verdict.{Verdict}
 use Rattle.gv_driver.specs.declared.reply.Verdict.TheVariants as verdict
 use Rattle.gv_driver.specs.Trees.{IsTree}
-use Rattle.gv_driver.specs.Whole.{AreRising, IsEnv, Checked}
-use Rattle.gv_driver.specs.Whole.Checked.{checked}
+use Rattle.gv_driver.specs.Whole.{Checked}
 use Rattle.gv_driver.specs.Analyzers.{AreAnalyzers, analyzers_of}
-use Rattle.gv_driver.specs.Loads.{AreExports, IsExport, IsLoadOf, IsInput, IsNodeInput, IsPlan, all_inputs, load_input, run_key, run_keys, run_over}
-use Rattle.gv_driver.specs.Caches.{IsHonest, IsRight, IsCacheAfter, missing_of, is_cached, input_of}
-use Rattle.gv_driver.specs.Reports.{AreFoundOf, HasFound, HasVerdict, IsReport, IsRunReport}
+use Rattle.gv_driver.specs.Facts.{IsGiven}
+use Rattle.gv_driver.specs.Loads.{IsRunOf, IsLoadOf, IsInput, IsNodeInput, all_inputs, load_input, run_key, run_over}
+use Rattle.gv_driver.specs.Caches.{IsHonest, IsRight, missing_of, is_cached, input_of}
+use Rattle.gv_driver.specs.Reports.{AreFactsTold, AreFoundOf, HasFactsTold, HasFound, HasVerdict, fact_givers}
 use Rattle.gv_driver.specs.Existence.{AllHaveOutcomes, AllRunsHaveOutcomes, HasRun}
-use Rattle.gv_driver.proofs.Places.{element, at-contained, contains-head, contains-tail, cons-cases, nothing-contained, get-push_cases, get-unmapped, get-mapped}
-use Rattle.gv_driver.proofs.RowLemmas.{less-or-last, rising-push}
-use Rattle.gv_driver.proofs.AroundLaws.{IsNearby, reach-low, row-env}
+use Rattle.gv_driver.proofs.Places.{element, at-contained, contains-head, contains-tail, get-push_cases, get-unmapped, get-mapped}
 use Rattle.gv_driver.proofs.AnalyzerLaws.{are-analyzers}
+use Rattle.gv_driver.proofs.ExistingFacts.{gives}
+use Rattle.gv_driver.proofs.ExistingLoads.{AreAccepted, HasBlocked, blocked-or, loads}
+use Rattle.gv_driver.proofs.FactsTold.{facts-come, run-lawful}
+use Rattle.gv_driver.proofs.PlanLaws.{unique-node}
 use Rattle.gv_driver.proofs.EntryLaws.{in-append}
 use Rattle.gv_driver.proofs.FindingLaws.{found-there}
 use Rattle.gv_driver.proofs.LawfulLaws.{load-lawful}
-use Rattle.gv_driver.proofs.WholeLaws.{same_pack, opened, shown, unique, judged-of, unique-input, unique-load}
-
--- what holds or doesn't can't be denied
-either : {A : Type 0} → ((A ⊎ (A → ⊥)) → ⊥) → ⊥
-either k = k (inr (λ a. k (inl a)))
-
--- ---- the load of a package
-
--- a package is accepted
-abbrev IsAccepted : List PackageTexts → ℕ → Type 0
-IsAccepted tree q = (i : Face) × Checked tree q (Accepts i)
-
--- these aren't without export texts
-abbrev HaveTexts : List PackageTexts → List ℕ → Env → Type 0
-HaveTexts tree ns faces = ((pairs : List Named) → AreExports tree ns faces pairs → ⊥) → ⊥
-
-no-texts : (tree : List PackageTexts) → AreExports tree [] [] []
-no-texts tree = record { size = refl; each = λ k q f x here seen there. absurd (let l : k < 0 = slice_get_within [] k q here in omega (arith, l)) }
-
-text-more : (tree : List PackageTexts) (n : ℕ) (g : Face) (x : Named) (ns : List ℕ) (faces : Env) (pairs : List Named) → IsExport tree n g x → AreExports tree ns faces pairs → AreExports tree (n ∷ ns) (g ∷ faces) (x ∷ pairs)
-text-more tree n g x ns faces pairs one more = record { size = ap suc more.size; each = λ k q f y here seen there. at k q f y here seen there }
-  where
-    at : (k q : ℕ) (f : Face) (y : Named) → slice_get (n ∷ ns) k ≡ Some q → slice_get (g ∷ faces) k ≡ Some f → slice_get (x ∷ pairs) k ≡ Some y → IsExport tree q f y
-    at zero q f y here seen there =
-        subst (λ (m : ℕ). IsExport tree m f y) (same_Some n q here) (subst (λ (h : Face). IsExport tree n h y) (same_Some g f seen) (subst (IsExport tree n g) (same_Some x y there) one))
-    at (suc k) q f y here seen there = more.each k q f y here seen there
-
-texts-of : (tree : List PackageTexts) (ns : List ℕ) (faces : Env) → length faces ≡ length ns
-    → ((k q : ℕ) (f : Face) → slice_get ns k ≡ Some q → slice_get faces k ≡ Some f → ((x : Named) → IsExport tree q f x → ⊥) → ⊥) → HaveTexts tree ns faces
-texts-of tree [] [] size each none = none [] (no-texts tree)
-texts-of tree [] (g ∷ faces) size each none = absurd (omega (arith, size))
-texts-of tree (n ∷ ns) [] size each none = absurd (omega (arith, size))
-texts-of tree (n ∷ ns) (g ∷ faces) size each none =
-    each 0 n g refl refl (λ x one. texts-of tree ns faces (omega (arith, size)) (λ k q f at seen. each (suc k) q f at seen) (λ pairs more. none (x ∷ pairs) (text-more tree n g x ns faces pairs one more)))
-
--- the numbers below one that have a property aren't without a row
-filtered : (P : ℕ → Type 0) (n : ℕ) → ((row : List ℕ) → AreRising row → ((q : ℕ) → Contains row q → (q < n) × P q) → ((q : ℕ) → q < n → P q → Contains row q) → ⊥) → ⊥
-filtered P zero k = k [] (λ i j q r less at there. cc) (λ q c. absurd (nothing-contained q c)) (λ q low has. absurd (omega (arith, low)))
-filtered P (suc n) k = filtered P n (λ row rising from to. either (λ (cases : P n ⊎ (P n → ⊥)). elim cases [
-  | inl has ↦ k (row ++ n ∷ []) (rising-push row n rising (λ q c. (from q c).0)) (λ q c. elim (Contains-push_cases row n q c) [
-    | inl was ↦ (let low = (from q was).0 in omega (arith, low), (from q was).1)
-    | inr e ↦ (omega (arith, e), subst P e has)
-  ]) (λ q low mine. elim (less-or-last q n low) [
-    | inl l ↦ Contains-append_left row (n ∷ []) q (to q l mine)
-    | inr e ↦ subst (λ (m : ℕ). Contains (row ++ n ∷ []) m) (sym e) (Contains-push row n)
-  ])
-  | inr never ↦ k row rising (λ q c. (let low = (from q c).0 in omega (arith, low), (from q c).1)) (λ q low mine. elim (less-or-last q n low) [
-    | inl l ↦ to q l mine
-    | inr e ↦ absurd (never (subst P e mine))
-  ])
-]))
-
-abbrev load-with : PackageTexts → List Named → LoadInput
-load-with pack pairs = record { path = pack.path; files = pack.files; env = pairs }
-
-is-load : (tree : List PackageTexts) (p : ℕ) (pack : PackageTexts) (numbers : List ℕ) (faces : Env) (pairs : List Named) → slice_get tree p ≡ Some pack → pack.sound ≡ true → IsEnv tree p numbers faces
-    → AreExports tree numbers faces pairs → IsLoadOf tree p (load-with pack pairs)
-is-load tree p pack numbers faces pairs at sound are texts = record { pack = pack; at = at; sound = sound; path = refl; files = refl; numbers = numbers; faces = faces; are = are; env = texts }
+use Rattle.gv_driver.proofs.WholeLaws.{same_pack, shown, unique, judged-of, unique-input}
 
 module _ (outcomes : AllHaveOutcomes) (run_outcomes : AllRunsHaveOutcomes) (tree : List PackageTexts) (only : ℕ) (formed : IsTree tree) where
-  told-text : (p : ℕ) (pack : PackageTexts) (i : Face) (v : Judged) (text : List ℕ) → slice_get tree p ≡ Some pack → Accepts i ≡ v → Tells v text → (x : Named) × IsExport tree p i x
-  told-text p pack i v text at same told =
-      let export = subst (λ (w : Judged). Tells w text) (sym same) told in
-      ((pack.path, export.0), record { other = pack; at = at; path = refl; spelled = export.1 })
-
-  abbrev HasText : ℕ → Face → Type 0
-  HasText q f = ((x : Named) → IsExport tree q f x → ⊥) → ⊥
-
-  text-with : (p : ℕ) (pack : PackageTexts) (i : Face) (numbers : List ℕ) (faces : Env) → slice_get tree p ≡ Some pack → pack.sound ≡ true → IsEnv tree p numbers faces → Checked tree p (Accepts i)
-      → ((k q : ℕ) (f : Face) → slice_get numbers k ≡ Some q → slice_get faces k ≡ Some f → HasText q f) → HasText p i
-  text-with p pack i numbers faces at sound is good texts none =
-      texts-of tree numbers faces is.around.size texts (λ pairs are.
-      let of = is-load tree p pack numbers faces pairs at sound is are in
-      outcomes (load-with pack pairs) (load-lawful tree p (load-with pack pairs) formed of) (λ text outcome.
-      let judged = judged-of tree p (load-with pack pairs) text of outcome in
-      let x = told-text p pack i judged.0 text at (unique tree p (Accepts i) judged.0 good judged.1) judged.2 in
-      none x.0 x.1))
-
-  -- an accepted package isn't without an export text
-  has-text : (p : ℕ) (v : Judged) → Checked tree p v → (i : Face) → v ≡ Accepts i → HasText p i
-  has-text _ _ (checked p pack numbers env v at sound around good judges) i is =
-      text-with p pack i numbers env at sound (record { around = around; good = good }) (subst (Checked tree p) is (checked p pack numbers env v at sound around good judges))
-      (λ k q f here seen. has-text q (Accepts f) (good q f (k, here, seen)) f refl)
-
-  abbrev AreAccepted : List ℕ → Type 0
-  AreAccepted ns = (q : ℕ) → Contains ns q → IsAccepted tree q
-
-  abbrev HasBlocked : List ℕ → Type 0
-  HasBlocked ns = (q : ℕ) × Contains ns q × ((i : Face) → Checked tree q (Accepts i) → ⊥)
-
-  -- one of them isn't accepted, or all of them are
-  blocked-or : (ns : List ℕ) → ((HasBlocked ns ⊎ AreAccepted ns) → ⊥) → ⊥
-  blocked-or [] k = k (inr (λ q c. absurd (nothing-contained q c)))
-  blocked-or (n ∷ ns) k = blocked-or ns (λ (cases : HasBlocked ns ⊎ AreAccepted ns). elim cases [
-    | inl b ↦ k (inl (b.0, contains-tail n b.0 ns b.1, b.2))
-    | inr all ↦ either (λ (known : IsAccepted tree n ⊎ (IsAccepted tree n → ⊥)). elim known [
-      | inl good ↦ k (inr (λ q c. elim (cons-cases n q ns c) [
-        | inl e ↦ subst (IsAccepted tree) e good
-        | inr there ↦ all q there
-      ]))
-      | inr never ↦ k (inl (n, contains-head n ns, λ i c. never (i, c)))
-    ])
-  ])
-
-  near-low : (imports : List ℕ) (q : ℕ) → IsNearby tree imports q → q < length tree
-  near-low imports q n = elim n.4 [
-    | inl e ↦ (let o = opened tree n.0 (Accepts n.1) n.3 in subst (λ (m : ℕ). m < length tree) e (slice_get_within tree n.0 o.pack o.at))
-    | inr r ↦ reach-low tree q n.1 r
-  ]
-
-  -- a package whose imports are accepted isn't without a load
-  loads : (p : ℕ) (pack : PackageTexts) → slice_get tree p ≡ Some pack → pack.sound ≡ true → AreAccepted pack.imports → ((load : LoadInput) → IsLoadOf tree p load → ⊥) → ⊥
-  loads p pack at sound good none =
-      filtered (IsNearby tree pack.imports) (length tree) (λ row rising from to.
-      let env = row-env tree formed p pack at good row rising (λ q c. (from q c).1) (λ q n. to q (near-low pack.imports q n) n) in
-      texts-of tree row env.0 env.1.around.size (λ k q f here seen. has-text q (Accepts f) (env.1.good q f (k, here, seen)) f refl) (λ pairs are.
-      none (load-with pack pairs) (is-load tree p pack row env.0 pairs at sound env.1 are)))
-
   -- ---- one package
 
   -- the outcome of an input
@@ -164,6 +50,8 @@ module _ (outcomes : AllHaveOutcomes) (run_outcomes : AllRunsHaveOutcomes) (tree
     has : HasVerdict tree p told
     found : List Diagnostic
     finds : HasFound tree only p told found
+    facts : List (ℕ × List ℕ)
+    tells : HasFactsTold tree only p told facts
     inputs : List Input
     right : (k : ℕ) (t : Input) → slice_get inputs k ≡ Some t → IsNodeInput tree only p k t × OutcomeAt t
     every : (k : ℕ) (t : Input) → IsNodeInput tree only p k t → slice_get inputs k ≡ Some t
@@ -177,8 +65,8 @@ module _ (outcomes : AllHaveOutcomes) (run_outcomes : AllRunsHaveOutcomes) (tree
   node-load p (suc k) t is = (load_input is.load, record { load = is.load; of = is.of; is = refl })
 
   -- a package without a load
-  unloaded : (p : ℕ) (v : Verdict) → HasVerdict tree p v → HasFound tree only p v [] → ((t : Input) → IsInput tree p t → ⊥) → IsSettled p
-  unloaded p v has nothing never = record { told = v; has = has; found = []; finds = nothing; inputs = []; right = λ k t e. absurd (nothing-at k t e); every = λ k t is. (let s = node-load p k t is in absurd (never s.0 s.1)) }
+  unloaded : (p : ℕ) (v : Verdict) → HasVerdict tree p v → HasFound tree only p v [] → HasFactsTold tree only p v [] → ((t : Input) → IsInput tree p t → ⊥) → IsSettled p
+  unloaded p v has nothing none never = record { told = v; has = has; found = []; finds = nothing; facts = []; tells = none; inputs = []; right = λ k t e. absurd (nothing-at k t e); every = λ k t is. (let s = node-load p k t is in absurd (never s.0 s.1)) }
 
   load-right : (p : ℕ) (load : LoadInput) (text : List ℕ) → IsLawful load → IsOutcome load text → OutcomeAt (load_input load)
   load-right p load text lawful outcome = (text, inl (refl, record { load = load; is = refl; lawful = lawful; outcome = outcome }))
@@ -193,6 +81,8 @@ module _ (outcomes : AllHaveOutcomes) (run_outcomes : AllRunsHaveOutcomes) (tree
     has = is;
     found = [];
     finds = refl;
+    facts = [];
+    tells = refl;
     inputs = load_input load ∷ [];
     right = right;
     every = every;
@@ -206,47 +96,104 @@ module _ (outcomes : AllHaveOutcomes) (run_outcomes : AllRunsHaveOutcomes) (tree
       every zero t n = ap (λ (s : Input). Some s) (load-first p load of t n)
       every (suc k) t n = (let wrong : Refuses marks ≡ Accepts n.face = unique tree p (Refuses marks) (Accepts n.face) is n.good in cc)
 
-  -- the outcome of a run
-  abbrev RunHas : LoadInput → ℕ → Type 0
-  RunHas load a = (text : List ℕ) × IsRunOutcome (run_over a load) text
+  -- the same facts, for every analyzer
+  abbrev same-given : List Named → ℕ → List Named
+  same-given facts a = facts
+
+  -- what the analyzer's run over a package is given, and what comes of it
+  record RunHas (p : ℕ) (load : LoadInput) (of : IsLoadOf tree p load) (a : ℕ) : Type 0 where
+    facts : List Named
+    given : IsGiven tree a of.numbers facts
+    number : IsAnalyzer a
+    text : List ℕ
+    outcome : IsRunOutcome (run_over (same-given facts) a load) text
 
   -- outcomes of the runs of these analyzers
-  abbrev RunsHave : LoadInput → List ℕ → Type 0
-  RunsHave load ns = (k a : ℕ) → slice_get ns k ≡ Some a → RunHas load a
+  abbrev RunsHave : (p : ℕ) (load : LoadInput) → IsLoadOf tree p load → List ℕ → Type 0
+  RunsHave p load of ns = (k a : ℕ) → slice_get ns k ≡ Some a → RunHas p load of a
 
-  run-right : (load : LoadInput) (a : ℕ) (text : List ℕ) → IsLawful load → IsAnalyzer a → IsRunOutcome (run_over a load) text → OutcomeAt (run_key load a)
-  run-right load a text lawful number outcome = (text, inr (number.0, record { run = run_over a load; of = refl; is = refl; lawful = record { load = lawful; number = number; named = tt }; outcome = outcome }))
+  run-is : (p : ℕ) (load : LoadInput) (of : IsLoadOf tree p load) (a : ℕ) (has : RunHas p load of a) → IsRunOf tree a p (run_over (same-given has.facts) a load)
+  run-is p load of a has = record { analyzer = refl; of = of; given = has.given }
 
-  runs-have : (load : LoadInput) (export : List ℕ) (ns : List ℕ) → IsLawful load → IsOutcome load (accepted_text export) → AreAnalyzers ns → (RunsHave load ns → ⊥) → ⊥
-  runs-have load export [] lawful outcome are none = none (λ k a e. absurd (nothing k a e))
+  run-right : (p : ℕ) (load : LoadInput) (of : IsLoadOf tree p load) (a : ℕ) → IsLawful load → (has : RunHas p load of a) → OutcomeAt (run_key (same-given has.facts) load a)
+  run-right p load of a lawful has = (
+    has.text,
+    inr (
+      has.number.0,
+      record {
+        run = run_over (same-given has.facts) a load;
+        of = refl;
+        is = refl;
+        lawful = run-lawful tree a p (run_over (same-given has.facts) a load) formed lawful has.number (run-is p load of a has);
+        outcome = has.outcome;
+      },
+    ),
+  )
+
+  runs-have : (p : ℕ) (load : LoadInput) (of : IsLoadOf tree p load) (export : List ℕ) (ns : List ℕ) → IsLawful load → IsOutcome load (accepted_text export) → AreAnalyzers ns → (RunsHave p load of ns → ⊥) → ⊥
+  runs-have p load of export [] lawful outcome are none = none (λ k a e. absurd (nothing k a e))
     where
       nothing : (k a : ℕ) → slice_get [] k ≡ Some a → ⊥
       nothing zero a e = cc
       nothing (suc k) a e = cc
-  runs-have load export (n ∷ ns) lawful outcome are none =
-      run_outcomes (run_over n load) export (record { load = lawful; number = are 0 n refl; named = tt }) outcome (λ text one.
-      runs-have load export ns lawful outcome (λ k. are (suc k)) (λ rest. none (both (text, one) rest)))
+  runs-have p load of export (n ∷ ns) lawful outcome are none =
+      gives outcomes run_outcomes tree formed n (are 0 n refl) p of.numbers of.faces of.are (λ facts given.
+      run_outcomes (run_over (same-given facts) n load) export (run-lawful tree n p (run_over (same-given facts) n load) formed lawful (are 0 n refl) (record { analyzer = refl; of = of; given = given })) outcome (λ text one.
+      runs-have p load of export ns lawful outcome (λ k. are (suc k)) (λ rest.
+      none (both (record { facts = facts; given = given; number = are 0 n refl; text = text; outcome = one }) rest))))
     where
-      both : RunHas load n → RunsHave load ns → RunsHave load (n ∷ ns)
-      both first rest zero a e = subst (λ (x : ℕ). RunHas load x) (same_Some n a e) first
+      both : RunHas p load of n → RunsHave p load of ns → RunsHave p load of (n ∷ ns)
+      both first rest zero a e = subst (λ (x : ℕ). RunHas p load of x) (same_Some n a e) first
       both first rest (suc k) a e = rest k a e
 
+  -- the inputs of these runs
+  keys-of : (p : ℕ) (load : LoadInput) (of : IsLoadOf tree p load) (ns : List ℕ) → RunsHave p load of ns → List Input
+  keys-of p load of [] have = []
+  keys-of p load of (n ∷ ns) have = run_key (same-given (have 0 n refl).facts) load n ∷ keys-of p load of ns (λ k a e. have (suc k) a e)
+
+  keys-size : (p : ℕ) (load : LoadInput) (of : IsLoadOf tree p load) (ns : List ℕ) (have : RunsHave p load of ns) → length (keys-of p load of ns have) ≡ length ns
+  unfolding keys-of
+  keys-size p load of [] have = refl
+  keys-size p load of (n ∷ ns) have = ap suc (keys-size p load of ns (λ k a e. have (suc k) a e))
+
+  keys-at : (p : ℕ) (load : LoadInput) (of : IsLoadOf tree p load) (ns : List ℕ) (have : RunsHave p load of ns) (k : ℕ) (t : Input) → slice_get (keys-of p load of ns have) k ≡ Some t
+      → (a : ℕ) × (at : slice_get ns k ≡ Some a) × (run_key (same-given (have k a at).facts) load a ≡ t)
+  unfolding keys-of
+  keys-at p load of [] have zero t e = cc
+  keys-at p load of [] have (suc k) t e = cc
+  keys-at p load of (n ∷ ns) have zero t e = (n, refl, same_Some (run_key (same-given (have 0 n refl).facts) load n) t e)
+  keys-at p load of (n ∷ ns) have (suc k) t e = keys-at p load of ns (λ j a g. have (suc j) a g) k t e
+
   -- what these analyzers find
-  runs-find : (p : ℕ) (load : LoadInput) (of : IsLoadOf tree p load) (ns : List ℕ) → RunsHave load ns → (ds : List Diagnostic) × AreFoundOf tree p of.pack ns ds
+  runs-find : (p : ℕ) (load : LoadInput) (of : IsLoadOf tree p load) (ns : List ℕ) → RunsHave p load of ns → (ds : List Diagnostic) × AreFoundOf tree p of.pack ns ds
   runs-find p load of [] have = ([], refl)
   runs-find p load of (n ∷ ns) have =
       let run = have 0 n refl in
-      let mine = found-there tree only p of.pack load of of.at n run.0 run.1 in
+      let mine = found-there tree only p of.pack (same-given run.facts) load of of.at n run.text run.given run.outcome in
       let rest = runs-find p load of ns (λ k a e. have (suc k) a e) in
       (mine.0 ++ rest.0, (mine.0, rest.0, mine.1, rest.1, refl))
 
-  accepted : (p : ℕ) (load : LoadInput) (text : List ℕ) (i : Face) (of : IsLoadOf tree p load) → IsLawful load → IsOutcome load text → Checked tree p (Accepts i) → RunsHave load (analyzers_of only of.pack.stub) → IsSettled p
+  -- and the facts that they give
+  tell-by : (p : ℕ) (load : LoadInput) (of : IsLoadOf tree p load) (n : ℕ) (ns : List ℕ) (b : Bool) → has_facts n ≡ b → RunHas p load of n → (fs : List (ℕ × List ℕ)) × AreFactsTold tree p (fact_givers ns) fs
+      → (fs : List (ℕ × List ℕ)) × AreFactsTold tree p (if b then n ∷ fact_givers ns else fact_givers ns) fs
+  tell-by p load of n ns true has run rest =
+      let text : List ℕ = run.outcome.facts in
+      ((n, text) ∷ rest.0, (text, rest.0, facts-come tree n p (run_over (same-given run.facts) n load) run.text (run-is p load of n run) has run.outcome, rest.1, refl))
+  tell-by p load of n ns false has run rest = rest
+
+  runs-tell : (p : ℕ) (load : LoadInput) (of : IsLoadOf tree p load) (ns : List ℕ) → RunsHave p load of ns → (fs : List (ℕ × List ℕ)) × AreFactsTold tree p (fact_givers ns) fs
+  runs-tell p load of [] have = ([], refl)
+  runs-tell p load of (n ∷ ns) have = tell-by p load of n ns (has_facts n) refl (have 0 n refl) (runs-tell p load of ns (λ k a e. have (suc k) a e))
+
+  accepted : (p : ℕ) (load : LoadInput) (text : List ℕ) (i : Face) (of : IsLoadOf tree p load) → IsLawful load → IsOutcome load text → Checked tree p (Accepts i) → RunsHave p load of (analyzers_of only of.pack.stub) → IsSettled p
   accepted p load text i of lawful outcome is have = record {
     told = verdict.Accepted;
     has = (i, is);
     found = found.0;
     finds = (of.pack, of.at, found.1);
-    inputs = load_input load ∷ run_keys load (analyzers_of only of.pack.stub);
+    facts = facts.0;
+    tells = (of.pack, of.at, facts.1);
+    inputs = load_input load ∷ keys-of p load of (analyzers_of only of.pack.stub) have;
     right = right;
     every = every;
   }
@@ -254,25 +201,29 @@ module _ (outcomes : AllHaveOutcomes) (run_outcomes : AllRunsHaveOutcomes) (tree
       found : (ds : List Diagnostic) × AreFoundOf tree p of.pack (analyzers_of only of.pack.stub) ds
       found = runs-find p load of (analyzers_of only of.pack.stub) have
 
-      right : (k : ℕ) (t : Input) → slice_get (load_input load ∷ run_keys load (analyzers_of only of.pack.stub)) k ≡ Some t → IsNodeInput tree only p k t × OutcomeAt t
+      facts : (fs : List (ℕ × List ℕ)) × AreFactsTold tree p (fact_givers (analyzers_of only of.pack.stub)) fs
+      facts = runs-tell p load of (analyzers_of only of.pack.stub) have
+
+      right : (k : ℕ) (t : Input) → slice_get (load_input load ∷ keys-of p load of (analyzers_of only of.pack.stub) have) k ≡ Some t → IsNodeInput tree only p k t × OutcomeAt t
       right zero t e = subst (λ (s : Input). IsInput tree p s × OutcomeAt s) (same_Some (load_input load) t e) (record { load = load; of = of; is = refl }, load-right p load text lawful outcome)
       right (suc k) t e =
-          let a = get-unmapped (run_key load) (analyzers_of only of.pack.stub) k t e in
+          let a = keys-at p load of (analyzers_of only of.pack.stub) have k t e in
           let run = have k a.0 a.1 in
-          (record { load = load; of = of; face = i; good = is; analyzer = a.0; chosen = a.1; is = sym a.2 }, subst OutcomeAt a.2 (run-right load a.0 run.0 lawful (are-analyzers only of.pack.stub k a.0 a.1) run.1))
+          (record { load = load; of = of; face = i; good = is; analyzer = a.0; chosen = a.1; given = same-given run.facts; are_given = run.given; is = sym a.2 }, subst OutcomeAt a.2 (run-right p load of a.0 lawful run))
 
-      every : (k : ℕ) (t : Input) → IsNodeInput tree only p k t → slice_get (load_input load ∷ run_keys load (analyzers_of only of.pack.stub)) k ≡ Some t
+      every : (k : ℕ) (t : Input) → IsNodeInput tree only p k t → slice_get (load_input load ∷ keys-of p load of (analyzers_of only of.pack.stub) have) k ≡ Some t
       every zero t n = ap (λ (s : Input). Some s) (load-first p load of t n)
       every (suc k) t n =
-          let same : n.load ≡ load = unique-load tree p n.load load n.of of in
           let chosen : slice_get (analyzers_of only of.pack.stub) k ≡ Some n.analyzer = subst (λ (x : PackageTexts). slice_get (analyzers_of only x.stub) k ≡ Some n.analyzer) (same_pack tree p n.of.pack of.pack n.of.at of.at) n.chosen in
-          get-mapped (run_key load) (analyzers_of only of.pack.stub) k n.analyzer chosen
-          ∙ ap (λ (s : Input). Some s) (ap (λ (l : LoadInput). run_key l n.analyzer) (sym same) ∙ sym n.is)
+          let low : k < length (analyzers_of only of.pack.stub) = slice_get_within (analyzers_of only of.pack.stub) k n.analyzer chosen in
+          let long : length (keys-of p load of (analyzers_of only of.pack.stub) have) ≡ length (analyzers_of only of.pack.stub) = keys-size p load of (analyzers_of only of.pack.stub) have in
+          let there = element (keys-of p load of (analyzers_of only of.pack.stub) have) k (omega (arith, low, long)) in
+          there.1 ∙ ap (λ (s : Input). Some s) (unique-node tree only p (suc k) there.0 t (right (suc k) there.0 there.1).0 n)
 
   told-by : (p : ℕ) (load : LoadInput) (text : List ℕ) (of : IsLoadOf tree p load) (v : Judged) → IsLawful load → IsOutcome load text → Checked tree p v → Tells v text → (IsSettled p → ⊥) → ⊥
   told-by p load text of (Refuses marks) lawful outcome is tells k = k (refused p load text marks of lawful outcome is)
   told-by p load text of (Accepts i) lawful outcome is tells k =
-      runs-have load tells.0 (analyzers_of only of.pack.stub) lawful (subst (λ (t : List ℕ). IsOutcome load t) tells.2 outcome) (are-analyzers only of.pack.stub) (λ have.
+      runs-have p load of tells.0 (analyzers_of only of.pack.stub) lawful (subst (λ (t : List ℕ). IsOutcome load t) tells.2 outcome) (are-analyzers only of.pack.stub) (λ have.
       k (accepted p load text i of lawful outcome is have))
 
   settled : (p : ℕ) (pack : PackageTexts) → slice_get tree p ≡ Some pack → (IsSettled p → ⊥) → ⊥
@@ -292,11 +243,11 @@ module _ (outcomes : AllHaveOutcomes) (run_outcomes : AllRunsHaveOutcomes) (tree
           never i.0 (is.of.are.good q i.0 i.1)
 
       by : (b : Bool) → pack.sound ≡ b → ⊥
-      by false never = k (unloaded p verdict.Faulty (pack, at, never) refl (unsound never))
+      by false never = k (unloaded p verdict.Faulty (pack, at, never) refl refl (unsound never))
       by true sound =
-          blocked-or pack.imports (λ (cases : HasBlocked pack.imports ⊎ AreAccepted pack.imports). elim cases [
-            | inl b ↦ k (unloaded p verdict.Blocked (pack, at, sound, (b.0, b.1, b.2)) refl (stopped b.0 b.1 b.2))
-            | inr good ↦ loads p pack at sound good (λ load of.
+          blocked-or outcomes tree formed pack.imports (λ (cases : HasBlocked outcomes tree formed pack.imports ⊎ AreAccepted outcomes tree formed pack.imports). elim cases [
+            | inl b ↦ k (unloaded p verdict.Blocked (pack, at, sound, (b.0, b.1, b.2)) refl refl (stopped b.0 b.1 b.2))
+            | inr good ↦ loads outcomes tree formed p pack at sound good (λ load of.
                 let lawful = load-lawful tree p load formed of in
                 outcomes load lawful (λ text outcome.
                 let judged = judged-of tree p load text of outcome in
@@ -358,9 +309,10 @@ module _ (outcomes : AllHaveOutcomes) (run_outcomes : AllRunsHaveOutcomes) (tree
       let at = in-rows plan t has in
       let found = get-unmapped (λ (r : Row). r.what.inputs) rows at.0 at.2 at.3 in
       (found.0.what.right at.1 t (subst (λ (l : List Input). slice_get l at.1 ≡ Some t) (sym found.2) at.4)).1) in
-      none (map (λ (r : Row). r.what.told) rows) (map (λ (r : Row). r.what.found) rows) plan (trimmed (before ++ added.0))
+      none (map (λ (r : Row). r.what.told) rows) (map (λ (r : Row). r.what.found) rows) (map (λ (r : Row). r.what.facts) rows) plan (trimmed (before ++ added.0))
       (record { size = length-map rows (λ (r : Row). r.what.told) ∙ are.size; each = λ p v at. verdict-at rows are p v at })
       (record { size = length-map rows (λ (r : Row). r.what.found) ∙ are.size; each = λ p v ds at here. found-at rows are p v ds at here })
+      (record { size = length-map rows (λ (r : Row). r.what.facts) ∙ are.size; each = λ p v fs at here. facts-at rows are p v fs at here })
       (record {
         size = length-map rows (λ (r : Row). r.what.inputs) ∙ are.size;
         right = λ p k row t at here. input-at rows are p k row t at here;
@@ -380,6 +332,14 @@ module _ (outcomes : AllHaveOutcomes) (run_outcomes : AllRunsHaveOutcomes) (tree
           let told : found.0.what.told ≡ v = same_Some found.0.what.told v (sym (get-mapped (λ (r : Row). r.what.told) rows p found.0 found.1) ∙ at) in
           subst (λ (n : ℕ). HasFound tree only n v ds) (are.each p found.0 found.1)
           (subst (λ (w : Verdict). HasFound tree only found.0.number w ds) told (subst (HasFound tree only found.0.number found.0.what.told) found.2 found.0.what.finds))
+
+      facts-at : (rows : List Row) → AreRows (length tree) rows → (p : ℕ) (v : Verdict) (fs : List (ℕ × List ℕ)) → slice_get (map (λ (r : Row). r.what.told) rows) p ≡ Some v → slice_get (map (λ (r : Row). r.what.facts) rows) p ≡ Some fs
+          → HasFactsTold tree only p v fs
+      facts-at rows are p v fs at here =
+          let found = get-unmapped (λ (r : Row). r.what.facts) rows p fs here in
+          let told : found.0.what.told ≡ v = same_Some found.0.what.told v (sym (get-mapped (λ (r : Row). r.what.told) rows p found.0 found.1) ∙ at) in
+          subst (λ (n : ℕ). HasFactsTold tree only n v fs) (are.each p found.0 found.1)
+          (subst (λ (w : Verdict). HasFactsTold tree only found.0.number w fs) told (subst (HasFactsTold tree only found.0.number found.0.what.told) found.2 found.0.what.tells))
 
       input-at : (rows : List Row) → AreRows (length tree) rows → (p k : ℕ) (row : List Input) (t : Input) → slice_get (map (λ (r : Row). r.what.inputs) rows) p ≡ Some row → slice_get row k ≡ Some t → IsNodeInput tree only p k t
       input-at rows are p k row t at here =

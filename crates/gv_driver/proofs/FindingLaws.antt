@@ -24,14 +24,15 @@ use Rattle.gv_driver.specs.declared.node.RunNode.{RunNode}
 use Rattle.gv_driver.specs.declared.reply.Verdict.{Verdict}
 use Rattle.gv_driver.specs.declared.reply.Verdict.TheVariants as verdict
 use Rattle.gv_driver.specs.Analyzers.{AreAnalyzers, analyzers_of}
+use Rattle.gv_driver.specs.Facts.{IsGiven}
 use Rattle.gv_driver.specs.Loads.{IsLoadOf, run_over}
 use Rattle.gv_driver.specs.Reports.{AllFoundShown, AreFoundOf, AreFoundShown, AreShown, HasFound, IsAnswerShown, IsFoundOf, IsFoundShown, IsRunReport, IsShown}
 use Rattle.gv_driver.specs.Standing.{AreFoundIn}
 use Rattle.gv_driver.specs.Tables.{AreRight, IsReady, IsRightNode, chosen_if, is_good, number_in, numbers_in, runs_of_node}
-use Rattle.gv_driver.specs.Whole.{Checked}
+use Rattle.gv_driver.specs.Whole.{Checked, HasEnv}
 use Rattle.gv_driver.proofs.AnalyzerLaws.{are-analyzers}
 use Rattle.gv_driver.proofs.Places.{element, get-push_cases}
-use Rattle.gv_driver.proofs.WholeLaws.{env-of, same_pack}
+use Rattle.gv_driver.proofs.WholeLaws.{env-of, one-row, same_pack}
 
 -- ---- over any cache
 
@@ -99,37 +100,52 @@ shown-next files runs i r ds more now l is before one e =
 abbrev pub AllFoundStand : Type 0
 AllFoundStand = (a : ℕ) (path : List ℕ) (files : List Named) (env : Env) (given : List Named) (findings facts : List ℕ) (ds : List Diagnostic) → IsAnalyzer a → Analyzes a path files env given findings facts → AreFindings ds findings → AllFound files a ds
 
-module _ (tree : List PackageTexts) (only p : ℕ) (pack : PackageTexts) (load : LoadInput) (of : IsLoadOf tree p load) (at : slice_get tree p ≡ Some pack) where
+module _ (tree : List PackageTexts) (only p : ℕ) (pack : PackageTexts) (given : ℕ → List Named) (load : LoadInput) (of : IsLoadOf tree p load) (at : slice_get tree p ≡ Some pack) where
   files-are : load.files ≡ pack.files
   files-are = of.files ∙ ap (λ (x : PackageTexts). x.files) (same_pack tree p of.pack pack of.at at)
 
   path-is : load.path ≡ pack.path
   path-is = of.path ∙ ap (λ (x : PackageTexts). x.path) (same_pack tree p of.pack pack of.at at)
 
-  analyzed : (a : ℕ) (text : List ℕ) (out : IsRunOutcome (run_over a load) text) → Analyzes a pack.path pack.files out.env [] out.findings out.facts
+  analyzed : (a : ℕ) (text : List ℕ) (out : IsRunOutcome (run_over given a load) text) → Analyzes a pack.path pack.files out.env (given a) out.findings out.facts
   analyzed a text out =
-      subst (λ (x : List ℕ). Analyzes a x pack.files out.env [] out.findings out.facts) path-is
-      (subst (λ (x : List Named). Analyzes a load.path x out.env [] out.findings out.facts) files-are out.analyzes)
+      subst (λ (x : List ℕ). Analyzes a x pack.files out.env (given a) out.findings out.facts) path-is
+      (subst (λ (x : List Named). Analyzes a load.path x out.env (given a) out.findings out.facts) files-are out.analyzes)
 
   -- some diagnostics are found
-  pub found-there : (a : ℕ) (text : List ℕ) → IsRunOutcome (run_over a load) text → (ds : List Diagnostic) × IsFoundOf tree p a pack ds
-  found-there a text out =
-      let ds = findings-there a pack.path pack.files out.env [] out.findings out.facts (analyzed a text out) in
-      (ds.0, record { env = out.env; faces = env-of tree p load out.env of out.faces; findings = out.findings; facts = out.facts; analyzes = analyzed a text out; spelled = ds.1 })
+  pub found-there : (a : ℕ) (text : List ℕ) → IsGiven tree a of.numbers (given a) → IsRunOutcome (run_over given a load) text → (ds : List Diagnostic) × IsFoundOf tree p a pack ds
+  found-there a text gives out =
+      let ds = findings-there a pack.path pack.files out.env (given a) out.findings out.facts (analyzed a text out) in
+      let faces : HasEnv tree p out.env = env-of tree p load out.env of out.faces in
+      let row : of.numbers ≡ faces.0 = one-row tree p of.numbers faces.0 of.faces out.env of.are faces.1 in (
+        ds.0,
+        record {
+          env = out.env;
+          faces = faces;
+          given = given a;
+          are_given = subst (λ (l : List ℕ). IsGiven tree a l (given a)) row gives;
+          findings = out.findings;
+          facts = out.facts;
+          analyzes = analyzed a text out;
+          spelled = ds.1;
+        },
+      )
 
-  one-found : AllFoundStand → (a : ℕ) (text : List ℕ) (mine : List Diagnostic) → IsAnalyzer a → (out : IsRunOutcome (run_over a load) text) → IsFoundShown pack.files a text mine → IsFoundOf tree p a pack mine
+  one-found : AllFoundStand → (a : ℕ) (text : List ℕ) (mine : List Diagnostic) → IsAnalyzer a → IsGiven tree a of.numbers (given a) → (out : IsRunOutcome (run_over given a load) text) → IsFoundShown pack.files a text mine
+      → IsFoundOf tree p a pack mine
   unfolding found-there
-  one-found law a text mine number out shown =
-      let there = found-there a text out in
-      let stand = law a pack.path pack.files out.env [] out.findings out.facts there.0 number (analyzed a text out) there.1.spelled in
+  one-found law a text mine number gives out shown =
+      let there = found-there a text gives out in
+      let stand = law a pack.path pack.files out.env (given a) out.findings out.facts there.0 number (analyzed a text out) there.1.spelled in
       let same : mine ≡ there.0 = shown.told out.findings out.facts there.0 out.tells there.1.spelled stand in
       subst (IsFoundOf tree p a pack) (sym same) there.1
 
   all-found : AllFoundStand → (runs : List RunNode) (ds : List Diagnostic) → ((k : ℕ) (r : RunNode) → slice_get runs k ≡ Some r → IsAnalyzer r.analyzer)
-      → ((k : ℕ) (r : RunNode) → slice_get runs k ≡ Some r → IsRunOutcome (run_over r.analyzer load) r.outcome) → AreFoundShown pack.files runs ds → AreFoundOf tree p pack (numbers_in runs) ds
-  all-found law [] ds numbers outcomes e = e
-  all-found law (r ∷ runs) ds numbers outcomes (mine, rest, one, more, e) =
-      (mine, rest, one-found law r.analyzer r.outcome mine (numbers 0 r refl) (outcomes 0 r refl) one, all-found law runs rest (λ k. numbers (suc k)) (λ k. outcomes (suc k)) more, e)
+      → ((k : ℕ) (r : RunNode) → slice_get runs k ≡ Some r → IsGiven tree r.analyzer of.numbers (given r.analyzer))
+      → ((k : ℕ) (r : RunNode) → slice_get runs k ≡ Some r → IsRunOutcome (run_over given r.analyzer load) r.outcome) → AreFoundShown pack.files runs ds → AreFoundOf tree p pack (numbers_in runs) ds
+  all-found law [] ds numbers gives outcomes e = e
+  all-found law (r ∷ runs) ds numbers gives outcomes (mine, rest, one, more, e) =
+      (mine, rest, one-found law r.analyzer r.outcome mine (numbers 0 r refl) (gives 0 r refl) (outcomes 0 r refl) one, all-found law runs rest (λ k. numbers (suc k)) (λ k. gives (suc k)) (λ k. outcomes (suc k)) more, e)
 
 shown-nothing : (files : List Named) (runs : List RunNode) (ds : List Diagnostic) → runs ≡ [] → AreFoundShown files runs ds → ds ≡ []
 shown-nothing files [] ds none e = e
@@ -156,7 +172,7 @@ node-found law tree only p pack n (answer.Accepted export) v ds at r is shown fo
     let numbers : numbers_in n.runs ≡ analyzers_of only r.of.pack.stub = r.numbers ∙ ap (λ (x : Answer). chosen_if (is_good x) (analyzers_of only r.of.pack.stub)) is in
     let same : r.of.pack ≡ pack = same_pack tree p r.of.pack pack r.of.at at in
     let mine : numbers_in n.runs ≡ analyzers_of only pack.stub = numbers ∙ ap (λ (x : PackageTexts). analyzers_of only x.stub) same in
-    let all = all-found tree only p pack r.load r.of at law n.runs ds (number-at n.runs (analyzers_of only pack.stub) (are-analyzers only pack.stub) mine) r.runs found in
+    let all = all-found tree only p pack r.given r.load r.of at law n.runs ds (number-at n.runs (analyzers_of only pack.stub) (are-analyzers only pack.stub) mine) r.are_given r.runs found in
     subst (λ (x : Verdict). HasFound tree only p x ds) (sym shown) (pack, at, subst (λ (ns : List ℕ). AreFoundOf tree p pack ns ds) mine all)
 node-found law tree only p pack n (answer.Refused text) v ds at r is shown found =
     let numbers : numbers_in n.runs ≡ [] = r.numbers ∙ ap (λ (x : Answer). chosen_if (is_good x) (analyzers_of only r.of.pack.stub)) is in

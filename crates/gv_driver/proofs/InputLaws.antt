@@ -12,6 +12,7 @@ use Rattle.gv_driver.specs.declared.tree.PackageTexts.{PackageTexts}
 use Rattle.gv_driver.specs.declared.node.Node.{Node}
 use Rattle.gv_driver.specs.declared.node.RunNode.{RunNode}
 use Rattle.gv_driver.specs.Analyzers.{analyzers_of}
+use Rattle.gv_driver.specs.Facts.{IsGiven}
 use Rattle.gv_driver.specs.Whole.{Checked}
 use Rattle.gv_driver.specs.Loads.{IsInput, IsNodeInput, IsRunInput, all_inputs, load_input, run_key, run_keys}
 use Rattle.gv_driver.specs.Caches.{IsHonest, is_cached, left_of, load_cost, loads_of, missing_of, one_of, run_cost, runs_of}
@@ -67,10 +68,11 @@ some-runs [] (suc k) a h e = cc
 some-runs (r ∷ runs) k a h e = cc
 
 module _ (tree : List PackageTexts) (only : ℕ) (before : List Entry) where
-  node-of : (p k : ℕ) (n : Node) (l : IsLookedUp tree only before p n) (i : Input) → IsHonest before → slice_get (load_input l.load ∷ run_keys l.load (numbers_in n.runs)) k ≡ Some i → IsNodeInput tree only p k i
+  node-of : (p k : ℕ) (n : Node) (l : IsLookedUp tree only before p n) (i : Input) → IsHonest before → slice_get (load_input l.load ∷ run_keys l.given l.load (numbers_in n.runs)) k ≡ Some i → IsNodeInput tree only p k i
   node-of p zero n l i honest h = record { load = l.load; of = l.of honest; is = sym (same_Some (load_input l.load) i h) }
   node-of p (suc k) n l i honest h =
-      let a = get-unmapped (run_key l.load) (numbers_in n.runs) k i h in
+      let a = get-unmapped (run_key l.given l.load) (numbers_in n.runs) k i h in
+      let run = get-unmapped number_in n.runs k a.0 a.1 in
       let of = l.of honest in
       let good = l.good honest (some-runs n.runs k a.0 a.1) in
       let mine : slice_get (analyzers_of only l.pack.stub) k ≡ Some a.0 = get-taken l.done k (analyzers_of only l.pack.stub) a.0 (subst (λ (ns : List ℕ). slice_get ns k ≡ Some a.0) l.numbers a.1) in
@@ -81,14 +83,16 @@ module _ (tree : List PackageTexts) (only : ℕ) (before : List Entry) where
         good = good.1;
         analyzer = a.0;
         chosen = subst (λ (x : PackageTexts). slice_get (analyzers_of only x.stub) k ≡ Some a.0) (same_pack tree p l.pack of.pack l.at of.at) mine;
+        given = l.given;
+        are_given = subst (λ (m : ℕ). IsGiven tree m of.numbers (l.given m)) run.2 (l.are_given honest k run.0 run.1);
         is = sym a.2;
       }
 
-  row-keys : (p : ℕ) (n : Node) (l : IsLookedUp tree only before p n) → HasKeys before n (load_input l.load ∷ run_keys l.load (numbers_in n.runs))
+  row-keys : (p : ℕ) (n : Node) (l : IsLookedUp tree only before p n) → HasKeys before n (load_input l.load ∷ run_keys l.given l.load (numbers_in n.runs))
   row-keys p n l = record {
-    fresh = ap (λ (o : Option Input). with_fresh o (fresh_runs n.runs)) l.left ∙ (ap (λ (ks : List Input). with_fresh (left_of before (load_input l.load)) ks) l.runs ∙ fresh-missing before (load_input l.load) (run_keys l.load (numbers_in n.runs)));
+    fresh = ap (λ (o : Option Input). with_fresh o (fresh_runs n.runs)) l.left ∙ (ap (λ (ks : List Input). with_fresh (left_of before (load_input l.load)) ks) l.runs ∙ fresh-missing before (load_input l.load) (run_keys l.given l.load (numbers_in n.runs)));
     runs = l.runs;
-    size = ap suc (length-map (numbers_in n.runs) (run_key l.load) ∙ length-map n.runs number_in);
+    size = ap suc (length-map (numbers_in n.runs) (run_key l.given l.load) ∙ length-map n.runs number_in);
   }
 
   row-input : (table : List (Option Node)) → IsHonest before → AreLookedUp tree only before table
@@ -96,7 +100,7 @@ module _ (tree : List PackageTexts) (only : ℕ) (before : List Entry) where
   row-input table honest are p None at = ([], (refl, λ k i h. absurd (nothing-at k i h)))
   row-input table honest are p (Some n) at =
       let l = are p n at in
-      (load_input l.load ∷ run_keys l.load (numbers_in n.runs), (row-keys p n l, λ k i h. node-of p k n l i honest h))
+      (load_input l.load ∷ run_keys l.given l.load (numbers_in n.runs), (row-keys p n l, λ k i h. node-of p k n l i honest h))
 
   -- over an honest cache the rows have inputs
   pub inputs-of : (table : List (Option Node)) → IsHonest before → AreLookedUp tree only before table → AreInputsOf tree only before table

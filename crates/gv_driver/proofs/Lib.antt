@@ -22,9 +22,17 @@ mod EntryLaws
 mod EntryLoops
 mod FoundInLaws
 mod FindingLaws
+mod FactLaws
+mod DueLaws
+mod FactsTold
+mod GivenLaws
+mod ToldLaws
+mod SoughtLaws
 mod ReportLaws
 pub mod RunLaws
 pub mod OnceLaws
 mod PerformLaws
+mod ExistingLoads
+mod ExistingFacts
 pub mod ExistenceLaws
 mod BelowLaws

@@ -119,7 +119,7 @@ stays : (b : Bool) → spent true b ≡ true
 stays true = refl
 stays false = refl
 
-spent-true : (cache : List Entry) (keys : List Input) → spent_by cache true keys ≡ true
+pub spent-true : (cache : List Entry) (keys : List Input) → spent_by cache true keys ≡ true
 spent-true cache [] = refl
 spent-true cache (k ∷ keys) = ap (λ b. spent_by cache b keys) (stays (is_cached cache k)) ∙ spent-true cache keys
 

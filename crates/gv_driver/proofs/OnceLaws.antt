@@ -7,6 +7,8 @@ use Rattle.analysis_core.specs.Findings.{AreFindings}
 use Rattle.analysis_core.proofs.FindingLemmas.{spelled_is_read}
 use Rattle.action_graph.specs.Analyzing.{Analyzes}
 use Rattle.action_graph.proofs.RunLaws.{analyzes_once, run_outcome_of_once}
+use Rattle.action_graph.specs.Nodes.{Named}
+use Rattle.action_graph.specs.Work.{has_facts}
 use Rattle.gv_driver.specs.Analyzers.{analyzers_of}
 use Rattle.package_faces.specs.Faces.{Face}
 use Rattle.action_graph.specs.declared.marks.MarkLine.{MarkLine}
@@ -22,10 +24,12 @@ use Rattle.gv_driver.specs.declared.reply.Verdict.TheVariants as verdict
 use Rattle.gv_driver.specs.Whole.{Checked}
 use Rattle.gv_driver.specs.Whole.Checked.{checked}
 use Rattle.gv_driver.specs.Caches.{IsHonest, IsCacheAfter, IsRight, input_of}
+use Rattle.gv_driver.specs.Facts.{IsGivenIf}
 use Rattle.gv_driver.specs.Reports.{AreFoundOf, HasFound, HasVerdict, IsFoundOf, IsReport, IsRunReport}
+use Rattle.gv_driver.proofs.FactLaws.{given-is}
 use Rattle.gv_driver.proofs.Places.{element, same-list}
 use Rattle.gv_driver.proofs.CacheLaws.{honest-append, honest_trimmed, trimmed_is_within}
-use Rattle.gv_driver.proofs.WholeLaws.{one-env, same_pack, shown, unique}
+use Rattle.gv_driver.proofs.WholeLaws.{one-env, one-row, same_pack, shown, unique}
 
 -- what a finding tells of the package
 record Found (tree : List PackageTexts) (p : ℕ) : Type 0 where
@@ -141,8 +145,11 @@ same-findings a b text h g = same_Some a b (sym (spelled_is_read text a h) ∙ s
 one-found : (tree : List PackageTexts) (p a : ℕ) (pack : PackageTexts) (x y : List Diagnostic) → IsFoundOf tree p a pack x → IsFoundOf tree p a pack y → x ≡ y
 one-found tree p a pack x y h g =
     let env : h.env ≡ g.env = one-env tree p h.faces.0 g.faces.0 h.env g.env h.faces.1 g.faces.1 in
-    let mine : Analyzes a pack.path pack.files g.env [] h.findings h.facts = subst (λ (e : Env). Analyzes a pack.path pack.files e [] h.findings h.facts) env h.analyzes in
-    let text : h.findings ≡ g.findings = (analyzes_once a pack.path pack.files g.env [] h.findings g.findings h.facts g.facts mine g.analyzes).0 in
+    let row : h.faces.0 ≡ g.faces.0 = one-row tree p h.faces.0 g.faces.0 h.env g.env h.faces.1 g.faces.1 in
+    let given : h.given ≡ g.given = given-is tree a p (has_facts a) g.faces.0 g.env h.given g.given g.faces.1 (subst (λ (l : List ℕ). IsGivenIf (has_facts a) tree a l h.given) row h.are_given) g.are_given in
+    let mine : Analyzes a pack.path pack.files g.env g.given h.findings h.facts =
+    subst (λ (e : Env). Analyzes a pack.path pack.files e g.given h.findings h.facts) env (subst (λ (x : List Named). Analyzes a pack.path pack.files h.env x h.findings h.facts) given h.analyzes) in
+    let text : h.findings ≡ g.findings = (analyzes_once a pack.path pack.files g.env g.given h.findings g.findings h.facts g.facts mine g.analyzes).0 in
     same-findings x y g.findings (subst (λ (t : List ℕ). AreFindings x t) text h.spelled) g.spelled
 
 all-found-once : (tree : List PackageTexts) (p : ℕ) (pack : PackageTexts) (ns : List ℕ) (x y : List Diagnostic) → AreFoundOf tree p pack ns x → AreFoundOf tree p pack ns y → x ≡ y

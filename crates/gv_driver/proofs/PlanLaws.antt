@@ -3,23 +3,26 @@ use Rattle.std.proofs.Common.{◌≡◌, ℕ, ◌<◌, ◌≤◌, ◌+◌, Optio
 use Rattle.std.specs.Prelude.{sum_by}
 use Rattle.std.proofs.lemmas.Option.{same_Some, slice_get_within}
 use Rattle.std.proofs.lemmas.List.Sums.{sum_by-cons}
-use Rattle.action_graph.specs.declared.kit.LoadInput.{LoadInput}
 use Rattle.fact_cache.specs.declared.texts.Input.{Input}
 use Rattle.fact_cache.specs.declared.list.Entry.{Entry}
 use Rattle.gv_driver.specs.declared.tree.PackageTexts.{PackageTexts}
 use Rattle.gv_driver.specs.Analyzers.{analyzers_of}
 use Rattle.gv_driver.specs.Caches.{load_cost, loads_of, missing_of, one_of, run_cost, runs_of}
-use Rattle.gv_driver.specs.Loads.{IsInput, IsLoadOf, IsNodeInput, IsPlan, IsRunInput, all_inputs, load_input, run_key}
+use Rattle.gv_driver.specs.Loads.{IsNodeInput, IsPlan, IsRunInput, IsRunOf, run_input, run_over}
+use Rattle.gv_driver.proofs.FactLaws.{run-of-once}
 use Rattle.gv_driver.proofs.Places.{element, same-list}
-use Rattle.gv_driver.proofs.WholeLaws.{same_pack, unique-input, unique-load}
+use Rattle.gv_driver.proofs.WholeLaws.{same_pack, unique-input}
 
 pub unique-run : (tree : List PackageTexts) (only p k : ℕ) (s t : Input) → IsRunInput tree only p k s → IsRunInput tree only p k t → s ≡ t
 unique-run tree only p k s t a b =
-    let load : a.load ≡ b.load = unique-load tree p a.load b.load a.of b.of in
     let pack : a.of.pack ≡ b.of.pack = same_pack tree p a.of.pack b.of.pack a.of.at b.of.at in
     let here : slice_get (analyzers_of only b.of.pack.stub) k ≡ Some a.analyzer = subst (λ (x : PackageTexts). slice_get (analyzers_of only x.stub) k ≡ Some a.analyzer) pack a.chosen in
     let number : a.analyzer ≡ b.analyzer = same_Some a.analyzer b.analyzer (sym here ∙ b.chosen) in
-    a.is ∙ (ap (λ (l : LoadInput). run_key l a.analyzer) load ∙ (ap (λ (n : ℕ). run_key b.load n) number ∙ sym b.is))
+    let one : IsRunOf tree a.analyzer p (run_over a.given a.analyzer a.load) = record { analyzer = refl; of = a.of; given = a.are_given } in
+    let two : IsRunOf tree b.analyzer p (run_over b.given b.analyzer b.load) = record { analyzer = refl; of = b.of; given = b.are_given } in
+    let same : run_over a.given a.analyzer a.load ≡ run_over b.given b.analyzer b.load =
+    run-of-once tree b.analyzer p (run_over a.given a.analyzer a.load) (run_over b.given b.analyzer b.load) (subst (λ (n : ℕ). IsRunOf tree n p (run_over a.given a.analyzer a.load)) number one) two in
+    a.is ∙ (ap run_input same ∙ sym b.is)
 
 -- a node has one input
 pub unique-node : (tree : List PackageTexts) (only p k : ℕ) (s t : Input) → IsNodeInput tree only p k s → IsNodeInput tree only p k t → s ≡ t

@@ -183,6 +183,12 @@ ready-load tree before table p pack formed honest right rows at ready =
     let same : ready.pack ≡ pack = same_pack tree p ready.pack pack ready.at at in
     row-load tree before table honest right rows formed p pack at (subst (λ (x : PackageTexts). AreGood table x.imports) same ready.accepted) (ap (λ (k : PackageTexts). k.sound) (sym same) ∙ ready.sound)
 
+-- over the merged row
+pub ready-numbers : {only : ℕ} (tree : List PackageTexts) (before : List Entry) (table : List (Option Node)) (p : ℕ) (pack : PackageTexts) (formed : IsTree tree) (honest : IsHonest before) (right : AreRight tree only table)
+    (rows : AreRows tree before table) (at : slice_get tree p ≡ Some pack) (ready : IsReady tree table p) → (ready-load tree before table p pack formed honest right rows at ready).numbers ≡ merged table pack.imports
+unfolding ready-load row-load
+ready-numbers tree before table p pack formed honest right rows at ready = refl
+
 -- ---- a node is put
 
 good-other : (table : List (Option Node)) (p q : ℕ) → slice_get table p ≡ Some None → IsGood table q → q ≡ p → ⊥

@@ -14,6 +14,7 @@ use Rattle.gv_driver.specs.Analyzers.{analyzers_of}
 use Rattle.gv_driver.specs.Loads.{IsInput, IsNodeInput, IsPlan, IsRunInput, all_inputs}
 use Rattle.gv_driver.specs.Caches.{IsHonest, IsPartKept, input_of, load_cost, loads_of, missing_of, run_cost, runs_of}
 use Rattle.gv_driver.specs.Entries.{all_entries}
+use Rattle.gv_driver.specs.Given.{told_at}
 use Rattle.gv_driver.specs.Tables.{AreLookedUp, AreRight, IsReady, IsTable, chosen_if, executed, executed_runs, fresh_inputs, is_good, loads_in, missing_in, nodes_in, number_in, numbers_in, runs_in, waiting}
 use Rattle.gv_driver.specs.Reports.{AllFoundShown, AreShown}
 use Rattle.gv_driver.specs.Runs.{CanKeep, Goes, Ran, IsCutOff, Stops}
@@ -24,6 +25,7 @@ use Rattle.gv_driver.proofs.InputLaws.{AreInputsOf, IsLeft, fresh-all, inputs-of
 use Rattle.gv_driver.proofs.MissingLaws.{Begins, missing-begins, one-begins}
 use Rattle.gv_driver.proofs.Places.{append-none, element}
 use Rattle.gv_driver.proofs.PlanLaws.{costs-le, unique-node, unique-plan}
+use Rattle.gv_driver.proofs.ToldLaws.{told-right}
 use Rattle.gv_driver.proofs.WholeLaws.{same_pack}
 use Rattle.gv_driver.proofs.TableLaws.{load-done, accepted-good, answer-good, node-tells}
 use Rattle.gv_driver.proofs.StepLaws.{executed-none, runs-none, waiting-none}
@@ -174,10 +176,10 @@ cut-in_keep tree only before after first table count now done honest start goes 
 
 pub ran-right : AllFoundStand → (tree : List PackageTexts) (only : ℕ) (before after : List Entry) (first table : List (Option Node)) (count now : Tally) (reply : Judgement) → IsHonest before → first ≡ replicate (length tree) None
     → Goes tree only before first table count now → ((p : ℕ) → IsReady tree table p → ⊥) → CanKeep before (all_entries table) → after ≡ before ++ all_entries table
-    → AreShown tree table reply.verdicts (length tree) → AllFoundShown tree table reply.found (length tree)
+    → AreShown tree table reply.verdicts (length tree) → AllFoundShown tree table reply.found (length tree) → reply.facts ≡ map told_at table
     → reply.counts.nodes ≡ sum_by nodes_in table → reply.counts.missing ≡ sum_by missing_in table → reply.counts.loads ≡ sum_by loads_in table → reply.counts.runs ≡ sum_by runs_in table
     → Ran tree only before (trimmed after) count now reply
-ran-right law tree only before after first table count now reply honest start goes none can is shown found nodes missing loads runs =
+ran-right law tree only before after first table count now reply honest start goes none can is shown found facts nodes missing loads runs =
     let right = goes.right.right honest in
     let are = inputs-of tree only before table honest goes.right.looked in
     record {
@@ -185,6 +187,7 @@ ran-right law tree only before after first table count now reply honest start go
       is_plan = plan-right tree only before table right none are;
       report = report-right tree table reply.verdicts right none shown;
       found = found-right law tree only table reply.verdicts reply.found right none shown found;
+      facts = told-right tree only table reply.verdicts reply.facts right shown facts;
       cache = kept-whole before (all_entries table) after (all_inputs are.rows) can honest is (missing-kept tree only before table are);
       nodes = nodes ∙ nodes-all tree only before table are;
       missing = missing ∙ missing-all tree only before table are;
@@ -230,6 +233,7 @@ ran-over tree only b c n m over later r is e f = record {
   is_plan = is.is_plan;
   report = is.report;
   found = is.found;
+  facts = is.facts;
   cache = is.cache;
   nodes = is.nodes;
   missing = is.missing;

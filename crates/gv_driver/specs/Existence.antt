@@ -11,7 +11,7 @@ use Rattle.gv_driver.specs.declared.tree.PackageTexts.{PackageTexts}
 use Rattle.gv_driver.specs.declared.reply.Verdict.{Verdict}
 use Rattle.gv_driver.specs.Caches.{IsCacheAfter}
 use Rattle.gv_driver.specs.Loads.{IsPlan, all_inputs}
-use Rattle.gv_driver.specs.Reports.{IsReport, IsRunReport}
+use Rattle.gv_driver.specs.Reports.{IsFactReport, IsReport, IsRunReport}
 
 -- no lawful load is without an outcome
 abbrev pub AllHaveOutcomes : Type 0
@@ -21,9 +21,9 @@ AllHaveOutcomes = (load : LoadInput) → IsLawful load → ((text : List ℕ) �
 abbrev pub AllRunsHaveOutcomes : Type 0
 AllRunsHaveOutcomes = (run : RunInput) (export : List ℕ) → IsRunLawful run → IsOutcome run.load (accepted_text export) → ((text : List ℕ) → IsRunOutcome run text → ⊥) → ⊥
 
--- the tree isn't without verdicts, what the analyzers find, inputs of its nodes, and the cache that a run leaves
+-- the tree isn't without verdicts, what the analyzers find, their facts, inputs of its nodes, and the cache that a run leaves
 abbrev pub HasRun : List PackageTexts → ℕ → List Entry → Type 0
 HasRun tree only before =
-    ((verdicts : List Verdict) (found : List (List Diagnostic)) (plan : List (List Input)) (after : List Entry) → IsReport tree verdicts → IsRunReport tree only verdicts found → IsPlan tree only plan
+    ((verdicts : List Verdict) (found : List (List Diagnostic)) (facts : List (List (ℕ × List ℕ))) (plan : List (List Input)) (after : List Entry) → IsReport tree verdicts → IsRunReport tree only verdicts found → IsFactReport tree only verdicts facts → IsPlan tree only plan
     → IsCacheAfter before after (all_inputs plan) → ⊥)
     → ⊥

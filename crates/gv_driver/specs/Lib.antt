@@ -14,3 +14,5 @@ pub mod Analyzers
 pub mod Making
 pub mod Opening
 pub mod Entries
+pub mod Facts
+pub mod Given

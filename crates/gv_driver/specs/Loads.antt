@@ -10,6 +10,7 @@ use Rattle.action_graph.specs.Judging.Judged.{Accepts}
 use Rattle.fact_cache.specs.declared.texts.Input.{Input}
 use Rattle.gv_driver.specs.declared.tree.PackageTexts.{PackageTexts}
 use Rattle.gv_driver.specs.Analyzers.{analyzers_of}
+use Rattle.gv_driver.specs.Facts.{IsGiven}
 use Rattle.gv_driver.specs.Whole.{Checked, IsEnv}
 
 -- the path of a package, and the text of what is seen of it
@@ -45,19 +46,25 @@ pub record IsInput (tree : List PackageTexts) (p : ℕ) (input : Input) : Type 0
   pub of : IsLoadOf tree p load
   pub is : input ≡ load_input load
 
--- what the run of an analyzer reads, over a package with this load: no analyzer of these reads facts
-abbrev pub run_over : ℕ → LoadInput → RunInput
-run_over a load = record { analyzer = a; load = load; facts = [] }
+-- what the analyzer's run over p reads
+pub record IsRunOf (tree : List PackageTexts) (a p : ℕ) (run : RunInput) : Type 0 where
+  pub analyzer : run.analyzer ≡ a
+  pub of : IsLoadOf tree p run.load
+  pub given : IsGiven tree a of.numbers run.facts
+
+-- what the run of an analyzer reads, over a package with this load, where these facts are for it
+abbrev pub run_over : (ℕ → List Named) → ℕ → LoadInput → RunInput
+run_over given a load = record { analyzer = a; load = load; facts = given a }
 
 -- the input beside which the outcome of a run is kept
 abbrev pub run_input : RunInput → Input
 run_input run = record { node = run.analyzer; texts = run_texts run }
 
-abbrev pub run_key : LoadInput → ℕ → Input
-run_key load a = run_input (run_over a load)
+abbrev pub run_key : (ℕ → List Named) → LoadInput → ℕ → Input
+run_key given load a = run_input (run_over given a load)
 
-abbrev pub run_keys : LoadInput → List ℕ → List Input
-run_keys load numbers = map (run_key load) numbers
+abbrev pub run_keys : (ℕ → List Named) → LoadInput → List ℕ → List Input
+run_keys given load numbers = map (run_key given load) numbers
 
 -- the input of the run of the analyzer at this place among those that run over an accepted package
 pub record IsRunInput (tree : List PackageTexts) (only p k : ℕ) (input : Input) : Type 0 where
@@ -67,7 +74,9 @@ pub record IsRunInput (tree : List PackageTexts) (only p k : ℕ) (input : Input
   pub good : Checked tree p (Accepts face)
   pub analyzer : ℕ
   pub chosen : slice_get (analyzers_of only of.pack.stub) k ≡ Some analyzer
-  pub is : input ≡ run_key load analyzer
+  pub given : ℕ → List Named
+  pub are_given : IsGiven tree analyzer of.numbers (given analyzer)
+  pub is : input ≡ run_key given load analyzer
 
 -- the input of a node of p: of its load, or of the run at the place before
 abbrev pub IsNodeInput : List PackageTexts → ℕ → ℕ → ℕ → Input → Type 0

@@ -1,9 +1,14 @@
 -- The nodes of one package while they are made.
-use Rattle.std.specs.Prelude.{◌≡◌, ℕ, ◌+◌, ◌<◌, ◌≤◌, Bool, true, false, Option, Some, List, [], ◌∷◌, take, length, slice_get, if◌then◌else◌}
+use Rattle.std.specs.Prelude.{◌≡◌, ℕ, ◌+◌, ◌<◌, ◌≤◌, ◌^◌, Bool, true, false, Option, Some, None, List, [], ◌∷◌, ◌++◌, drop, take, map, length, slice_get, if◌then◌else◌}
 use Rattle.action_graph.specs.declared.kit.LoadInput.{LoadInput}
 use Rattle.action_graph.specs.declared.kit.RunInput.{RunInput}
-use Rattle.action_graph.specs.Analyzing.{IsRunLawful, IsRunOutcome}
+use Rattle.action_graph.specs.declared.kit.RunOf.{RunOf}
+use Rattle.action_graph.specs.declared.kit.RunOutcome.{RunOutcome}
+use Rattle.action_graph.specs.Outcomes.{run_text}
+use Rattle.action_graph.specs.Nodes.{Named, AreNamed}
+use Rattle.action_graph.specs.Analyzing.{AreRunOutcomes, IsRunLawful, IsRunOutcome}
 use Rattle.action_graph.specs.Judging.{IsLawful, IsOutcome, accepted_text}
+use Rattle.handed_facts.specs.Handed.{ArePathsApart}
 use Rattle.fact_cache.specs.declared.texts.Input.{Input}
 use Rattle.fact_cache.specs.declared.list.Entry.{Entry}
 use Rattle.gv_driver.specs.declared.node.Answer.{Answer}
@@ -45,11 +50,20 @@ pub record IsLoading {L : Type 0} (is_of : L → LoadInput → Type 0) (keeps : 
   pub held : (l : L) → loading.loaded ≡ Some l → is_of l load × keeps l
   pub there : loading.tried ≡ true → IsLawful load → IsAccepting load → (l : L) × (loading.loaded ≡ Some l)
 
+-- the facts for each analyzer are of packages with a path
+abbrev pub AllNamed : (ℕ → List Named) → Type 0
+AllNamed given = (a : ℕ) → AreNamed (given a)
+
+-- of each package an analyzer is given facts once
+abbrev pub AllApart : (ℕ → List Named) → Type 0
+AllApart given = (a : ℕ) → ArePathsApart (given a)
+
 -- a load whose runs a kit can be asked for, and whose runs an honest cache may have
-pub record IsFit (cache : List Entry) (load : LoadInput) : Type 0 where
+pub record IsFit (given : ℕ → List Named) (cache : List Entry) (load : LoadInput) : Type 0 where
   pub honest : IsHonest cache
   pub lawful : IsLawful load
   pub accepting : IsAccepting load
+  pub named : AllNamed given
 
 -- a run that a kit can be asked for
 pub record IsRunFit (run : RunInput) : Type 0 where
@@ -57,11 +71,73 @@ pub record IsRunFit (run : RunInput) : Type 0 where
   pub accepting : IsAccepting run.load
 
 -- these are the runs of these analyzers
-pub record AreRuns (cache : List Entry) (load : LoadInput) (numbers : List ℕ) (nodes : List RunNode) : Type 0 where
+pub record AreRuns (given : ℕ → List Named) (cache : List Entry) (load : LoadInput) (numbers : List ℕ) (nodes : List RunNode) : Type 0 where
   pub numbers_are : numbers_in nodes ≡ numbers
-  pub fresh : fresh_runs nodes ≡ missing_of cache (run_keys load numbers)
-  pub left : (k : ℕ) (n : RunNode) → slice_get nodes k ≡ Some n → n.fresh ≡ left_of cache (run_key load n.analyzer)
-  pub right : IsFit cache load → (k : ℕ) (n : RunNode) → slice_get nodes k ≡ Some n → IsRunOutcome (run_over n.analyzer load) n.outcome
+  pub fresh : fresh_runs nodes ≡ missing_of cache (run_keys given load numbers)
+  pub left : (k : ℕ) (n : RunNode) → slice_get nodes k ≡ Some n → n.fresh ≡ left_of cache (run_key given load n.analyzer)
+  pub right : IsFit given cache load → (k : ℕ) (n : RunNode) → slice_get nodes k ≡ Some n → IsRunOutcome (run_over given n.analyzer load) n.outcome
+  pub short : (k : ℕ) (n : RunNode) → slice_get nodes k ≡ Some n → length n.outcome < 2 ^ 64
+
+-- what a run reads beside the load
+abbrev pub asked_of : (ℕ → List Named) → ℕ → RunOf
+asked_of given a = record { analyzer = a; facts = given a }
+
+abbrev pub asked_if : Option Input → RunOf → List RunOf
+asked_if None r = []
+asked_if (Some i) r = r ∷ []
+
+-- of those of these runs that are missing
+abbrev pub asked_in : (ℕ → List Named) → List RunNode → List RunOf
+asked_in given [] = []
+asked_in given (n ∷ more) = asked_if n.fresh (asked_of given n.analyzer) ++ asked_in given more
+
+-- these runs are looked up: those that the cache has, have their outcome
+pub record AreSought (given : ℕ → List Named) (cache : List Entry) (load : LoadInput) (numbers : List ℕ) (nodes : List RunNode) : Type 0 where
+  pub numbers_are : numbers_in nodes ≡ numbers
+  pub fresh : fresh_runs nodes ≡ missing_of cache (run_keys given load numbers)
+  pub left : (k : ℕ) (n : RunNode) → slice_get nodes k ≡ Some n → n.fresh ≡ left_of cache (run_key given load n.analyzer)
+  pub found : IsFit given cache load → (k : ℕ) (n : RunNode) → slice_get nodes k ≡ Some n → n.fresh ≡ None → IsRunOutcome (run_over given n.analyzer load) n.outcome
+  pub short : (k : ℕ) (n : RunNode) → slice_get nodes k ≡ Some n → length n.outcome < 2 ^ 64
+
+abbrev pub with_text : RunNode → List ℕ → RunNode
+with_text n text = record { analyzer = n.analyzer; fresh = n.fresh; outcome = text }
+
+abbrev pub first_or : List (List ℕ) → List ℕ → List ℕ
+first_or [] own = own
+first_or (text ∷ texts) own = text
+
+-- a missing run takes the next text
+abbrev pub text_for : Option Input → List (List ℕ) → List ℕ → List ℕ
+text_for None texts own = own
+text_for (Some i) texts own = first_or texts own
+
+abbrev pub texts_after : Option Input → List (List ℕ) → List (List ℕ)
+texts_after None texts = texts
+texts_after (Some i) texts = drop 1 texts
+
+-- with these texts, in turn, for the missing ones
+abbrev pub filled : List RunNode → List (List ℕ) → List RunNode
+filled [] texts = []
+filled (n ∷ more) texts = with_text n (text_for n.fresh texts n.outcome) ∷ filled more (texts_after n.fresh texts)
+
+-- these are the outcomes of the runs that were asked for
+pub record HasAnswered (load : LoadInput) (asked : List RunOf) (outcomes : List RunOutcome) : Type 0 where
+  pub size : length outcomes ≡ length asked
+  pub right : AreRunOutcomes load asked outcomes
+
+-- the missing ones have what comes of them
+pub record IsFilled (load : LoadInput) (asked : List RunOf) (before after : List RunNode) : Type 0 where
+  pub outcomes : List RunOutcome
+  pub is : after ≡ filled before (map run_text outcomes)
+  pub answered : IsLawful load → IsAccepting load → HasAnswered load asked outcomes
+
+abbrev pub AreShortRuns : List RunNode → Type 0
+AreShortRuns nodes = (k : ℕ) (n : RunNode) → slice_get nodes k ≡ Some n → length n.outcome < 2 ^ 64
+
+-- whether the load is executed after these runs are asked for
+abbrev pub tried_after : Bool → List RunOf → Bool
+tried_after tried [] = tried
+tried_after tried (r ∷ asked) = true
 
 -- No more was executed than what nodes with these inputs need.
 pub record Spends (cache : List Entry) (keys : List Input) (before after : Bool) (count now : Tally) : Type 0 where
@@ -77,22 +153,22 @@ pub record IsOpened {L : Type 0} (is_of : L → LoadInput → Type 0) (keeps : L
   pub loading : IsLoading is_of keeps load begun.loading
 
 -- A package's nodes are made: its load, and where it is accepted the runs of these analyzers.
-pub record IsMade (cache : List Entry) (load : LoadInput) (numbers : List ℕ) (n : Node) : Type 0 where
+pub record IsMade (given : ℕ → List Named) (cache : List Entry) (load : LoadInput) (numbers : List ℕ) (n : Node) : Type 0 where
   pub left : n.fresh ≡ left_of cache (load_input load)
   pub right : IsHonest cache → IsLawful load → IsOutcome load (answer_text n.answer)
-  pub runs : AreRuns cache load (chosen_if (is_good n.answer) numbers) n.runs
+  pub runs : AreRuns given cache load (chosen_if (is_good n.answer) numbers) n.runs
 
 -- This is what they took.
-pub record Takes (cache : List Entry) (load : LoadInput) (numbers : List ℕ) (n : Node) (count now : Tally) : Type 0 where
+pub record Takes (given : ℕ → List Named) (cache : List Entry) (load : LoadInput) (numbers : List ℕ) (n : Node) (count now : Tally) : Type 0 where
   pub loads : now.loads ≡ count.loads + one_of (fresh_node n)
-  pub runs : IsHonest cache → IsLawful load → now.runs ≡ count.runs + length (fresh_runs n.runs)
+  pub runs : IsHonest cache → IsLawful load → AllNamed given → now.runs ≡ count.runs + length (fresh_runs n.runs)
   pub bound : now.runs ≤ count.runs + length (fresh_runs n.runs)
   pub most : now.runs ≤ count.runs + length numbers
 
 -- A package's nodes were begun: no more was executed than what its load and the first of its runs need. Where a run is among these, the load
 -- accepts.
-pub record IsBegun (cache : List Entry) (load : LoadInput) (numbers : List ℕ) (count now : Tally) : Type 0 where
+pub record IsBegun (given : ℕ → List Named) (cache : List Entry) (load : LoadInput) (numbers : List ℕ) (count now : Tally) : Type 0 where
   pub done : ℕ
   pub accepting : 0 < done → IsHonest cache → IsLawful load → IsAccepting load
-  pub loads : now.loads ≤ count.loads + one_of (missing_of cache (load_input load ∷ run_keys load (take done numbers)))
-  pub runs : now.runs ≤ count.runs + length (missing_of cache (run_keys load (take done numbers)))
+  pub loads : now.loads ≤ count.loads + one_of (missing_of cache (load_input load ∷ run_keys given load (take done numbers)))
+  pub runs : now.runs ≤ count.runs + length (missing_of cache (run_keys given load (take done numbers)))

@@ -1,5 +1,5 @@
 -- The verdict of each package of a tree, from its sources.
-use Rattle.std.specs.Prelude.{◌≡◌, ℕ, Bool, true, false, Option, Some, None, List, [], ◌∷◌, ◌++◌, length, slice_get}
+use Rattle.std.specs.Prelude.{◌≡◌, ℕ, Bool, true, false, if◌then◌else◌, Option, Some, None, List, [], ◌∷◌, ◌++◌, length, slice_get}
 use Rattle.std.specs.List.{Contains}
 use Rattle.analysis_core.specs.declared.diagnostic.Diagnostic.{Diagnostic}
 use Rattle.analysis_core.specs.Findings.{AreFindings}
@@ -7,6 +7,7 @@ use Rattle.package_faces.specs.Faces.{Face}
 use Rattle.action_graph.specs.Analyzing.{Analyzes}
 use Rattle.action_graph.specs.Judging.{Env}
 use Rattle.action_graph.specs.Outcomes.{outcome_text}
+use Rattle.action_graph.specs.Work.{has_facts}
 use Rattle.action_graph.specs.Standing.{AllFound}
 use Rattle.action_graph.specs.declared.marks.MarkLine.{MarkLine}
 use Rattle.action_graph.specs.Marks.{AreSpelled}
@@ -20,6 +21,7 @@ use Rattle.gv_driver.specs.declared.node.RunNode.{RunNode}
 use Rattle.gv_driver.specs.Analyzers.{analyzers_of}
 use Rattle.gv_driver.specs.declared.reply.Verdict.{Verdict}
 use Rattle.gv_driver.specs.declared.reply.Verdict.TheVariants as verdict
+use Rattle.gv_driver.specs.Facts.{HasFacts, IsGiven}
 use Rattle.gv_driver.specs.Tables.{runs_of_node}
 use Rattle.gv_driver.specs.Standing.{AllStand}
 use Rattle.gv_driver.specs.Whole.{Checked, HasEnv}
@@ -37,13 +39,15 @@ pub record IsReport (tree : List PackageTexts) (verdicts : List Verdict) : Type 
   pub size : length verdicts ≡ length tree
   pub each : (p : ℕ) (v : Verdict) → slice_get verdicts p ≡ Some v → HasVerdict tree p v
 
--- what an analyzer finds of a package, over what is seen of its environment
+-- what an analyzer finds of a package, over what is seen of its environment, and the facts of this
 pub record IsFoundOf (tree : List PackageTexts) (p a : ℕ) (pack : PackageTexts) (found : List Diagnostic) : Type 0 where
   pub env : Env
   pub faces : HasEnv tree p env
+  pub given : List Named
+  pub are_given : IsGiven tree a faces.0 given
   pub findings : List ℕ
   pub facts : List ℕ
-  pub analyzes : Analyzes a pack.path pack.files env [] findings facts
+  pub analyzes : Analyzes a pack.path pack.files env given findings facts
   pub spelled : AreFindings found findings
 
 -- what these analyzers find, in turn
@@ -62,6 +66,28 @@ HasFound tree only p verdict.Accepted found = (pack : PackageTexts) × (slice_ge
 pub record IsRunReport (tree : List PackageTexts) (only : ℕ) (verdicts : List Verdict) (found : List (List Diagnostic)) : Type 0 where
   pub size : length found ≡ length tree
   pub each : (p : ℕ) (v : Verdict) (ds : List Diagnostic) → slice_get verdicts p ≡ Some v → slice_get found p ≡ Some ds → HasFound tree only p v ds
+
+-- those of these analyzers that have facts
+abbrev pub fact_givers : List ℕ → List ℕ
+fact_givers [] = []
+fact_givers (a ∷ numbers) = if has_facts a then a ∷ fact_givers numbers else fact_givers numbers
+
+-- the facts that these analyzers give of a package, in turn
+abbrev pub AreFactsTold : List PackageTexts → ℕ → List ℕ → List (ℕ × List ℕ) → Type 0
+AreFactsTold tree p [] facts = facts ≡ []
+AreFactsTold tree p (a ∷ numbers) facts = (text : List ℕ) × (more : List (ℕ × List ℕ)) × HasFacts tree a p text × AreFactsTold tree p numbers more × (facts ≡ (a, text) ∷ more)
+
+-- of an accepted package those that the analyzers give that run over it, of every other none
+abbrev pub HasFactsTold : List PackageTexts → ℕ → ℕ → Verdict → List (ℕ × List ℕ) → Type 0
+HasFactsTold tree only p verdict.Faulty facts = facts ≡ []
+HasFactsTold tree only p verdict.Blocked facts = facts ≡ []
+HasFactsTold tree only p (verdict.Refused marks) facts = facts ≡ []
+HasFactsTold tree only p verdict.Accepted facts = (pack : PackageTexts) × (slice_get tree p ≡ Some pack) × AreFactsTold tree p (fact_givers (analyzers_of only pack.stub)) facts
+
+-- The facts of each package, beside its verdict.
+pub record IsFactReport (tree : List PackageTexts) (only : ℕ) (verdicts : List Verdict) (facts : List (List (ℕ × List ℕ))) : Type 0 where
+  pub size : length facts ≡ length tree
+  pub each : (p : ℕ) (v : Verdict) (fs : List (ℕ × List ℕ)) → slice_get verdicts p ≡ Some v → slice_get facts p ≡ Some fs → HasFactsTold tree only p v fs
 
 -- what an answer shows of these files: marks that stand in them, and where such are spelled, these
 abbrev pub IsAnswerShown : List Named → Answer → Verdict → Type 0

@@ -13,7 +13,7 @@ use Rattle.gv_driver.specs.Loads.{IsPlan, all_inputs}
 use Rattle.gv_driver.specs.Caches.{IsHonest, IsRight, IsCacheAfter, IsPartKept, missing_of, is_cached, input_of, loads_of, runs_of}
 use Rattle.gv_driver.specs.Tables.{AreLookedUp, IsTable, IsReady, IsLookedUp, IsRightNode, loads_in, runs_in, waiting, executed, executed_runs}
 use Rattle.gv_driver.specs.Tallies.{Tally}
-use Rattle.gv_driver.specs.Reports.{IsReport, IsRunReport}
+use Rattle.gv_driver.specs.Reports.{IsFactReport, IsReport, IsRunReport}
 
 -- p's node is put into the table
 pub record Performs (tree : List PackageTexts) (only : ℕ) (before : List Entry) (p : ℕ) (table next : List (Option Node)) (count now : Tally) : Type 0 where
@@ -66,13 +66,14 @@ pub record CanKeep (before entries : List Entry) : Type 0 where
   pub distinct : (j k : ℕ) (e f : Entry) → slice_get entries j ≡ Some e → slice_get entries k ≡ Some f → e.input ≡ f.input → j ≡ k
   pub right : IsHonest before → IsHonest entries
 
--- A run that came to its end: the inputs of all nodes of the tree, the verdicts, what the analyzers found, the cache, and the counts. Executed
+-- A run that came to its end: the inputs of all nodes of the tree, the verdicts, what the analyzers found, the facts, the cache, and the counts. Executed
 -- are the missing nodes, and each load whose package has a missing one.
 pub record Ran (tree : List PackageTexts) (only : ℕ) (before after : List Entry) (count now : Tally) (reply : Judgement) : Type 0 where
   pub plan : List (List Input)
   pub is_plan : IsPlan tree only plan
   pub report : IsReport tree reply.verdicts
   pub found : IsRunReport tree only reply.verdicts reply.found
+  pub facts : IsFactReport tree only reply.verdicts reply.facts
   pub cache : IsCacheAfter before after (all_inputs plan)
   pub nodes : reply.counts.nodes ≡ length (all_inputs plan)
   pub missing : reply.counts.missing ≡ length (missing_of before (all_inputs plan))

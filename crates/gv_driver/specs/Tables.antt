@@ -1,5 +1,5 @@
 -- The table of what is done, and what can be done next.
-use Rattle.std.specs.Prelude.{◌≡◌, ℕ, suc, ◌≤◌, ◌==◌, Bool, true, false, Option, Some, None, List, [], ◌∷◌, ◌++◌, map, drop, take, length, slice_get, sum_by, if◌then◌else◌, ◌↔◌}
+use Rattle.std.specs.Prelude.{◌≡◌, ℕ, suc, ◌<◌, ◌≤◌, ◌^◌, ◌==◌, Bool, true, false, Option, Some, None, List, [], ◌∷◌, ◌++◌, map, drop, take, length, slice_get, sum_by, if◌then◌else◌, ◌↔◌}
 use Rattle.std.specs.List.{Contains}
 use Rattle.export_text.specs.Faces.{IsFaceText}
 use Rattle.export_text.specs.Mentions.{AreMentions}
@@ -17,6 +17,7 @@ use Rattle.gv_driver.specs.declared.node.Answer.TheVariants.{Accepted, Refused}
 use Rattle.gv_driver.specs.declared.node.Node.{Node}
 use Rattle.gv_driver.specs.declared.node.RunNode.{RunNode}
 use Rattle.gv_driver.specs.Analyzers.{analyzers_of}
+use Rattle.gv_driver.specs.Facts.{IsGiven}
 use Rattle.gv_driver.specs.Trees.{Imports}
 use Rattle.gv_driver.specs.Rows.{merged, of_paths, path_in}
 use Rattle.gv_driver.specs.Whole.{Checked, Reaches}
@@ -113,9 +114,12 @@ pub record IsRightNode (tree : List PackageTexts) (only p : ℕ) (n : Node) : Ty
   pub load : LoadInput
   pub of : IsLoadOf tree p load
   pub lawful : IsLawful load
+  pub given : ℕ → List Named
+  pub are_given : (k : ℕ) (r : RunNode) → slice_get n.runs k ≡ Some r → IsGiven tree r.analyzer of.numbers (given r.analyzer)
   pub outcome : IsOutcome load (answer_text n.answer)
   pub numbers : numbers_in n.runs ≡ chosen_if (is_good n.answer) (analyzers_of only of.pack.stub)
-  pub runs : (k : ℕ) (r : RunNode) → slice_get n.runs k ≡ Some r → IsRunOutcome (run_over r.analyzer load) r.outcome
+  pub runs : (k : ℕ) (r : RunNode) → slice_get n.runs k ≡ Some r → IsRunOutcome (run_over given r.analyzer load) r.outcome
+  pub short : (k : ℕ) (r : RunNode) → slice_get n.runs k ≡ Some r → length r.outcome < 2 ^ 64
 
 -- each node in the table is right
 pub record AreRight (tree : List PackageTexts) (only : ℕ) (table : List (Option Node)) : Type 0 where
@@ -127,14 +131,16 @@ pub record AreRight (tree : List PackageTexts) (only : ℕ) (table : List (Optio
 pub record IsLookedUp (tree : List PackageTexts) (only : ℕ) (before : List Entry) (p : ℕ) (n : Node) : Type 0 where
   pub pack : PackageTexts
   pub load : LoadInput
+  pub given : ℕ → List Named
   pub done : ℕ
   pub at : slice_get tree p ≡ Some pack
   pub path : load.path ≡ pack.path
   pub left : n.fresh ≡ left_of before (load_input load)
   pub numbers : numbers_in n.runs ≡ take done (analyzers_of only pack.stub)
-  pub runs : fresh_runs n.runs ≡ missing_of before (run_keys load (numbers_in n.runs))
-  pub each : (k : ℕ) (r : RunNode) → slice_get n.runs k ≡ Some r → r.fresh ≡ left_of before (run_key load r.analyzer)
+  pub runs : fresh_runs n.runs ≡ missing_of before (run_keys given load (numbers_in n.runs))
+  pub each : (k : ℕ) (r : RunNode) → slice_get n.runs k ≡ Some r → r.fresh ≡ left_of before (run_key given load r.analyzer)
   pub of : IsHonest before → IsLoadOf tree p load
+  pub are_given : (honest : IsHonest before) (k : ℕ) (r : RunNode) → slice_get n.runs k ≡ Some r → IsGiven tree r.analyzer (of honest).numbers (given r.analyzer)
   pub good : IsHonest before → (n.runs ≡ [] → ⊥) → (f : Face) × Checked tree p (Accepts f)
 
 -- so is each node in the table

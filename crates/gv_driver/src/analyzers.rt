@@ -1,20 +1,12 @@
 //! The analyzers that run over a package.
 ghost use Rattle.std.specs.Prelude.{◌≡◌, ◌+◌, ◌<◌, ◌++◌, suc, IfOk, OnOk};
-ghost use Rattle.action_graph.specs.Work.{has_facts, has_runs, is_there};
+ghost use Rattle.action_graph.specs.Work.{has_runs, is_there};
 ghost use Rattle.gv_driver.specs.Analyzers.{analyzers_of, is_chosen, is_due, is_run, one_run};
 
+use crate::facts::gives_facts;
 use analysis_core::AnalyzerName;
 use gv_base::NoMemory;
 use std::alloc::Global;
-
-fn gives_facts(analyzer: u8) -> bool
-    ensures { result ≡ has_facts analyzer }
-{
-    if analyzer == 4 {
-        return true;
-    }
-    analyzer == 6
-}
 
 fn is_one_of_ours(name: AnalyzerName) -> bool
     ensures { result ≡ is_there name }
@@ -23,9 +15,9 @@ fn is_one_of_ours(name: AnalyzerName) -> bool
         AnalyzerName::Assign => true,
         AnalyzerName::Bools => true,
         AnalyzerName::CopyLocks => true,
-        AnalyzerName::CtrlFlow => false,
+        AnalyzerName::CtrlFlow => true,
         AnalyzerName::NilFunc => true,
-        AnalyzerName::Printf => false,
+        AnalyzerName::Printf => true,
         AnalyzerName::StringIntConv => true,
         AnalyzerName::StructTag => true,
         AnalyzerName::Unreachable => true,

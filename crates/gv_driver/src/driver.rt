@@ -9,6 +9,7 @@ ghost use Rattle.gv_driver.specs.Tallies.{tally};
 
 use crate::counts::counts;
 use crate::diagnosed::findings;
+use crate::facts::tell_facts;
 use crate::keep::{entries_of, keep};
 use crate::node::Node;
 use crate::reply::Judgement;
@@ -47,6 +48,7 @@ fn run_with<K: Kit>(
     ensures runs { K.runs kit.new ≤ K.runs kit.old + 15 * length tree.now }
     ensures stand { IfOk result (λ reply. AreVerdictsIn tree.now reply.verdicts) }
     ensures found { IfOk result (λ reply. AreFoundIn tree.now reply.found) }
+    ensures facts { IfOk result (λ reply. length reply.facts ≡ length tree.now) }
     ensures ran { IsHonest cache.old → IfOk result (λ reply. Ran tree.now only cache.old (trimmed cache.new) (tally (K.loads kit.old) (K.runs kit.old)) (tally (K.loads kit.new) (K.runs kit.new)) reply) }
     ensures cut_off { IsHonest cache.old → OnErr result (IsCutOff tree.now only cache.old (trimmed cache.new) (tally (K.loads kit.old) (K.runs kit.old)) (tally (K.loads kit.new) (K.runs kit.new))) }
     ensures circle { result ≡ Err Unloaded.Stuck → MeetsCircle tree.now cache.old }
@@ -59,10 +61,12 @@ fn run_with<K: Kit>(
     findings_stand();
     let counts = counts(&table);
     let entries = entries_of(alloc, &table)?;
+    let facts = tell_facts(alloc, &table)?;
     keep(cache, entries)?;
     Ok(Judgement {
         verdicts: Row::new(list),
         found: Row::new(found),
+        facts: Row::new(facts),
         counts,
     })
 }
@@ -84,6 +88,7 @@ fn run_within<K: Kit>(
     ensures runs { K.runs kit.new ≤ K.runs kit.old + 15 * length tree.now }
     ensures stand { IfOk result (λ reply. AreVerdictsIn tree.now reply.verdicts) }
     ensures found { IfOk result (λ reply. AreFoundIn tree.now reply.found) }
+    ensures facts { IfOk result (λ reply. length reply.facts ≡ length tree.now) }
     ensures ran { IsHonest cache.old → IfOk result (λ reply. Ran tree.now only cache.old cache.new (tally (K.loads kit.old) (K.runs kit.old)) (tally (K.loads kit.new) (K.runs kit.new)) reply) }
     ensures cut_off { IsHonest cache.old → OnErr result (IsCutOff tree.now only cache.old cache.new (tally (K.loads kit.old) (K.runs kit.old)) (tally (K.loads kit.new) (K.runs kit.new))) }
     ensures circle { result ≡ Err Unloaded.Stuck → MeetsCircle tree.now cache.old }
@@ -118,6 +123,7 @@ pub fn run<K: Kit>(
     ensures bound { sum_by K.loads kits.new + sum_by K.runs kits.new ≤ sum_by K.loads kits.old + sum_by K.runs kits.old + 16 * length tree.now }
     ensures stand { IfOk result (λ reply. AreVerdictsIn tree.now reply.verdicts) }
     ensures found { IfOk result (λ reply. AreFoundIn tree.now reply.found) }
+    ensures facts { IfOk result (λ reply. length reply.facts ≡ length tree.now) }
     ensures ran { IsHonest cache.old → IfOk result (λ reply. Ran tree.now only cache.old cache.new (tally (sum_by K.loads kits.old) (sum_by K.runs kits.old)) (tally (sum_by K.loads kits.new) (sum_by K.runs kits.new)) reply) }
     ensures cut_off { IsHonest cache.old → OnErr result (IsCutOff tree.now only cache.old cache.new (tally (sum_by K.loads kits.old) (sum_by K.runs kits.old)) (tally (sum_by K.loads kits.new) (sum_by K.runs kits.new))) }
     ensures circle { result ≡ Err Unloaded.Stuck → MeetsCircle tree.now cache.old }

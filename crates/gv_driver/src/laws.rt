@@ -1,17 +1,24 @@
 //! Laws of trees and caches. Their bodies are empty: the contracts are the laws.
-ghost use Rattle.std.specs.Prelude.{◌≡◌, ℕ, true, List};
+ghost use Rattle.std.specs.Prelude.{◌≡◌, ◌<◌, ◌^◌, ℕ, Bool, true, false, List, [], length};
 ghost use Rattle.analysis_core.specs.declared.diagnostic.Diagnostic.{Diagnostic};
 ghost use Rattle.fact_cache.specs.declared.list.Entry.{Entry};
 ghost use Rattle.fact_cache.specs.declared.texts.Input.{Input};
 ghost use Rattle.fact_cache.specs.Caches.{is_within};
 ghost use Rattle.gv_driver.specs.declared.reply.Verdict.{Verdict};
 ghost use Rattle.gv_driver.specs.declared.tree.PackageTexts.{PackageTexts};
-ghost use Rattle.action_graph.specs.Judging.{Judged};
+ghost use Rattle.action_graph.specs.Judging.{IsLawful, Judged};
 ghost use Rattle.gv_driver.specs.Below.{FindingsStay, Typed};
 ghost use Rattle.gv_driver.specs.Caches.{IsCacheAfter, IsHonest};
 ghost use Rattle.gv_driver.specs.Existence.{AllHaveOutcomes, AllRunsHaveOutcomes, HasRun};
-ghost use Rattle.gv_driver.specs.Loads.{IsPlan};
-ghost use Rattle.gv_driver.specs.Reports.{IsReport, IsRunReport};
+ghost use Rattle.action_graph.specs.Analyzing.{IsRunLawful, IsRunOutcome};
+ghost use Rattle.action_graph.specs.Outcomes.{facts_of};
+ghost use Rattle.action_graph.specs.Work.{IsAnalyzer, has_facts};
+ghost use Rattle.action_graph.specs.declared.kit.RunInput.{RunInput};
+ghost use Rattle.std.specs.List.{Contains};
+ghost use Rattle.gv_driver.specs.Analyzers.{analyzers_of};
+ghost use Rattle.gv_driver.specs.Facts.{HasFacts};
+ghost use Rattle.gv_driver.specs.Loads.{IsRunOf, IsPlan};
+ghost use Rattle.gv_driver.specs.Reports.{IsFactReport, IsReport, IsRunReport};
 ghost use Rattle.gv_driver.specs.Trees.{IsTree};
 ghost use Rattle.gv_driver.specs.Whole.{Checked};
 
@@ -23,7 +30,23 @@ pub fn one_plan()
 /// A tree has one report.
 pub fn one_report()
     ensures verdicts { (tree : List PackageTexts) (a b : List Verdict) → IsReport tree a → IsReport tree b → a ≡ b }
+    ensures facts { (tree : List PackageTexts) (only : ℕ) (verdicts : List Verdict) (a b : List (List (ℕ × List ℕ))) → IsReport tree verdicts → IsFactReport tree only verdicts a → IsFactReport tree only verdicts b → a ≡ b }
     ensures found { (tree : List PackageTexts) (only : ℕ) (verdicts : List Verdict) (a b : List (List Diagnostic)) → IsReport tree verdicts → IsRunReport tree only verdicts a → IsRunReport tree only verdicts b → a ≡ b }
+{}
+
+/// A run of an analyzer over a package has one input, and the package has one list of the analyzer's facts; an analyzer without facts reads none,
+/// and one with facts runs over every package, if it runs over one.
+pub fn one_run_of_a_package()
+    ensures input { (tree : List PackageTexts) (a p : ℕ) (r s : RunInput) → IsRunOf tree a p r → IsRunOf tree a p s → r ≡ s }
+    ensures facts { (tree : List PackageTexts) (a p : ℕ) (facts more : List ℕ) → HasFacts tree a p facts → HasFacts tree a p more → facts ≡ more }
+    ensures everywhere { (only a : ℕ) (stub other : Bool) → Contains (analyzers_of only stub) a → has_facts a ≡ true → Contains (analyzers_of only other) a }
+    ensures without { (tree : List PackageTexts) (a p : ℕ) (r : RunInput) → has_facts a ≡ false → IsRunOf tree a p r → r.facts ≡ [] }
+{}
+
+/// What comes of the run of an analyzer that has facts tells those of its package; and over a lawful load the run is lawful.
+pub fn an_outcome_has_the_facts()
+    ensures lawful { (tree : List PackageTexts) (a p : ℕ) (run : RunInput) → IsTree tree → IsLawful run.load → IsAnalyzer a → IsRunOf tree a p run → IsRunLawful run }
+    ensures told { (tree : List PackageTexts) (a p : ℕ) (run : RunInput) (text : List ℕ) → IsRunOf tree a p run → has_facts a ≡ true → IsRunOutcome run text → length text < 2 ^ 64 → HasFacts tree a p (facts_of text) }
 {}
 
 /// A run leaves one cache, within its limits, and from an honest one an honest one.
@@ -34,7 +57,7 @@ pub fn one_cache()
 {}
 
 /// Where no lawful load and no lawful run is without an outcome, no tree is without verdicts, what the analyzers find,
-/// inputs of its nodes, and a cache that a run leaves.
+/// their facts, inputs of its nodes, and a cache that a run leaves.
 pub fn a_tree_has_a_report()
     ensures { AllHaveOutcomes → AllRunsHaveOutcomes → (tree : List PackageTexts) (only : ℕ) → IsTree tree → (before : List Entry) → HasRun tree only before }
 {}

@@ -6,6 +6,7 @@ mod answer;
 mod counts;
 mod diagnosed;
 mod driver;
+mod facts;
 mod input;
 mod keep;
 mod laws;
@@ -25,6 +26,9 @@ mod tree;
 
 pub use analysis_core::Counts;
 pub use driver::run;
-pub use laws::{a_tree_has_a_report, an_environment_is_enough, one_cache, one_plan, one_report};
+pub use laws::{
+    a_tree_has_a_report, an_environment_is_enough, an_outcome_has_the_facts, one_cache, one_plan,
+    one_report, one_run_of_a_package,
+};
 pub use reply::{Judgement, Verdict};
 pub use tree::PackageTexts;

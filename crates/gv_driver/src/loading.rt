@@ -106,7 +106,7 @@ pub(crate) fn begun_of<K: Kit>(
     ensures runs { K.runs kit.new ≡ K.runs kit.old }
     ensures circle { result ≡ Err Unloaded.Stuck → IsStuck (load_over tree.now table.now env.now pack.now) }
 {
-    let parts = parts_of(alloc, tree, table, env, pack)?;
+    let parts = parts_of(cache, tree, table, env, pack)?;
     match cached(cache, 0, &parts) {
         Some(outcome) => {
             let answer = read_answer(alloc, outcome)?;

@@ -2,11 +2,13 @@
 ghost use Rattle.std.specs.Prelude.{◌≡◌, ◌+◌, ◌<◌, ◌≤◌, ◌^◌, ℕ, Err, IfOk, OnOk, OnErr, length};
 ghost use Rattle.action_graph.specs.Judging.{IsStuck};
 ghost use Rattle.gv_driver.specs.Analyzers.{AreAnalyzers, analyzers_of};
+ghost use Rattle.gv_driver.specs.Given.{givens, givens_from};
 ghost use Rattle.gv_driver.specs.Loads.{load_input};
-ghost use Rattle.gv_driver.specs.Making.{IsBegun, IsMade, IsOpened, Takes, digit};
+ghost use Rattle.gv_driver.specs.Making.{AllApart, IsBegun, IsMade, IsOpened, Takes, digit};
 ghost use Rattle.gv_driver.specs.Rows.{merged};
 ghost use Rattle.gv_driver.specs.Tables.{IsRowOf, chosen_if, export_part, load_from, load_over};
 ghost use Rattle.gv_driver.specs.Tallies.{tally};
+ghost use Rattle.gv_driver.specs.Trees.{IsTree};
 
 use crate::analyzers::analyzers;
 use crate::answer::{export_of, is_accepted};
@@ -44,10 +46,11 @@ fn with_runs<K: Kit>(
     requires holds { K.holds kit.old }
     requires numbers { AreAnalyzers numbers.now }
     requires opened { IsOpened K.is_of K.keeps cache.now (load_over tree.now table.now env.now pack.now) begun }
+    requires apart { AllApart (givens tree.now table.now env.now) }
     ensures holds { K.holds kit.new }
-    ensures made { IfOk result (λ n. IsMade cache.now (load_over tree.now table.now env.now pack.now) numbers.now n) }
-    ensures takes { (count : ℕ) → K.loads kit.old ≡ count + digit begun.loading.tried → IfOk result (λ n. Takes cache.now (load_over tree.now table.now env.now pack.now) numbers.now n (tally count (K.runs kit.old)) (tally (K.loads kit.new) (K.runs kit.new))) }
-    ensures begun { (count : ℕ) → K.loads kit.old ≡ count + digit begun.loading.tried → OnErr result (IsBegun cache.now (load_over tree.now table.now env.now pack.now) numbers.now (tally count (K.runs kit.old)) (tally (K.loads kit.new) (K.runs kit.new))) }
+    ensures made { IfOk result (λ n. IsMade (givens tree.now table.now env.now) cache.now (load_over tree.now table.now env.now pack.now) numbers.now n) }
+    ensures takes { (count : ℕ) → K.loads kit.old ≡ count + digit begun.loading.tried → IfOk result (λ n. Takes (givens tree.now table.now env.now) cache.now (load_over tree.now table.now env.now pack.now) numbers.now n (tally count (K.runs kit.old)) (tally (K.loads kit.new) (K.runs kit.new))) }
+    ensures begun { (count : ℕ) → K.loads kit.old ≡ count + digit begun.loading.tried → OnErr result (IsBegun (givens tree.now table.now env.now) cache.now (load_over tree.now table.now env.now pack.now) numbers.now (tally count (K.runs kit.old)) (tally (K.loads kit.new) (K.runs kit.new))) }
     ensures circle { result ≡ Err Unloaded.Stuck → IsStuck (load_over tree.now table.now env.now pack.now) }
 {
     let Begun {
@@ -92,10 +95,11 @@ fn made_of<K: Kit>(
     requires loads { K.loads kit.old + 2 < 2 ^ 63 }
     requires runs { K.runs kit.old + 15 < 2 ^ 63 }
     requires holds { K.holds kit.old }
+    requires apart { AllApart (givens tree.now table.now env.now) }
     ensures holds { K.holds kit.new }
-    ensures made { IfOk result (λ n. IsMade cache.now (load_over tree.now table.now env.now pack.now) (analyzers_of only pack.now.stub) n) }
-    ensures takes { IfOk result (λ n. Takes cache.now (load_over tree.now table.now env.now pack.now) (analyzers_of only pack.now.stub) n (tally (K.loads kit.old) (K.runs kit.old)) (tally (K.loads kit.new) (K.runs kit.new))) }
-    ensures begun { OnErr result (IsBegun cache.now (load_over tree.now table.now env.now pack.now) (analyzers_of only pack.now.stub) (tally (K.loads kit.old) (K.runs kit.old)) (tally (K.loads kit.new) (K.runs kit.new))) }
+    ensures made { IfOk result (λ n. IsMade (givens tree.now table.now env.now) cache.now (load_over tree.now table.now env.now pack.now) (analyzers_of only pack.now.stub) n) }
+    ensures takes { IfOk result (λ n. Takes (givens tree.now table.now env.now) cache.now (load_over tree.now table.now env.now pack.now) (analyzers_of only pack.now.stub) n (tally (K.loads kit.old) (K.runs kit.old)) (tally (K.loads kit.new) (K.runs kit.new))) }
+    ensures begun { OnErr result (IsBegun (givens tree.now table.now env.now) cache.now (load_over tree.now table.now env.now pack.now) (analyzers_of only pack.now.stub) (tally (K.loads kit.old) (K.runs kit.old)) (tally (K.loads kit.new) (K.runs kit.new))) }
     ensures circle { result ≡ Err Unloaded.Stuck → IsStuck (load_over tree.now table.now env.now pack.now) }
 {
     let numbers = analyzers(alloc, only, pack.stub)?;
@@ -134,15 +138,17 @@ pub(crate) fn done_of<K: Kit>(
     table: &[Option<Node>],
     pack: &PackageTexts,
 ) -> Result<Node, Unloaded>
+    requires tree { IsTree tree.now }
+    requires size { length table.now ≡ length tree.now }
     requires few { length table.now < 2 ^ 32 }
     requires loads { K.loads kit.old + 2 < 2 ^ 63 }
     requires runs { K.runs kit.old + 15 < 2 ^ 63 }
     requires holds { K.holds kit.old }
     ensures holds { K.holds kit.new }
-    ensures made { IfOk result (λ n. IsMade cache.now (load_from tree.now table.now pack.now) (analyzers_of only pack.now.stub) n) }
+    ensures made { IfOk result (λ n. IsMade (givens_from tree.now table.now pack.now) cache.now (load_from tree.now table.now pack.now) (analyzers_of only pack.now.stub) n) }
     ensures row { IfOk result (λ n. IsRowOf tree.now table.now (merged table.now pack.now.imports) (export_part n.answer) n.reach) }
-    ensures takes { IfOk result (λ n. Takes cache.now (load_from tree.now table.now pack.now) (analyzers_of only pack.now.stub) n (tally (K.loads kit.old) (K.runs kit.old)) (tally (K.loads kit.new) (K.runs kit.new))) }
-    ensures begun { OnErr result (IsBegun cache.now (load_from tree.now table.now pack.now) (analyzers_of only pack.now.stub) (tally (K.loads kit.old) (K.runs kit.old)) (tally (K.loads kit.new) (K.runs kit.new))) }
+    ensures takes { IfOk result (λ n. Takes (givens_from tree.now table.now pack.now) cache.now (load_from tree.now table.now pack.now) (analyzers_of only pack.now.stub) n (tally (K.loads kit.old) (K.runs kit.old)) (tally (K.loads kit.new) (K.runs kit.new))) }
+    ensures begun { OnErr result (IsBegun (givens_from tree.now table.now pack.now) cache.now (load_from tree.now table.now pack.now) (analyzers_of only pack.now.stub) (tally (K.loads kit.old) (K.runs kit.old)) (tally (K.loads kit.new) (K.runs kit.new))) }
     ensures circle { result ≡ Err Unloaded.Stuck → IsStuck (load_from tree.now table.now pack.now) }
 {
     let env = merged_row(alloc, table, pack.imports.as_slice())?;

@@ -1,15 +1,14 @@
 //! What a load reads, as slices of what holds it, so that nothing is copied to look it up.
 ghost use Rattle.std.specs.Prelude.{◌≡◌, ◌++◌, ◌∷◌, [], IfOk, OnOk, map, option_map, slice_get};
-ghost use Rattle.action_graph.specs.Nodes.{load_texts, pairs, run_texts};
+ghost use Rattle.action_graph.specs.Nodes.{load_texts, pairs};
 ghost use Rattle.fact_cache.specs.Caches.{lookup};
-ghost use Rattle.gv_driver.specs.Loads.{run_over};
 ghost use Rattle.gv_driver.specs.Rows.{path_in};
 ghost use Rattle.gv_driver.specs.Tables.{export_in, load_over, pair_at};
 
 use crate::answer::{export_of, shared_export};
 use crate::node::Node;
 use crate::tree::PackageTexts;
-use fact_cache::Cache;
+use fact_cache::{Cache, Parts};
 use gv_base::{Bytes, NoMemory, Text};
 use std::alloc::Global;
 
@@ -50,30 +49,30 @@ pub(crate) fn shared_export_at(
     }
 }
 
-fn push_part<'a>(parts: &mut Vec<&'a [u8]>, part: &'a [u8]) -> Result<(), NoMemory>
-    ensures { OnOk result (map (λ t. t.now) parts.new.items ≡ map (λ t. t.now) parts.old.items ++ part.now ∷ []) }
+fn push_part<'a>(parts: &mut Parts<'a>, part: &'a [u8]) -> Result<(), NoMemory>
+    ensures { OnOk result (parts.new ≡ parts.old ++ part.now ∷ []) }
 {
     parts.push(part)?;
     Ok(())
 }
 
-fn push_pair<'a>(parts: &mut Vec<&'a [u8]>, path: &'a str, bytes: &'a [u8]) -> Result<(), NoMemory>
-    ensures { OnOk result (map (λ t. t.now) parts.new.items ≡ (map (λ t. t.now) parts.old.items ++ path.now ∷ []) ++ bytes.now ∷ []) }
+fn push_pair<'a>(parts: &mut Parts<'a>, path: &'a str, bytes: &'a [u8]) -> Result<(), NoMemory>
+    ensures { OnOk result (parts.new ≡ (parts.old ++ path.now ∷ []) ++ bytes.now ∷ []) }
 {
     push_part(parts, path.as_bytes())?;
     push_part(parts, bytes)?;
     Ok(())
 }
 
-fn push_file<'a>(parts: &mut Vec<&'a [u8]>, file: &'a (Text, Bytes)) -> Result<(), NoMemory>
-    ensures { OnOk result (map (λ t. t.now) parts.new.items ≡ (map (λ t. t.now) parts.old.items ++ file.now.0 ∷ []) ++ file.now.1 ∷ []) }
+fn push_file<'a>(parts: &mut Parts<'a>, file: &'a (Text, Bytes)) -> Result<(), NoMemory>
+    ensures { OnOk result (parts.new ≡ (parts.old ++ file.now.0 ∷ []) ++ file.now.1 ∷ []) }
 {
     push_pair(parts, file.0.as_str(), file.1.as_slice())?;
     Ok(())
 }
 
-fn push_files<'a>(parts: &mut Vec<&'a [u8]>, files: &'a [(Text, Bytes)]) -> Result<(), NoMemory>
-    ensures { OnOk result (map (λ t. t.now) parts.new.items ≡ map (λ t. t.now) parts.old.items ++ pairs files.now) }
+fn push_files<'a>(parts: &mut Parts<'a>, files: &'a [(Text, Bytes)]) -> Result<(), NoMemory>
+    ensures { OnOk result (parts.new ≡ parts.old ++ pairs files.now) }
 {
     for file in files {
         push_file(parts, file)?;
@@ -82,12 +81,12 @@ fn push_files<'a>(parts: &mut Vec<&'a [u8]>, files: &'a [(Text, Bytes)]) -> Resu
 }
 
 fn push_export<'a>(
-    parts: &mut Vec<&'a [u8]>,
+    parts: &mut Parts<'a>,
     tree: &'a [PackageTexts],
     table: &'a [Option<Node>],
     number: u32,
 ) -> Result<(), NoMemory>
-    ensures { OnOk result (map (λ t. t.now) parts.new.items ≡ (map (λ t. t.now) parts.old.items ++ (pair_at tree.now table.now number).0 ∷ []) ++ (pair_at tree.now table.now number).1 ∷ []) }
+    ensures { OnOk result (parts.new ≡ (parts.old ++ (pair_at tree.now table.now number).0 ∷ []) ++ (pair_at tree.now table.now number).1 ∷ []) }
 {
     let at = number as usize;
     push_pair(parts, path_at(tree, at), export_at(table, at))?;
@@ -95,12 +94,12 @@ fn push_export<'a>(
 }
 
 fn push_exports<'a>(
-    parts: &mut Vec<&'a [u8]>,
+    parts: &mut Parts<'a>,
     tree: &'a [PackageTexts],
     table: &'a [Option<Node>],
     numbers: &[u32],
 ) -> Result<(), NoMemory>
-    ensures { OnOk result (map (λ t. t.now) parts.new.items ≡ map (λ t. t.now) parts.old.items ++ pairs (map (pair_at tree.now table.now) numbers.now)) }
+    ensures { OnOk result (parts.new ≡ parts.old ++ pairs (map (pair_at tree.now table.now) numbers.now)) }
 {
     for number in numbers {
         push_export(parts, tree, table, *number)?;
@@ -108,17 +107,17 @@ fn push_exports<'a>(
     Ok(())
 }
 
-/// The texts of what a package's load reads.
+/// The texts of what a package's load reads, each gone through once for all look-ups that begin with them.
 pub(crate) fn parts_of<'a>(
-    alloc: Global,
+    cache: &Cache,
     tree: &'a [PackageTexts],
     table: &'a [Option<Node>],
     env: &[u32],
     pack: &'a PackageTexts,
-) -> Result<Vec<&'a [u8]>, NoMemory>
-    ensures { IfOk result (λ parts. map (λ t. t.now) parts.items ≡ load_texts (load_over tree.now table.now env.now pack.now)) }
+) -> Result<Parts<'a>, NoMemory>
+    ensures { IfOk result (λ parts. parts ≡ load_texts (load_over tree.now table.now env.now pack.now)) }
 {
-    let mut parts = Vec::new(alloc);
+    let mut parts = cache.parts();
     push_part(&mut parts, pack.path.as_str().as_bytes())?;
     push_files(&mut parts, pack.files.as_slice())?;
     push_part(&mut parts, b"")?;
@@ -126,24 +125,37 @@ pub(crate) fn parts_of<'a>(
     Ok(parts)
 }
 
-/// The texts of what the runs over a package read.
+/// The texts of what the runs over a package read, up to the facts.
 pub(crate) fn run_parts<'a>(
-    alloc: Global,
+    cache: &Cache,
     tree: &'a [PackageTexts],
     table: &'a [Option<Node>],
     env: &[u32],
     pack: &'a PackageTexts,
-) -> Result<Vec<&'a [u8]>, NoMemory>
-    ensures { IfOk result (λ parts. map (λ t. t.now) parts.items ≡ run_texts (run_over 0 (load_over tree.now table.now env.now pack.now))) }
+) -> Result<Parts<'a>, NoMemory>
+    ensures { IfOk result (λ parts. parts ≡ load_texts (load_over tree.now table.now env.now pack.now) ++ [] ∷ []) }
 {
-    let mut parts = parts_of(alloc, tree, table, env, pack)?;
+    let mut parts = parts_of(cache, tree, table, env, pack)?;
     push_part(&mut parts, b"")?;
     Ok(parts)
 }
 
-/// The outcome that the cache has of a node whose input is these texts: a load for 0, else the analyzer's run.
-pub(crate) fn cached<'a>(cache: &'a Cache, node: u8, parts: &[&[u8]]) -> Option<&'a [u8]>
-    ensures { option_map (λ o. o.now) result ≡ lookup cache.now (record { node = node; texts = map (λ t. t.now) parts.now }) }
+/// These texts, and the path and the facts of each of these packages.
+pub(crate) fn with_facts<'a>(
+    alloc: Global,
+    parts: &Parts<'a>,
+    facts: &'a [(Text, Bytes)],
+) -> Result<Parts<'a>, NoMemory>
+    ensures { IfOk result (λ texts. texts ≡ parts.now ++ pairs facts.now) }
 {
-    cache.find_slices(node, parts)
+    let mut texts = parts.copy(alloc)?;
+    push_files(&mut texts, facts)?;
+    Ok(texts)
+}
+
+/// The outcome that the cache has of a node whose input is these texts: a load for 0, else the analyzer's run.
+pub(crate) fn cached<'a>(cache: &'a Cache, node: u8, parts: &Parts<'_>) -> Option<&'a [u8]>
+    ensures { option_map (λ o. o.now) result ≡ lookup cache.now (record { node = node; texts = parts.now }) }
+{
+    cache.find_parts(node, parts)
 }

@@ -1,7 +1,7 @@
 //! What a run says of the packages of a tree.
 use action_graph::MarkLine;
 use analysis_core::{Counts, Diagnostic};
-use gv_base::Row;
+use gv_base::{Bytes, Row};
 
 /// What comes of a package, the first of these that holds.
 #[derive(Drop)]
@@ -24,6 +24,8 @@ pub struct Judgement {
     /// What the analyzers found of each package, by its number: of one after the other, and each in its own order. File numbers count the
     /// package's files from 0.
     pub found: Row<Row<Diagnostic>>,
+    /// The facts of each package, by its number: the analyzer, and its fact text, by analyzer.
+    pub facts: Row<Row<(u8, Bytes)>>,
     /// How much work there was.
     pub counts: Counts,
 }

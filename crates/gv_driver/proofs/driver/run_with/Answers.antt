@@ -1,11 +1,13 @@
-use Rattle.std.proofs.Common.{◌≡◌, ◌<◌, ◌≤◌, ◌+◌, ◌*◌, ◌^◌, ◌∙◌, ◌++◌, List, Option, Some, ap, map, sym, subst, length, take, arith, rules}
+use Rattle.std.proofs.Common.{◌≡◌, ◌<◌, ◌≤◌, ◌+◌, ◌*◌, ◌^◌, ◌∙◌, ◌++◌, ℕ, List, Option, Some, ap, map, sym, subst, length, take, arith, rules}
 use Rattle.std.specs.Prelude.{sum_by}
+use Rattle.std.proofs.lemmas.List.{length-map}
 use Rattle.fact_cache.specs.declared.list.Entry.{Entry}
 use Rattle.analysis_core.specs.declared.diagnostic.Diagnostic.{Diagnostic}
 use Rattle.gv_driver.specs.declared.node.Node.{Node}
 use Rattle.gv_driver.specs.declared.reply.Verdict.{Verdict}
 use Rattle.gv_driver.specs.Caches.{IsHonest}
 use Rattle.gv_driver.specs.Entries.{all_entries}
+use Rattle.gv_driver.specs.Given.{told_at}
 use Rattle.gv_driver.specs.Reports.{AllFoundShown, AreShown}
 use Rattle.gv_driver.specs.Runs.{CanKeep}
 use Rattle.gv_driver.specs.Tables.{AreShort, loads_in, missing_in, nodes_in, runs_in, waiting}
@@ -121,6 +123,22 @@ returns-in_err-entries-clause-cut_off g c = λ honest.
     (stops-goes c.args.tree.now c.args.only c.args.cache.now c.in_ok-table.table.items c.run_all.new.table.items (tally (g.K.Kit.loads c.args.kit.now) (g.K.Kit.runs c.args.kit.now)) (tally (g.K.Kit.loads c.run_all.new.kit) (g.K.Kit.runs c.run_all.new.kit)) c.in_ok-run_all.ensures.goes) in
     search (rules, h)
 
+pub returns-in_err-facts-clause-loads : goal.returns-in_err-facts-clause-loads
+returns-in_err-facts-clause-loads g c =
+    loads-bound c.args.tree.now c.args.only c.args.cache.now c.in_ok-table.table.items (tally (g.K.Kit.loads c.args.kit.now) (g.K.Kit.runs c.args.kit.now)) (tally (g.K.Kit.loads c.run_all.new.kit) (g.K.Kit.runs c.run_all.new.kit)) c.in_ok-table.ensures
+    (stops-goes c.args.tree.now c.args.only c.args.cache.now c.in_ok-table.table.items c.run_all.new.table.items (tally (g.K.Kit.loads c.args.kit.now) (g.K.Kit.runs c.args.kit.now)) (tally (g.K.Kit.loads c.run_all.new.kit) (g.K.Kit.runs c.run_all.new.kit)) c.in_ok-run_all.ensures.goes)
+
+pub returns-in_err-facts-clause-runs : goal.returns-in_err-facts-clause-runs
+returns-in_err-facts-clause-runs g c =
+    runs-bound c.args.tree.now c.args.only c.args.cache.now c.in_ok-table.table.items (tally (g.K.Kit.loads c.args.kit.now) (g.K.Kit.runs c.args.kit.now)) (tally (g.K.Kit.loads c.run_all.new.kit) (g.K.Kit.runs c.run_all.new.kit)) c.in_ok-table.ensures
+    (stops-goes c.args.tree.now c.args.only c.args.cache.now c.in_ok-table.table.items c.run_all.new.table.items (tally (g.K.Kit.loads c.args.kit.now) (g.K.Kit.runs c.args.kit.now)) (tally (g.K.Kit.loads c.run_all.new.kit) (g.K.Kit.runs c.run_all.new.kit)) c.in_ok-run_all.ensures.goes)
+
+pub returns-in_err-facts-clause-cut_off : goal.returns-in_err-facts-clause-cut_off
+returns-in_err-facts-clause-cut_off g c = λ honest.
+    let h = cut-stops c.args.tree.now c.args.only c.args.cache.now c.in_ok-table.table.items (tally (g.K.Kit.loads c.args.kit.now) (g.K.Kit.runs c.args.kit.now)) (tally (g.K.Kit.loads c.run_all.new.kit) (g.K.Kit.runs c.run_all.new.kit)) honest c.in_ok-table.ensures
+    (stops-goes c.args.tree.now c.args.only c.args.cache.now c.in_ok-table.table.items c.run_all.new.table.items (tally (g.K.Kit.loads c.args.kit.now) (g.K.Kit.runs c.args.kit.now)) (tally (g.K.Kit.loads c.run_all.new.kit) (g.K.Kit.runs c.run_all.new.kit)) c.in_ok-run_all.ensures.goes) in
+    search (rules, h)
+
 pub keep-requires : goal.keep-requires
 keep-requires g c = (all_entries c.run_all.new.table.items, (c.in_ok-entries.ensures ∙ ap (λ (l : List (Option Node)). map Some (all_entries l)) c.deref-4.ensures.value), (can-keep c.args.tree.now c.args.only c.args.cache.now c.run_all.new.table.items c.requires.tree c.in_ok-run_all.ensures.goes.right))
 
@@ -174,6 +192,12 @@ returns-clause-found g c =
     (subst (λ (l : List (Option Node)). AllFoundShown tree l c.in_ok-found.found.items (length tree)) c.deref-2.ensures.value c.in_ok-found.ensures) in
     found-stands tree table list c.in_ok-run_all.ensures.goes.right.size shown
 
+pub returns-clause-facts : goal.returns-clause-facts
+returns-clause-facts g c =
+    let table = c.run_all.new.table.items in
+    let facts : c.new-3.result ≡ map told_at table = c.new-3.ensures ∙ (c.in_ok-facts.ensures ∙ ap (λ (l : List (Option Node)). map told_at l) c.deref-5.ensures.value) in
+    ap (λ (l : List (List (ℕ × List ℕ))). length l) facts ∙ (length-map table told_at ∙ c.in_ok-run_all.ensures.goes.right.size)
+
 pub returns-clause-ran : goal.returns-clause-ran
 returns-clause-ran g c = λ honest.
     let tree = c.args.tree.now in
@@ -185,9 +209,10 @@ returns-clause-ran g c = λ honest.
     (subst (λ (l : List (Option Node)). AreShown tree l c.in_ok-list.list.items (length tree)) c.deref.ensures.value c.in_ok-list.ensures) in
     let told : AllFoundShown tree table found (length tree) = subst (λ (v : List (List Diagnostic)). AllFoundShown tree table v (length tree)) (sym c.new-2.ensures)
     (subst (λ (l : List (Option Node)). AllFoundShown tree l c.in_ok-found.found.items (length tree)) c.deref-2.ensures.value c.in_ok-found.ensures) in
+    let facts : c.new-3.result ≡ map told_at table = c.new-3.ensures ∙ (c.in_ok-facts.ensures ∙ ap (λ (l : List (Option Node)). map told_at l) c.deref-5.ensures.value) in
     ran-right c.findings_stand.ensures tree c.args.only c.args.cache.now c.keep.new.cache c.in_ok-table.table.items table (tally (g.K.Kit.loads c.args.kit.now) (g.K.Kit.runs c.args.kit.now)) (tally (g.K.Kit.loads c.run_all.new.kit) (g.K.Kit.runs c.run_all.new.kit))
-    (record { verdicts = list; found = found; counts = counts }) honest c.in_ok-table.ensures c.in_ok-run_all.ensures.goes c.in_ok-run_all.ensures.done (can-keep c.args.tree.now c.args.only c.args.cache.now c.run_all.new.table.items c.requires.tree c.in_ok-run_all.ensures.goes.right)
-    (c.in_ok-keep.ensures.whole (all_entries c.run_all.new.table.items) (c.in_ok-entries.ensures ∙ ap (λ (l : List (Option Node)). map Some (all_entries l)) c.deref-4.ensures.value)) shown told
+    (record { verdicts = list; found = found; facts = c.new-3.result; counts = counts }) honest c.in_ok-table.ensures c.in_ok-run_all.ensures.goes c.in_ok-run_all.ensures.done (can-keep c.args.tree.now c.args.only c.args.cache.now c.run_all.new.table.items c.requires.tree c.in_ok-run_all.ensures.goes.right)
+    (c.in_ok-keep.ensures.whole (all_entries c.run_all.new.table.items) (c.in_ok-entries.ensures ∙ ap (λ (l : List (Option Node)). map Some (all_entries l)) c.deref-4.ensures.value)) shown told facts
     (c.counts-counts.ensures.nodes ∙ ap (λ (l : List (Option Node)). sum_by nodes_in l) c.deref-3.ensures.value)
     (c.counts-counts.ensures.missing ∙ ap (λ (l : List (Option Node)). sum_by missing_in l) c.deref-3.ensures.value)
     (c.counts-counts.ensures.loads ∙ ap (λ (l : List (Option Node)). sum_by loads_in l) c.deref-3.ensures.value)

@@ -1,4 +1,4 @@
-use Rattle.std.proofs.Common.{◌≡◌, ◌∙◌, ap, map}
+use Rattle.std.proofs.Common.{◌≡◌, ◌∙◌}
 use Rattle.action_graph.specs.Nodes.{load_texts}
 use Rattle.gv_driver.specs.Tables.{load_over}
 use Rattle.gv_driver.proofs.LoadingLaws.{opened-found}
@@ -7,6 +7,6 @@ use Rattle.gv_driver.proofs.loading.begun_of.Goals as goal
 pub returns-in-Some-clause-opened : goal.returns-in-Some-clause-opened
 returns-in-Some-clause-opened g c =
     let load = load_over c.args.tree.now c.args.table.now c.args.env.now c.args.pack.now in
-    let parts : map (λ t. t.now) c.deref.result.now ≡ load_texts load = ap (λ l. map (λ t. t.now) l) c.deref.ensures.value ∙ c.in_ok-parts.ensures in
-    opened-found g.K.Kit.is_of g.K.Kit.keeps c.args.cache.now load (map (λ t. t.now) c.deref.result.now) c.found.result c.in-Some.outcome.now parts c.in-Some.ensures
+    let parts : c.in_ok-parts.parts ≡ load_texts load = c.in_ok-parts.ensures in
+    opened-found g.K.Kit.is_of g.K.Kit.keeps c.args.cache.now load c.in_ok-parts.parts c.found.result c.in-Some.outcome.now parts c.in-Some.ensures
     c.found.ensures.fresh (c.found.ensures.answer ∙ c.in_ok-answer-in-Some.ensures) c.found.ensures.loaded c.found.ensures.tried

@@ -1,5 +1,6 @@
 use Rattle.std.proofs.Common.{rules, ◌≡◌, ◌≤◌, ◌<◌, ◌+◌, ◌^◌, ◌∙◌, sym, ap, subst, refl, arith, length, List, ℕ}
 use Rattle.gv_driver.specs.Analyzers.{AreAnalyzers, analyzers_of}
+use Rattle.gv_driver.specs.Given.{givens}
 use Rattle.gv_driver.specs.Making.{IsBegun, IsMade, Takes, digit}
 use Rattle.gv_driver.specs.Tables.{load_over}
 use Rattle.gv_driver.specs.Tallies.{Tally, tally}
@@ -11,13 +12,13 @@ use Rattle.gv_driver.proofs.package.made_of.Goals as goal
 pub returns-in_err-numbers-clause-begun : goal.returns-in_err-numbers-clause-begun
 returns-in_err-numbers-clause-begun g c =
     let h =
-    begun-none c.args.cache.now (load_over c.args.tree.now c.args.table.now c.args.env.now c.args.pack.now) (analyzers_of c.args.only c.args.pack.now.stub) (tally (g.K.Kit.loads c.args.kit.now) (g.K.Kit.runs c.args.kit.now)) in
+    begun-none (givens c.args.tree.now c.args.table.now c.args.env.now) c.args.cache.now (load_over c.args.tree.now c.args.table.now c.args.env.now c.args.pack.now) (analyzers_of c.args.only c.args.pack.now.stub) (tally (g.K.Kit.loads c.args.kit.now) (g.K.Kit.runs c.args.kit.now)) in
     search (rules, h)
 
 pub returns-in_err-begun-clause-begun : goal.returns-in_err-begun-clause-begun
 returns-in_err-begun-clause-begun g c =
     let h =
-    begun-same c.args.cache.now (load_over c.args.tree.now c.args.table.now c.args.env.now c.args.pack.now) (analyzers_of c.args.only c.args.pack.now.stub)
+    begun-same (givens c.args.tree.now c.args.table.now c.args.env.now) c.args.cache.now (load_over c.args.tree.now c.args.table.now c.args.env.now c.args.pack.now) (analyzers_of c.args.only c.args.pack.now.stub)
     (tally (g.K.Kit.loads c.args.kit.now) (g.K.Kit.runs c.args.kit.now)) (tally (g.K.Kit.loads c.begun_of.new.kit) (g.K.Kit.runs c.begun_of.new.kit)) c.in_err-begun.ensures.refused c.begun_of.ensures.runs in
     search (rules, h)
 
@@ -46,18 +47,18 @@ returns-in_err-node-clause-begun g c =
     let load = load_over c.args.tree.now c.args.table.now c.args.env.now c.args.pack.now in
     let now = tally (g.K.Kit.loads c.with_runs.new.kit) (g.K.Kit.runs c.with_runs.new.kit) in
     let h =
-    subst (λ (l : List ℕ). IsBegun cache load l (tally (g.K.Kit.loads c.args.kit.now) (g.K.Kit.runs c.args.kit.now)) now) (c.deref.ensures.value ∙ c.in_ok-numbers.ensures)
-    (subst (λ (r : ℕ). IsBegun cache load c.deref.result.now (tally (g.K.Kit.loads c.args.kit.now) r) now) c.begun_of.ensures.runs (c.in_err-node.ensures.begun (g.K.Kit.loads c.args.kit.now) c.in_ok-begun.ensures.counts)) in
+    subst (λ (l : List ℕ). IsBegun (givens c.args.tree.now c.args.table.now c.args.env.now) cache load l (tally (g.K.Kit.loads c.args.kit.now) (g.K.Kit.runs c.args.kit.now)) now) (c.deref.ensures.value ∙ c.in_ok-numbers.ensures)
+    (subst (λ (r : ℕ). IsBegun (givens c.args.tree.now c.args.table.now c.args.env.now) cache load c.deref.result.now (tally (g.K.Kit.loads c.args.kit.now) r) now) c.begun_of.ensures.runs (c.in_err-node.ensures.begun (g.K.Kit.loads c.args.kit.now) c.in_ok-begun.ensures.counts)) in
     search (rules, h)
 
 pub returns-clause-made : goal.returns-clause-made
 returns-clause-made g c =
-    subst (λ (l : List ℕ). IsMade c.args.cache.now (load_over c.args.tree.now c.args.table.now c.args.env.now c.args.pack.now) l c.in_ok-node.node) (c.deref.ensures.value ∙ c.in_ok-numbers.ensures) c.in_ok-node.ensures.made
+    subst (λ (l : List ℕ). IsMade (givens c.args.tree.now c.args.table.now c.args.env.now) c.args.cache.now (load_over c.args.tree.now c.args.table.now c.args.env.now c.args.pack.now) l c.in_ok-node.node) (c.deref.ensures.value ∙ c.in_ok-numbers.ensures) c.in_ok-node.ensures.made
 
 pub returns-clause-takes : goal.returns-clause-takes
 returns-clause-takes g c =
     let cache = c.args.cache.now in
     let load = load_over c.args.tree.now c.args.table.now c.args.env.now c.args.pack.now in
     let now = tally (g.K.Kit.loads c.with_runs.new.kit) (g.K.Kit.runs c.with_runs.new.kit) in
-    subst (λ (l : List ℕ). Takes cache load l c.in_ok-node.node (tally (g.K.Kit.loads c.args.kit.now) (g.K.Kit.runs c.args.kit.now)) now) (c.deref.ensures.value ∙ c.in_ok-numbers.ensures)
-    (subst (λ (r : ℕ). Takes cache load c.deref.result.now c.in_ok-node.node (tally (g.K.Kit.loads c.args.kit.now) r) now) c.begun_of.ensures.runs (c.in_ok-node.ensures.takes (g.K.Kit.loads c.args.kit.now) c.in_ok-begun.ensures.counts))
+    subst (λ (l : List ℕ). Takes (givens c.args.tree.now c.args.table.now c.args.env.now) cache load l c.in_ok-node.node (tally (g.K.Kit.loads c.args.kit.now) (g.K.Kit.runs c.args.kit.now)) now) (c.deref.ensures.value ∙ c.in_ok-numbers.ensures)
+    (subst (λ (r : ℕ). Takes (givens c.args.tree.now c.args.table.now c.args.env.now) cache load c.deref.result.now c.in_ok-node.node (tally (g.K.Kit.loads c.args.kit.now) r) now) c.begun_of.ensures.runs (c.in_ok-node.ensures.takes (g.K.Kit.loads c.args.kit.now) c.in_ok-begun.ensures.counts))

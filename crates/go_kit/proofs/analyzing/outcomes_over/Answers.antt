@@ -8,11 +8,10 @@ use Rattle.unit_read.specs.Subjects.{unit_of}
 use Rattle.unit_read.specs.Units.{Unit}
 use Rattle.check_pkg.specs.Typings.{marks_of}
 use Rattle.vet_suite.specs.Free.{path_of}
-use Rattle.vet_suite.specs.Suite.{FoundBy}
 use Rattle.action_graph.specs.Nodes.{Named}
-use Rattle.go_kit.specs.Loading.{unit_loaded}
+use Rattle.go_kit.specs.Loading.{AreOutcomesIn, unit_loaded}
 use Rattle.go_kit.proofs.RunLemmas.{few-files, given-of, ordered-uses, read-as, scene-of, small-trees}
-use Rattle.go_kit.proofs.analyzing.found_over.Goals as goal
+use Rattle.go_kit.proofs.analyzing.outcomes_over.Goals as goal
 
 pub subject-requires-clause-small : goal.subject-requires-clause-small
 subject-requires-clause-small c = subst (λ (trees : List FileTree). AreSmall trees) (sym c.deref.ensures.value) (small-trees c.args.loaded.now c.args.load.now c.requires.of)
@@ -25,8 +24,8 @@ subject-requires-clause-few c =
 pub subject-requires-clause-uses : goal.subject-requires-clause-uses
 subject-requires-clause-uses c = ordered-uses c.args.loaded.now c.args.load.now c.requires.of
 
-pub found_in-requires-clause-pass : goal.found_in-requires-clause-pass
-found_in-requires-clause-pass c =
+pub outcomes_in-requires-clause-pass : goal.outcomes_in-requires-clause-pass
+outcomes_in-requires-clause-pass c =
     let l = c.args.loaded.now in
     let input = c.args.load.now in
     let same : unit_of c.in_ok-subject.subject ≡ unit_loaded l input =
@@ -40,21 +39,21 @@ found_in-requires-clause-pass c =
       few = subst (λ (ts : List FileTree). length ts ≤ 2 ^ 32) (sym trees) (omega (arith, few));
     }
 
-pub found_in-requires-clause-given : goal.found_in-requires-clause-given
-found_in-requires-clause-given c =
+pub outcomes_in-requires-clause-given : goal.outcomes_in-requires-clause-given
+outcomes_in-requires-clause-given c = λ k r at.
     let l = c.args.loaded.now in
     let input = c.args.load.now in
     let same : unit_of c.in_ok-subject.subject ≡ unit_loaded l input =
     read-as l input c.requires.of (unit_of c.in_ok-subject.subject) c.as_bytes-path.result.now (texts_of c.args.texts.now) c.deref.result.now (faces_in c.args.env.now) c.in_ok-subject.ensures.of
     (c.as_bytes-path.ensures.value ∙ c.as_str.ensures) c.requires.texts c.deref.ensures.value c.requires.faces in
-    given-of l input c.requires.of (unit_of c.in_ok-subject.subject) c.as_slice-files.result.now c.args.named.now same c.as_slice-files.ensures c.requires.named
+    given-of l input c.requires.of (unit_of c.in_ok-subject.subject) c.as_slice-files.result.now c.args.named.now r.facts same c.as_slice-files.ensures c.requires.named (c.requires.apart k r at)
 
-pub returns : goal.returns
-returns c =
+pub returns-clause-each : goal.returns-clause-each
+returns-clause-each c =
     let l = c.args.loaded.now in
     let input = c.args.load.now in
     let same : unit_of c.in_ok-subject.subject ≡ unit_loaded l input =
     read-as l input c.requires.of (unit_of c.in_ok-subject.subject) c.as_bytes-path.result.now (texts_of c.args.texts.now) c.deref.result.now (faces_in c.args.env.now) c.in_ok-subject.ensures.of
     (c.as_bytes-path.ensures.value ∙ c.as_str.ensures) c.requires.texts c.deref.ensures.value c.requires.faces in
-    subst (λ (u : Unit). FoundBy c.args.number u (marks_of l.typed) (map path_of input.files) c.in_ok-found.found.items) same
-    (subst (λ (files : List Named). FoundBy c.args.number (unit_of c.in_ok-subject.subject) (marks_of l.typed) (map path_of files) c.in_ok-found.found.items) c.as_slice-files.ensures c.in_ok-found.ensures)
+    subst (λ (u : Unit). AreOutcomesIn u (marks_of l.typed) (map path_of input.files) c.args.asked.now c.in_ok-outcomes.outcomes.items) same
+    (subst (λ (files : List Named). AreOutcomesIn (unit_of c.in_ok-subject.subject) (marks_of l.typed) (map path_of files) c.args.asked.now c.in_ok-outcomes.outcomes.items) c.as_slice-files.ensures c.in_ok-outcomes.ensures.each)
