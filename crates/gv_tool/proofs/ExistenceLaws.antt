@@ -11,7 +11,7 @@ use Rattle.analysis_core.specs.Replies.{stats_text}
 use Rattle.gv_tool.specs.declared.status.Status.{Status}
 use Rattle.gv_tool.specs.declared.status.Status.TheVariants.{Done, Found, Refused, TooLong}
 use Rattle.gv_tool.specs.declared.word.Word.{Word}
-use Rattle.gv_tool.specs.declared.word.Word.TheVariants.{Put, Del, Show, Check, Report, Fix, Stats, End}
+use Rattle.gv_tool.specs.declared.word.Word.TheVariants.{Put, Del, Show, Check, Report, Facts, Fix, Stats, End}
 use Rattle.gv_tool.specs.Words.{text_of, shape_of}
 use Rattle.gv_tool.specs.Script.{Fields, bare, at_path, with_file, Fit, field_text, Command, spelling, IsLawful, IsBeginning, NoCommand}
 use Rattle.gv_tool.specs.Replies.{Standing, Runs, at_start, put_changed, show_text, with_tree, Does}
@@ -67,6 +67,7 @@ word-none Del e = cc
 word-none Show e = cc
 word-none Check e = cc
 word-none Report e = cc
+word-none Facts e = cc
 word-none Fix e = cc
 word-none Stats e = cc
 word-none End e = cc
@@ -220,6 +221,9 @@ module _ (only : ℕ) (given : List ℕ) (none : (out : List ℕ) (status : Stat
     step Report bare more fit is within = runs commands.Report Report more tt (λ next reply r. r) is within
     step Report (at_path path) more fit is within = absurd fit
     step Report (with_file path bytes) more fit is within = absurd fit
+    step Facts bare more fit is within = runs commands.Facts Facts more tt (λ next reply r. r) is within
+    step Facts (at_path path) more fit is within = absurd fit
+    step Facts (with_file path bytes) more fit is within = absurd fit
     step Fix bare more fit is within = runs commands.Fix Fix more tt (λ next reply r. r) is within
     step Fix (at_path path) more fit is within = absurd fit
     step Fix (with_file path bytes) more fit is within = absurd fit

@@ -3,7 +3,7 @@ use Rattle.std.proofs.Common.{◌≡◌, ℕ, List, [], ◌∷◌, sym, ap, subs
 use Rattle.analysis_core.specs.declared.command.Command.{Command as Asked}
 use Rattle.analysis_core.specs.declared.command.Command.TheVariants as commands
 use Rattle.gv_tool.specs.declared.word.Word.{Word}
-use Rattle.gv_tool.specs.declared.word.Word.TheVariants.{Put, Del, Show, Check, Report, Fix, Stats, End}
+use Rattle.gv_tool.specs.declared.word.Word.TheVariants.{Put, Del, Show, Check, Report, Facts, Fix, Stats, End}
 use Rattle.gv_tool.specs.Script.{Fields, bare, at_path, with_file, Command}
 use Rattle.gv_tool.specs.Judging.{Tree, Entries, TreeReport, Reports, IsHonest}
 use Rattle.gv_tool.specs.Replies.{Standing, Carries, Leads}
@@ -27,6 +27,7 @@ step-honest keeps Show (at_path path) s n r h k = same-cache s n (ap (λ (z : St
 step-honest keeps Show (with_file path bytes) s n r h k = absurd k
 step-honest keeps Check f s n r h k = keeps commands.Check s.only s.tree s.cache n.cache k.report h k.reports
 step-honest keeps Report f s n r h k = keeps commands.Report s.only s.tree s.cache n.cache k.report h k.reports
+step-honest keeps Facts f s n r h k = keeps commands.Facts s.only s.tree s.cache n.cache k.report h k.reports
 step-honest keeps Fix f s n r h k = keeps commands.Fix s.only s.tree s.cache n.cache k.report h k.reports
 step-honest keeps Stats f s n r h k = same-cache s n (ap (λ (z : Standing). z.cache) k.0) h
 step-honest keeps End f s n r h k = absurd k

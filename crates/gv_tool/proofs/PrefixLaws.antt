@@ -7,7 +7,7 @@ use Rattle.std.specs.Fmt.{decimal}
 use Rattle.analysis_core.specs.declared.command.Command.{Command as Asked}
 use Rattle.analysis_core.specs.declared.command.Command.TheVariants as commands
 use Rattle.gv_tool.specs.declared.word.Word.{Word}
-use Rattle.gv_tool.specs.declared.word.Word.TheVariants.{Put, Del, Show, Check, Report, Fix, Stats, End}
+use Rattle.gv_tool.specs.declared.word.Word.TheVariants.{Put, Del, Show, Check, Report, Facts, Fix, Stats, End}
 use Rattle.gv_tool.specs.declared.word.Shape.{Shape}
 use Rattle.gv_tool.specs.declared.word.Shape.TheVariants.{Bare, Path, File}
 use Rattle.gv_tool.specs.Words.{text_of, shape_of}
@@ -123,6 +123,7 @@ one_step law Show (at_path path) s n n' r r' h k = record { now = h.0 ∙ sym k.
 one_step law Show (with_file path bytes) s n n' r r' h k = absurd h
 one_step law Check f s n n' r r' h k = one_run law commands.Check s n n' r r' h k
 one_step law Report f s n n' r r' h k = one_run law commands.Report s n n' r r' h k
+one_step law Facts f s n n' r r' h k = one_run law commands.Facts s n n' r r' h k
 one_step law Fix f s n n' r r' h k = one_run law commands.Fix s n n' r r' h k
 one_step law Stats f s n n' r r' h k = record { now = h.0 ∙ sym k.0; reply = h.1 ∙ sym k.1 }
 one_step law End f s n n' r r' h k = absurd h

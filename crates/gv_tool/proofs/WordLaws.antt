@@ -6,7 +6,7 @@ use Rattle.std.proofs.lemmas.List.{length-append}
 use Rattle.std.proofs.lemmas.Bool.{or_cases, eqb-true, eq-eqb, and_parts}
 use Rattle.gv_base.specs.Paths.{IsPath}
 use Rattle.gv_tool.specs.declared.word.Word.{Word}
-use Rattle.gv_tool.specs.declared.word.Word.TheVariants.{Put, Del, Show, Check, Report, Fix, Stats, End}
+use Rattle.gv_tool.specs.declared.word.Word.TheVariants.{Put, Del, Show, Check, Report, Facts, Fix, Stats, End}
 use Rattle.gv_tool.specs.declared.word.Shape.{Shape}
 use Rattle.gv_tool.specs.declared.word.Shape.TheVariants.{Bare, Path, File}
 use Rattle.gv_tool.specs.Words.{text_of, shape_of, number_of, words, differ, are_apart}
@@ -19,6 +19,7 @@ word-nonempty Del f = omega arith
 word-nonempty Show f = omega arith
 word-nonempty Check f = omega arith
 word-nonempty Report f = omega arith
+word-nonempty Facts f = omega arith
 word-nonempty Fix f = omega arith
 word-nonempty Stats f = omega arith
 word-nonempty End f = omega arith
@@ -34,6 +35,7 @@ number_of-at Del = refl
 number_of-at Show = refl
 number_of-at Check = refl
 number_of-at Report = refl
+number_of-at Facts = refl
 number_of-at Fix = refl
 number_of-at Stats = refl
 number_of-at End = refl
@@ -44,6 +46,7 @@ number_of-below Del = omega arith
 number_of-below Show = omega arith
 number_of-below Check = omega arith
 number_of-below Report = omega arith
+number_of-below Facts = omega arith
 number_of-below Fix = omega arith
 number_of-below Stats = omega arith
 number_of-below End = omega arith

@@ -4,6 +4,7 @@ use Rattle.gv_base.specs.Files.{Entry}
 use Rattle.fact_cache.specs.declared.list.Entry.{Entry as Kept}
 pub use Rattle.tree_report.specs.declared.print.TreeReport.{TreeReport}
 pub use Rattle.tree_report.specs.Form.{HasReading}
+pub use Rattle.tree_report.specs.Keeping.{IsHeard}
 pub use Rattle.tree_report.specs.Reports.{AreFilesOf, HasCircle, IsHonest, Reports}
 pub use Rattle.tree_report.specs.Existence.{AllHaveOutcomes, AllRunsHaveOutcomes, HasReport}
 

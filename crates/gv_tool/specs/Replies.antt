@@ -9,7 +9,7 @@ use Rattle.analysis_core.specs.declared.reply.ChangedFile.{ChangedFile}
 use Rattle.analysis_core.specs.declared.reply.Counts.{Counts}
 use Rattle.analysis_core.specs.Replies.{no_counts, stats_text}
 use Rattle.gv_tool.specs.declared.word.Word.{Word}
-use Rattle.gv_tool.specs.declared.word.Word.TheVariants.{Put, Del, Show, Check, Report, Fix, Stats, End}
+use Rattle.gv_tool.specs.declared.word.Word.TheVariants.{Put, Del, Show, Check, Report, Facts, Fix, Stats, End}
 use Rattle.gv_tool.specs.Script.{Fields, bare, at_path, with_file, Command, spelling, IsLawful}
 use Rattle.gv_tool.specs.Judging.{Tree, Entries, TreeReport, Reports}
 
@@ -39,6 +39,7 @@ is_run Del = false
 is_run Show = false
 is_run Check = true
 is_run Report = true
+is_run Facts = true
 is_run Fix = true
 is_run Stats = false
 is_run End = false
@@ -89,6 +90,7 @@ Carries Show (at_path path) old now reply = (now ≡ old) × (reply ≡ show_tex
 Carries Show (with_file path bytes) old now reply = ⊥
 Carries Check fields old now reply = Runs commands.Check old now reply
 Carries Report fields old now reply = Runs commands.Report old now reply
+Carries Facts fields old now reply = Runs commands.Facts old now reply
 Carries Fix fields old now reply = Runs commands.Fix old now reply
 Carries Stats fields old now reply = (now ≡ old) × (reply ≡ stats_text old.counts)
 Carries End fields old now reply = ⊥

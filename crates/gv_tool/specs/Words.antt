@@ -2,7 +2,7 @@
 use Rattle.std.specs.Prelude.{ℕ, List, [], ◌∷◌, ◌++◌, codes, Bool, false, ◌==◌, ◌||◌, not}
 use Rattle.std.specs.List.{list_all}
 use Rattle.gv_tool.specs.declared.word.Word.{Word}
-use Rattle.gv_tool.specs.declared.word.Word.TheVariants.{Put, Del, Show, Check, Report, Fix, Stats, End}
+use Rattle.gv_tool.specs.declared.word.Word.TheVariants.{Put, Del, Show, Check, Report, Facts, Fix, Stats, End}
 use Rattle.gv_tool.specs.declared.word.Shape.{Shape}
 use Rattle.gv_tool.specs.declared.word.Shape.TheVariants.{Bare, Path, File}
 
@@ -13,6 +13,7 @@ text_of Del = codes "del "
 text_of Show = codes "show "
 text_of Check = codes "check" ++ 10 ∷ []
 text_of Report = codes "report" ++ 10 ∷ []
+text_of Facts = codes "facts" ++ 10 ∷ []
 text_of Fix = codes "fix" ++ 10 ∷ []
 text_of Stats = codes "stats" ++ 10 ∷ []
 text_of End = codes "end" ++ 10 ∷ []
@@ -24,6 +25,7 @@ shape_of Del = Path
 shape_of Show = Path
 shape_of Check = Bare
 shape_of Report = Bare
+shape_of Facts = Bare
 shape_of Fix = Bare
 shape_of Stats = Bare
 shape_of End = Bare
@@ -34,13 +36,14 @@ number_of Del = 1
 number_of Show = 2
 number_of Check = 3
 number_of Report = 4
-number_of Fix = 5
-number_of Stats = 6
-number_of End = 7
+number_of Facts = 5
+number_of Fix = 6
+number_of Stats = 7
+number_of End = 8
 
 -- the words in the order of their numbers
 abbrev pub words : List Word
-words = Put ∷ Del ∷ Show ∷ Check ∷ Report ∷ Fix ∷ Stats ∷ End ∷ []
+words = Put ∷ Del ∷ Show ∷ Check ∷ Report ∷ Facts ∷ Fix ∷ Stats ∷ End ∷ []
 
 -- two texts differ before one of them ends
 abbrev pub differ : List ℕ → List ℕ → Bool

@@ -3,7 +3,7 @@ ghost use Rattle.std.specs.Prelude.{◌≡◌, ◌≢◌, ◌≤◌, ◌+◌, �
 ghost use Rattle.gv_base.specs.Paths.{IsPath};
 ghost use Rattle.analysis_core.specs.Replies.{stats_text};
 ghost use Rattle.gv_tool.specs.Desk.{ArePaths};
-ghost use Rattle.gv_tool.specs.Judging.{HasCircle, IsHonest};
+ghost use Rattle.gv_tool.specs.Judging.{HasCircle, IsHeard, IsHonest};
 ghost use Rattle.gv_tool.specs.Replies.{put_changed};
 
 use crate::fieldset::Fields;
@@ -17,7 +17,7 @@ use go_kit::GoKit;
 use gv_base::{Bytes, Files, NoMemory};
 use report_text::stats;
 use std::alloc::Global;
-use tree_report::{one_report_of_a_tree, report_on};
+use tree_report::{Heard, nothing_heard, one_report_of_a_tree, report_on};
 
 /// The files so far, what the last run found and how much work it was, and what earlier loads and runs of analyzers gave.
 #[derive(Drop)]
@@ -27,6 +27,8 @@ pub struct Desk {
     pub cache: Cache,
     pub counts: Counts,
     pub kits: [GoKit; 1],
+    /// What was read for the last run.
+    pub heard: Heard,
     /// The analyzers that are chosen: the bit of each one's number.
     pub only: u16,
 }
@@ -82,6 +84,7 @@ impl Desk {
         ensures loads { loads_of result.kits ≡ 0 }
         ensures runs { runs_of result.kits ≡ 0 }
         ensures paths { ArePaths result.files }
+        ensures kept { IsHeard result.heard }
         ensures honest { IsHonest result.cache }
     {
         one_report_of_a_tree();
@@ -91,6 +94,7 @@ impl Desk {
             cache: Cache::with_key(alloc, key),
             counts: NO_COUNTS,
             kits: [GoKit::new(alloc)],
+            heard: nothing_heard(alloc),
             only,
         }
     }
@@ -102,6 +106,7 @@ impl Desk {
         ensures cache { self.new.cache ≡ self.old.cache }
         ensures kits { self.new.kits ≡ self.old.kits }
         ensures paths { ArePaths self.old.files → ArePaths self.new.files }
+        ensures kept { self.new.heard ≡ self.old.heard }
     {
         self.files.put(path_text(path), bytes)?;
         Ok(silence(alloc))
@@ -114,6 +119,7 @@ impl Desk {
         ensures del { standing_of self.new ≡ with_tree (standing_of self.old) (del_file self.old.files path.now) }
         ensures kits { self.new.kits ≡ self.old.kits }
         ensures paths { ArePaths self.old.files → ArePaths self.new.files }
+        ensures kept { self.new.heard ≡ self.old.heard }
     {
         let _held = self.files.del(path_text(path));
         silence(alloc)
@@ -132,8 +138,10 @@ impl Desk {
     fn run(&mut self, alloc: Global, asked: Asked) -> Result<Bytes, Unloaded>
         requires room { work_of self.old.kits ≤ 2 ^ 61 }
         requires paths { ArePaths self.old.files }
+        requires kept { IsHeard self.old.heard }
         ensures bound { work_of self.new.kits ≤ work_of self.old.kits + 16384 }
         ensures paths { ArePaths self.new.files }
+        ensures kept { IsHeard self.new.heard }
         ensures honest { IsHonest self.old.cache → IsHonest self.new.cache }
         ensures report { IsHonest self.old.cache → IfOk result (λ reply. Runs asked (standing_of self.old) (standing_of self.new) reply) }
         ensures circle { IsHonest self.old.cache → result ≡ Err Unloaded.Stuck → HasCircle self.old.files }
@@ -142,7 +150,14 @@ impl Desk {
             command: asked,
             only: self.only,
         };
-        let report = report_on(alloc, &self.files, options, &mut self.cache, &mut self.kits)?;
+        let report = report_on(
+            alloc,
+            &self.files,
+            options,
+            &mut self.heard,
+            &mut self.cache,
+            &mut self.kits,
+        )?;
         put_changed(&mut self.files, report.changed.as_slice())?;
         self.found = report.found;
         self.counts = report.counts;
@@ -163,8 +178,10 @@ impl Desk {
         requires goes { command.word ≢ Word.End }
         requires room { work_of self.old.kits ≤ 2 ^ 61 }
         requires paths { ArePaths self.old.files }
+        requires kept { IsHeard self.old.heard }
         ensures bound { work_of self.new.kits ≤ work_of self.old.kits + 16384 }
         ensures paths { ArePaths self.new.files }
+        ensures kept { IsHeard self.new.heard }
         ensures honest { IsHonest self.old.cache → IsHonest self.new.cache }
         ensures answer { IsHonest self.old.cache → IfOk result (λ reply. Does (command_of command.entry) (standing_of self.old) (standing_of self.new) reply) }
         ensures circle { IsHonest self.old.cache → result ≡ Err Unloaded.Stuck → IsStuckRun (command_of command.entry) (standing_of self.old) }
@@ -193,6 +210,7 @@ impl Desk {
             },
             Word::Check => self.run(alloc, Asked::Check),
             Word::Report => self.run(alloc, Asked::Report),
+            Word::Facts => self.run(alloc, Asked::Facts),
             Word::Fix => self.run(alloc, Asked::Fix),
             Word::Stats => {
                 let reply = self.stats(alloc)?;

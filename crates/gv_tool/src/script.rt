@@ -25,6 +25,7 @@ impl Command<'_> {
             Word::Show => false,
             Word::Check => false,
             Word::Report => false,
+            Word::Facts => false,
             Word::Fix => false,
             Word::Stats => false,
             Word::End => true,

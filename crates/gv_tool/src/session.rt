@@ -18,7 +18,7 @@ pub struct Session {
 
 impl Session {
     ghost use Rattle.gv_tool.specs.Desk.{standing_of, loads_of, runs_of, ArePaths};
-    ghost use Rattle.gv_tool.specs.Judging.{IsHonest};
+    ghost use Rattle.gv_tool.specs.Judging.{IsHeard, IsHonest};
     ghost use Rattle.gv_tool.specs.Replies.{at_start};
 
     /// The most bytes of a script.
@@ -30,6 +30,7 @@ impl Session {
         ensures loads { loads_of result.desk.kits ≡ 0 }
         ensures runs { runs_of result.desk.kits ≡ 0 }
         ensures paths { ArePaths result.desk.files }
+        ensures kept { IsHeard result.desk.heard }
         ensures honest { IsHonest result.desk.cache }
         ensures pending { result.pending ≡ [] }
         ensures offset { result.offset ≡ 0 }

@@ -2,6 +2,7 @@
 ghost use Rattle.std.specs.Prelude.{◌≡◌, ◌≢◌, ◌+◌, ◌*◌, ◌<◌, ◌≤◌, ◌⊎◌, ℕ, List, Some, None};
 ghost use Rattle.gv_base.specs.Counts.{Rose, RoseBy};
 ghost use Rattle.gv_tool.specs.Desk.{work_of, ArePaths};
+ghost use Rattle.gv_tool.specs.Judging.{IsHeard};
 ghost use Rattle.gv_tool.specs.Script.{IsBeginning};
 ghost use Rattle.gv_tool.specs.Outcome.{OnlyWhereRose, limit};
 ghost use Rattle.gv_tool.specs.Turn.{Turns, Ends, Runs, verdict_of, work_left};
@@ -51,8 +52,10 @@ fn turn<I: Source, O: Sink>(
 ) -> Option<Status>
     requires room { work_of session.old.desk.kits ≤ 16384 * session.old.offset }
     requires paths { ArePaths session.old.desk.files }
+    requires kept { IsHeard session.old.desk.heard }
     ensures room { result ≡ None → work_of session.new.desk.kits ≤ 16384 * session.new.offset }
     ensures paths { result ≡ None → ArePaths session.new.desk.files }
+    ensures kept { result ≡ None → IsHeard session.new.desk.heard }
     ensures turns { Turns (I.view input.old) (I.view input.new) (O.view output.old) (O.view output.new) session.old session.new result }
     ensures source_fault { OnlyWhereRose (I.view input.old).faults (I.view input.new).faults (result ≡ Some Status.SourceFault) }
     ensures sink_fault { OnlyWhereRose (O.view output.old).faults (O.view output.new).faults (result ≡ Some Status.SinkFault) }

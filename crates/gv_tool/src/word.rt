@@ -10,6 +10,7 @@ pub enum Word {
     Show,
     Check,
     Report,
+    Facts,
     Fix,
     Stats,
     End,
@@ -28,11 +29,11 @@ pub enum Shape {
 
 impl Word {
     /// How many words there are.
-    pub(crate) const COUNT: usize = 8;
+    pub(crate) const COUNT: usize = 9;
 
     /// The word of a number below `COUNT`.
     pub(crate) fn of_number(number: usize) -> Word
-        requires { number < 8 }
+        requires { number < 9 }
         ensures { number_of result ≡ number }
     {
         match number {
@@ -41,8 +42,9 @@ impl Word {
             2 => Word::Show,
             3 => Word::Check,
             4 => Word::Report,
-            5 => Word::Fix,
-            6 => Word::Stats,
+            5 => Word::Facts,
+            6 => Word::Fix,
+            7 => Word::Stats,
             _ => Word::End,
         }
     }
@@ -57,6 +59,7 @@ impl Word {
             Word::Show => b"show ",
             Word::Check => b"check\n",
             Word::Report => b"report\n",
+            Word::Facts => b"facts\n",
             Word::Fix => b"fix\n",
             Word::Stats => b"stats\n",
             Word::End => b"end\n",
@@ -73,6 +76,7 @@ impl Word {
             Word::Show => Shape::Path,
             Word::Check => Shape::Bare,
             Word::Report => Shape::Bare,
+            Word::Facts => Shape::Bare,
             Word::Fix => Shape::Bare,
             Word::Stats => Shape::Bare,
             Word::End => Shape::Bare,

@@ -1,4 +1,6 @@
 //! Small trees: the reply and the work of a run, twice.
+ghost use Rattle.tree_report.specs.Keeping.{IsHeard};
+
 use crate::told::{add, said};
 use action_graph::Unloaded;
 use analysis_core::{Command, Options};
@@ -7,7 +9,7 @@ use fact_cache::Cache;
 use go_kit::GoKit;
 use gv_base::{Files, NoMemory};
 use std::alloc::Global;
-use tree_report::{TreeReport, report_on};
+use tree_report::{Heard, TreeReport, nothing_heard, report_on};
 
 /// Puts a file of one of eight paths.
 fn put(files: &mut Files, path: &str, bytes: &[u8]) -> Result<(), NoMemory> {
@@ -50,20 +52,29 @@ const CHECK: Options = Options {
 };
 
 /// What is told of a tree, by a new kit.
-fn told(alloc: Global, files: &Files, cache: &mut Cache) -> Result<Vec<u8>, NoMemory> {
+fn told(
+    alloc: Global,
+    files: &Files,
+    heard: &mut Heard,
+    cache: &mut Cache,
+) -> Result<Vec<u8>, NoMemory>
+    requires { IsHeard heard.old }
+    ensures { IsHeard heard.new }
+{
     let mut kits = [GoKit::new(alloc)];
-    match report_on(alloc, files, CHECK, cache, &mut kits) {
+    match report_on(alloc, files, CHECK, heard, cache, &mut kits) {
         Ok(report) => report_says(alloc, &report),
         Err(Unloaded::NoMemory) => Err(NoMemory),
         Err(Unloaded::Stuck) => said(alloc, "circle"),
     }
 }
 
-/// What is told of a tree twice, with one cache.
+/// What is told of a tree twice, with one cache and what was read the first time.
 fn told_twice(alloc: Global, files: &Files) -> Result<Vec<u8>, NoMemory> {
     let mut cache = Cache::new(alloc);
-    let mut out = told(alloc, files, &mut cache)?;
-    let second = told(alloc, files, &mut cache)?;
+    let mut heard = nothing_heard(alloc);
+    let mut out = told(alloc, files, &mut heard, &mut cache)?;
+    let second = told(alloc, files, &mut heard, &mut cache)?;
     out.extend_from_slice(&second)?;
     Ok(out)
 }

@@ -1,6 +1,7 @@
 //! Whole sessions over devices in memory. What no clause says is looked at here: that a call with
 //! ample memory answers, and the printed lines.
 mod analyses;
+mod facts;
 mod keys;
 mod limits;
 mod types;
@@ -36,7 +37,7 @@ type Case = (&'static [u8], &'static [u8], u8);
 
 /// Scripts, and the output and the status of each.
 #[rattlefmt::skip]
-const SCRIPTS: [Case; 37] = [
+const SCRIPTS: [Case; 39] = [
     (b"", b"", 0),
     (b"end\nrubbish", b"", 0),
     (b"check\nput a.go 100\npackage a\n", b"packages 0, errors 0\nscript refused at 6\n", 8),
@@ -62,6 +63,8 @@ const SCRIPTS: [Case; 37] = [
     (b"stat\n", b"script refused at 0\n", 8),
     (b"report \n", b"script refused at 0\n", 8),
     (b"fix a\n", b"script refused at 0\n", 8),
+    (b"fact\n", b"script refused at 0\n", 8),
+    (b"facts \n", b"script refused at 0\n", 8),
     (b"fi", b"script refused at 0\n", 8),
     (b"show b.go\n", b"no file b.go\n", 0),
     (b"put a/b 3\nx\ny\nshow a/b\n", b"file a/b 3\nx\ny\n", 0),

@@ -1,4 +1,4 @@
-//! The diagnostics of a tree's packages in the reply's order, which of their fixes are applied, and the files that these change.
+//! The diagnostics of a tree's packages in the reply's order, which of their fixes are applied, and the files that these change; and the facts of its packages.
 #![tactic(auto)]
 
 mod gather;

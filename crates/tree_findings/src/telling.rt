@@ -2,14 +2,19 @@
 ghost use Rattle.std.specs.Prelude.{◌≡◌, ◌<◌, ◌^◌, [], length, All, IfOk};
 ghost use Rattle.tree_findings.specs.Lines.{all_lines};
 ghost use Rattle.tree_findings.specs.Mending.{FoundFits};
-ghost use Rattle.tree_findings.specs.Telling.{chosen_by, reply_with, IsTold, TellsFixes, TellsFound};
+ghost use Rattle.fact_lines.specs.Lines.{all_facts};
+ghost use Rattle.tree_findings.specs.Telling.{chosen_by, facts_reply, reply_with, IsTold, TellsFacts, TellsFixes, TellsFound};
 
 use crate::lines::found_lines;
 use crate::mending::{Mended, mend};
-use analysis_core::{Command, Counts, Diagnostic, ErrorLine, FoundLine, Options, Reply};
-use gv_base::{Files, NoMemory, Row};
+use analysis_core::{Command, Counts, Diagnostic, ErrorLine, FactLine, FoundLine, Options, Reply};
+use fact_lines::all_facts;
+use gv_base::{Bytes, Files, NoMemory, Row};
 use import_graph::Package;
 use std::alloc::Global;
+
+/// The bits of the analyzers that have facts: the fourth and the sixth.
+const WITH_FACTS: u16 = 80;
 
 /// The analyzers that run, of those that are chosen.
 pub fn chosen_by(options: Options) -> u16
@@ -18,7 +23,7 @@ pub fn chosen_by(options: Options) -> u16
     match options.command {
         Command::Check => 0,
         Command::Report => options.only,
-        Command::Facts => 0,
+        Command::Facts => options.only & WITH_FACTS,
         Command::Fix => options.only,
     }
 }
@@ -29,6 +34,8 @@ pub struct Results<'a> {
     pub packages: &'a [Package],
     /// The diagnostics of each, with its files counted from 0.
     pub found: &'a [Row<Diagnostic>],
+    /// The facts of each, by analyzer: its number, and their text.
+    pub facts: &'a [Row<(u8, Bytes)>],
     pub counts: Counts,
 }
 
@@ -77,6 +84,28 @@ fn fix_reply(
     }
 }
 
+/// The reply to `facts`.
+fn facts_reply(
+    alloc: Global,
+    packages: u32,
+    errors: Row<ErrorLine>,
+    facts: Vec<FactLine>,
+    counts: Counts,
+) -> Reply
+    ensures { result ≡ facts_reply packages errors facts.items counts }
+{
+    Reply {
+        limit: None,
+        packages,
+        errors,
+        diagnostics: Row::new(Vec::new(alloc)),
+        facts: Row::new(facts),
+        choices: Row::new(Vec::new(alloc)),
+        changed: Row::new(Vec::new(alloc)),
+        counts,
+    }
+}
+
 fn report(
     alloc: Global,
     packages: u32,
@@ -91,6 +120,22 @@ fn report(
 {
     let found = found_lines(alloc, results.packages, results.found)?;
     Ok(report_reply(alloc, packages, errors, found, results.counts))
+}
+
+fn facts(
+    alloc: Global,
+    packages: u32,
+    results: &Results<'_>,
+    errors: Row<ErrorLine>,
+) -> Result<Reply, NoMemory>
+    requires { length results.now.facts.now ≡ length results.now.packages.now }
+    ensures told { IfOk result (TellsFacts (all_facts results.now.packages.now results.now.facts.now)) }
+    ensures size { IfOk result (λ r. r.packages ≡ packages) }
+    ensures errors { IfOk result (λ r. r.errors ≡ errors) }
+    ensures counts { IfOk result (λ r. r.counts ≡ results.now.counts) }
+{
+    let facts = all_facts(alloc, results.packages, results.facts)?;
+    Ok(facts_reply(alloc, packages, errors, facts, results.counts))
 }
 
 fn fix(
@@ -122,8 +167,9 @@ pub fn reply_to(
 ) -> Result<Reply, NoMemory>
     requires few { length results.now.packages.now < 2 ^ 32 }
     requires size { length results.now.found.now ≡ length results.now.packages.now }
+    requires facts { length results.now.facts.now ≡ length results.now.packages.now }
     requires fit { All (FoundFits files.now) (all_lines results.now.packages.now results.now.found.now) }
-    ensures told { IfOk result (IsTold asked files.now (all_lines results.now.packages.now results.now.found.now)) }
+    ensures told { IfOk result (IsTold asked files.now (all_lines results.now.packages.now results.now.found.now) (all_facts results.now.packages.now results.now.facts.now)) }
     ensures size { IfOk result (λ r. r.packages ≡ length results.now.packages.now) }
     ensures errors { IfOk result (λ r. r.errors ≡ errors) }
     ensures counts { IfOk result (λ r. r.counts ≡ results.now.counts) }
@@ -135,7 +181,10 @@ pub fn reply_to(
             let reply = report(alloc, packages, results, errors)?;
             Ok(reply)
         }
-        Command::Facts => Ok(Reply::of_check(alloc, packages, errors, results.counts)),
+        Command::Facts => {
+            let reply = facts(alloc, packages, results, errors)?;
+            Ok(reply)
+        }
         Command::Fix => {
             let reply = fix(alloc, files, packages, results, errors)?;
             Ok(reply)

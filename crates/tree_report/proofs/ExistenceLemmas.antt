@@ -10,6 +10,7 @@ use Rattle.gv_driver.specs.Trees.{IsTree}
 use Rattle.gv_driver.specs.Caches.{loads_of, missing_of, runs_of}
 use Rattle.gv_driver.specs.Loads.{all_inputs}
 use Rattle.gv_driver.specs.Existence.{AllHaveOutcomes, AllRunsHaveOutcomes, HasRun}
+use Rattle.fact_lines.specs.Lines.{all_facts}
 use Rattle.tree_findings.specs.Lines.{all_lines}
 use Rattle.tree_findings.specs.Telling.{chosen_by}
 use Rattle.tree_findings.proofs.ToldLemmas.{told-exists}
@@ -31,9 +32,9 @@ report-exists each outcomes analyses asked only tree ordered before (inr read) n
     let heads = read.1.0 in
     let packages = read.1.1.0 in
     let form = read.1.1.1 in
-    each outcomes analyses (map (texts_of tree) packages) (chosen_by asked only) (is-tree tree verdicts heads packages ordered form) before (λ found findings plan after is finds is_plan cache.
+    each outcomes analyses (map (texts_of tree) packages) (chosen_by asked only) (is-tree tree verdicts heads packages ordered form) before (λ found findings facts plan after is finds given is_plan cache.
     let counts : Counts = record { nodes = length (all_inputs plan); missing = length (missing_of before (all_inputs plan)); loads = loads_of before plan; runs = runs_of before plan } in
-    told-exists asked tree (all_lines packages findings) (length packages) (error_lines heads verdicts packages found) counts (λ reply told size errors counted.
+    told-exists asked tree (all_lines packages findings) (all_facts packages facts) (length packages) (error_lines heads verdicts packages found) counts (λ reply told size errors counted.
     none after (record { text = reply_text tree asked reply; found = is_found reply; counts = reply.counts; changed = reply.changed }) (of_packages (record {
       verdicts = verdicts;
       heads = heads;
@@ -43,6 +44,8 @@ report-exists each outcomes analyses asked only tree ordered before (inr read) n
       outcome = is;
       findings = findings;
       finds = finds;
+      facts = facts;
+      given = given;
       plan = plan;
       is_plan = is_plan;
       cache = cache;

@@ -15,3 +15,5 @@ pub mod StandLemmas
 pub mod StopLemmas
 pub mod ExistenceLemmas
 pub mod PlainLemmas
+mod ToldLemmas
+mod HeardLemmas

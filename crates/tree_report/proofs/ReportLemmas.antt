@@ -8,13 +8,16 @@ use Rattle.gv_driver.proofs.PlanLaws.{unique-plan}
 use Rattle.gv_driver.proofs.OnceLaws.{report-once, found-once, cache-once, honest-after}
 use Rattle.gv_driver.specs.Caches.{IsCacheAfter, IsHonest, loads_of, missing_of, runs_of}
 use Rattle.gv_driver.specs.Loads.{IsPlan, all_inputs}
-use Rattle.gv_driver.specs.Reports.{IsReport, IsRunReport}
+use Rattle.gv_driver.specs.Reports.{IsFactReport, IsReport, IsRunReport}
+use Rattle.gv_driver.specs.declared.reply.Verdict.{Verdict}
+use Rattle.gv_driver.specs.declared.tree.PackageTexts.{PackageTexts}
 use Rattle.fact_cache.specs.declared.list.Entry.{Entry as Kept}
 use Rattle.analysis_core.specs.declared.command.Command.{Command}
 use Rattle.analysis_core.specs.declared.reply.Counts.{Counts}
 use Rattle.analysis_core.specs.declared.reply.Reply.{Reply}
 use Rattle.analysis_core.specs.declared.reply.TreeLimit.{TreeLimit}
 use Rattle.analysis_core.specs.Replies.{is_found, limit_line, reply_text}
+use Rattle.fact_lines.specs.Lines.{all_facts}
 use Rattle.tree_findings.specs.Lines.{all_lines}
 use Rattle.tree_findings.specs.Telling.{chosen_by, IsTold}
 use Rattle.tree_findings.proofs.ToldLemmas.{told-once}
@@ -25,6 +28,10 @@ use Rattle.tree_report.specs.Reports.{texts_of, Reports, ReportsLimit, ReportsPa
 use Rattle.tree_report.specs.Reports.Reports.{of_limit, of_packages}
 use Rattle.tree_report.proofs.OnceLemmas.{Same, reading-once}
 use Rattle.tree_report.proofs.LimitLemmas.{first-once, not-within}
+
+-- packages have one list of facts, as a law of `gv_driver` says
+abbrev pub FactsOnce : Type 0
+FactsOnce = (tree : List PackageTexts) (only : ℕ) (verdicts : List Verdict) (a b : List (List (ℕ × List ℕ))) → IsReport tree verdicts → IsFactReport tree only verdicts a → IsFactReport tree only verdicts b → a ≡ b
 
 form-once : (tree : List Entry) (v w : List (Option FileVerdict)) (h g : List (Option Head)) (p q : List Package) → IsForm tree v h p → IsForm tree w g q → Same v w h g p q
 form-once tree v w h g p q one two = reading-once tree v w h g p q one.read two.read one.headed two.headed one.packed two.packed
@@ -70,22 +77,30 @@ module _ (asked : Command) (only : ℕ) (tree : List Entry) (before after other 
       (subst (λ o. IsRunReport (map (texts_of tree) s.packages) (chosen_by asked only) o r.findings) outcomes-once
       (subst (λ p. IsRunReport (map (texts_of tree) p) (chosen_by asked only) r.outcomes r.findings) same-form.packages r.finds)) s.finds
 
-  reply-once : r.reply ≡ s.reply
-  reply-once =
-      told-once asked tree (all_lines s.packages s.findings) r.reply s.reply
-      (subst (λ f. IsTold asked tree (all_lines s.packages f) r.reply) findings-once (subst (λ p. IsTold asked tree (all_lines p r.findings) r.reply) same-form.packages r.told)) s.told
+  facts-alike : FactsOnce → r.facts ≡ s.facts
+  facts-alike once =
+      once (map (texts_of tree) s.packages) (chosen_by asked only) s.outcomes r.facts s.facts s.outcome
+      (subst (λ o. IsFactReport (map (texts_of tree) s.packages) (chosen_by asked only) o r.facts) outcomes-once
+      (subst (λ p. IsFactReport (map (texts_of tree) p) (chosen_by asked only) r.outcomes r.facts) same-form.packages r.given)) s.given
+
+  reply-once : FactsOnce → r.reply ≡ s.reply
+  reply-once once =
+      told-once asked tree (all_lines s.packages s.findings) (all_facts s.packages s.facts) r.reply s.reply
+      (subst (λ f. IsTold asked tree (all_lines s.packages s.findings) (all_facts s.packages f) r.reply) (facts-alike once)
+      (subst (λ f. IsTold asked tree (all_lines s.packages f) (all_facts s.packages r.facts) r.reply) findings-once
+      (subst (λ p. IsTold asked tree (all_lines p r.findings) (all_facts p r.facts) r.reply) same-form.packages r.told))) s.told
       (r.size ∙ (ap length same-form.packages ∙ sym s.size))
       (r.errors ∙ (ap (λ v. error_lines r.heads v r.packages r.outcomes) same-form.verdicts ∙ (ap (λ h. error_lines h s.verdicts r.packages r.outcomes) same-form.heads
       ∙ (ap (λ p. error_lines s.heads s.verdicts p r.outcomes) same-form.packages ∙ (ap (λ o. error_lines s.heads s.verdicts s.packages o) outcomes-once ∙ sym s.errors)))))
       counts-once
 
-  packages-report-once : a ≡ b
-  packages-report-once =
+  packages-report-once : FactsOnce → a ≡ b
+  packages-report-once once =
       same-report a b
-      (r.text ∙ (ap (reply_text tree asked) reply-once ∙ sym s.text))
-      (r.found ∙ (ap is_found reply-once ∙ sym s.found))
-      (r.counts ∙ (ap (λ (x : Reply). x.counts) reply-once ∙ sym s.counts))
-      (r.changed ∙ (ap (λ (x : Reply). x.changed) reply-once ∙ sym s.changed))
+      (r.text ∙ (ap (reply_text tree asked) (reply-once once) ∙ sym s.text))
+      (r.found ∙ (ap is_found (reply-once once) ∙ sym s.found))
+      (r.counts ∙ (ap (λ (x : Reply). x.counts) (reply-once once) ∙ sym s.counts))
+      (r.changed ∙ (ap (λ (x : Reply). x.changed) (reply-once once) ∙ sym s.changed))
 
 packages-honest : (asked : Command) (only : ℕ) (tree : List Entry) (before after : List Kept) (a : TreeReport) → IsHonest before → ReportsPackages asked only tree before after a → IsHonest after
 packages-honest asked only tree before after a honest r = honest-after before after (all_inputs r.plan) honest r.cache
@@ -97,11 +112,11 @@ limit-report-once tree a b r s =
     let same : r.limit ≡ s.limit = first-once tree r.limit s.limit r.first s.first in
     same-report a b (r.text ∙ (ap (λ (l : TreeLimit). limit_line l) same ∙ sym s.text)) (r.found ∙ sym s.found) (r.counts ∙ sym s.counts) (r.changed ∙ sym s.changed)
 
-pub report-once-of : (asked : Command) (only : ℕ) (tree : List Entry) (before after other : List Kept) (a b : TreeReport) → Reports asked only tree before after a → Reports asked only tree before other b → a ≡ b
-report-once-of asked only tree before after other a b (of_limit r kept) (of_limit s same) = limit-report-once tree a b r s
-report-once-of asked only tree before after other a b (of_limit r kept) (of_packages s) = absurd (not-within tree (r.limit, r.first) s.form.within)
-report-once-of asked only tree before after other a b (of_packages r) (of_limit s same) = absurd (not-within tree (s.limit, s.first) r.form.within)
-report-once-of asked only tree before after other a b (of_packages r) (of_packages s) = packages-report-once asked only tree before after other a b r s
+pub report-once-of : FactsOnce → (asked : Command) (only : ℕ) (tree : List Entry) (before after other : List Kept) (a b : TreeReport) → Reports asked only tree before after a → Reports asked only tree before other b → a ≡ b
+report-once-of once asked only tree before after other a b (of_limit r kept) (of_limit s same) = limit-report-once tree a b r s
+report-once-of once asked only tree before after other a b (of_limit r kept) (of_packages s) = absurd (not-within tree (r.limit, r.first) s.form.within)
+report-once-of once asked only tree before after other a b (of_packages r) (of_limit s same) = absurd (not-within tree (s.limit, s.first) r.form.within)
+report-once-of once asked only tree before after other a b (of_packages r) (of_packages s) = packages-report-once asked only tree before after other a b r s once
 
 pub cache-once-of : (asked : Command) (only : ℕ) (tree : List Entry) (before after other : List Kept) (a b : TreeReport) → Reports asked only tree before after a → Reports asked only tree before other b → after ≡ other
 cache-once-of asked only tree before after other a b (of_limit r kept) (of_limit s same) = kept ∙ sym same

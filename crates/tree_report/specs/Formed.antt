@@ -6,6 +6,7 @@ use Rattle.analysis_core.specs.declared.reply.Reply.{Reply}
 use Rattle.analysis_core.specs.declared.reply.TreeLimit.{TreeLimit}
 use Rattle.analysis_core.specs.Replies.{is_found, no_counts, reply_text}
 use Rattle.gv_driver.specs.declared.reply.Judgement.{Judgement}
+use Rattle.fact_lines.specs.Lines.{all_facts}
 use Rattle.tree_findings.specs.Lines.{all_lines}
 use Rattle.tree_findings.specs.Telling.{IsTold}
 use Rattle.parse_file.specs.declared.verdict.FileVerdict.{FileVerdict}
@@ -31,7 +32,7 @@ limit_reply first = record { limit = Some first; packages = 0; errors = []; diag
 
 -- The reply of a run over the packages of a tree, as it is asked.
 pub record IsReplyOf (tree : List Entry) (asked : Command) (f : Formed) (ran : Judgement) (reply : Reply) : Type 0 where
-  pub told : IsTold asked tree (all_lines f.packages.items ran.found) reply
+  pub told : IsTold asked tree (all_lines f.packages.items ran.found) (all_facts f.packages.items ran.facts) reply
   pub size : reply.packages ≡ length f.packages.items
   pub errors : reply.errors ≡ error_lines f.heads.items f.refusals.items f.packages.items ran.verdicts
   pub counts : reply.counts ≡ ran.counts

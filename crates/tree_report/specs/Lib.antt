@@ -5,3 +5,5 @@ pub mod Lines
 pub mod Reports
 pub mod Formed
 pub mod Existence
+pub mod Telling
+pub mod Keeping

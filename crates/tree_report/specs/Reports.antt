@@ -11,7 +11,7 @@ use Rattle.gv_driver.specs.declared.reply.Verdict.{Verdict}
 pub use Rattle.gv_driver.specs.Caches.{IsHonest}
 use Rattle.gv_driver.specs.Caches.{IsCacheAfter, loads_of, missing_of, runs_of}
 use Rattle.gv_driver.specs.Loads.{IsPlan, all_inputs}
-use Rattle.gv_driver.specs.Reports.{IsReport, IsRunReport}
+use Rattle.gv_driver.specs.Reports.{IsFactReport, IsReport, IsRunReport}
 use Rattle.gv_driver.specs.Runs.{IsCutOff, MeetsCircle}
 use Rattle.gv_driver.specs.Tallies.{Tally}
 use Rattle.gv_driver.specs.Whole.{HasStuck}
@@ -22,6 +22,7 @@ use Rattle.analysis_core.specs.declared.reply.TreeLimit.{TreeLimit}
 use Rattle.analysis_core.specs.Replies.{file_numbered, is_found, limit_line, no_counts, reply_text}
 use Rattle.report_text.specs.Standing.{StandsIn}
 use Rattle.report_text.specs.ReplyStanding.{FoundStands}
+use Rattle.fact_lines.specs.Lines.{all_facts}
 use Rattle.tree_findings.specs.Lines.{all_lines}
 pub use Rattle.tree_findings.specs.Telling.{AreFilesOf}
 use Rattle.tree_findings.specs.Telling.{IsTold, chosen_by}
@@ -45,7 +46,7 @@ pub record ReportsLimit (tree : List Entry) (report : TreeReport) : Type 0 where
   pub changed : report.changed ≡ []
 
 -- The report of a tree within the limits, as it is asked and with these analyzers, over one cache and leaving another. What comes of its packages
--- and what is found in them comes of their sources, and knows neither cache nor export texts. The nodes are the loads of its packages and the runs
+-- and what is found in them, and the facts of their functions, come of their sources and know neither cache nor export texts. The nodes are the loads of its packages and the runs
 -- of analyzers over those that are accepted; those for whose inputs the cache had nothing were executed and stand in it then, and so were the loads
 -- that a run needed. The reply has the error lines, and what the command asks for besides.
 pub record ReportsPackages (asked : Command) (only : ℕ) (tree : List Entry) (before after : List Kept) (report : TreeReport) : Type 0 where
@@ -57,11 +58,13 @@ pub record ReportsPackages (asked : Command) (only : ℕ) (tree : List Entry) (b
   pub outcome : IsReport (map (texts_of tree) packages) outcomes
   pub findings : List (List Diagnostic)
   pub finds : IsRunReport (map (texts_of tree) packages) (chosen_by asked only) outcomes findings
+  pub facts : List (List (ℕ × List ℕ))
+  pub given : IsFactReport (map (texts_of tree) packages) (chosen_by asked only) outcomes facts
   pub plan : List (List Input)
   pub is_plan : IsPlan (map (texts_of tree) packages) (chosen_by asked only) plan
   pub cache : IsCacheAfter before after (all_inputs plan)
   pub reply : Reply
-  pub told : IsTold asked tree (all_lines packages findings) reply
+  pub told : IsTold asked tree (all_lines packages findings) (all_facts packages facts) reply
   pub size : reply.packages ≡ length packages
   pub errors : reply.errors ≡ error_lines heads verdicts packages outcomes
   pub nodes : reply.counts.nodes ≡ length (all_inputs plan)
@@ -86,8 +89,9 @@ pub record TellsPackages (asked : Command) (tree : List Entry) (report : TreeRep
   pub packages : List Package
   pub form : IsForm tree verdicts heads packages
   pub findings : List (List Diagnostic)
+  pub facts : List (List (ℕ × List ℕ))
   pub reply : Reply
-  pub told : IsTold asked tree (all_lines packages findings) reply
+  pub told : IsTold asked tree (all_lines packages findings) (all_facts packages facts) reply
   pub size : reply.packages ≡ length packages
   pub stand : All (StandsIn tree) reply.errors
   pub found_stand : All (FoundStands tree) reply.diagnostics

@@ -1,14 +1,15 @@
 //! The files and the packages of a tree, or the limit that it is over.
-ghost use Rattle.std.specs.Prelude.{◌≡◌, None, IfOk, map};
-ghost use Rattle.tree_report.specs.Formed.{IsKnown};
+ghost use Rattle.std.specs.Prelude.{◌≡◌, None, IfOk};
+ghost use Rattle.tree_report.specs.Formed.{Holds, IsKnown};
+ghost use Rattle.tree_report.specs.Keeping.{IsHeard};
 ghost use Rattle.tree_report.specs.Limits.{limited_sizes, size_limit};
-ghost use Rattle.tree_report.specs.Lines.{refusal_in, refusal_of};
 
+use crate::heard::Heard;
 use crate::limits::{limited_sizes, size_limit};
-use crate::read::{heads, read_all};
+use crate::read::told_all;
 use analysis_core::TreeLimit;
 use go_tree::Head;
-use gv_base::{Files, NoMemory};
+use gv_base::{Bytes, Files, NoMemory, Text};
 use import_graph::{Package, packages};
 use parse_file::FileVerdict;
 use std::alloc::Global;
@@ -33,52 +34,34 @@ pub enum Known {
     Of(Formed),
 }
 
-fn refusal_in(verdict: FileVerdict) -> Option<FileVerdict>
-    ensures { result ≡ refusal_in verdict }
+/// What was read for a report, of these files.
+pub fn heard_of(files: Vec<(Text, Bytes)>, formed: Formed) -> Heard
+    requires { Holds files.items formed }
+    ensures { IsHeard result }
 {
-    match verdict {
-        FileVerdict::Parsed(_) => None,
-        FileVerdict::Lexical { offset, why } => Some(FileVerdict::Lexical { offset, why }),
-        FileVerdict::Syntax { offset } => Some(FileVerdict::Syntax { offset }),
-        FileVerdict::TooDeep { offset } => Some(FileVerdict::TooDeep { offset }),
+    let Formed {
+        refusals,
+        heads,
+        packages: _,
+    } = formed;
+    Heard {
+        files,
+        heads,
+        refusals,
     }
-}
-
-fn refusal_of(verdict: Option<FileVerdict>) -> Option<FileVerdict>
-    ensures { result ≡ refusal_of verdict }
-{
-    match verdict {
-        Some(verdict) => refusal_in(verdict),
-        None => None,
-    }
-}
-
-/// Why files are refused. Their trees are dropped, which take more memory than all else that is known of the tree.
-fn refusals(
-    alloc: Global,
-    verdicts: Vec<Option<FileVerdict>>,
-) -> Result<Vec<Option<FileVerdict>>, NoMemory>
-    ensures { IfOk result (λ list. list.items ≡ map refusal_of verdicts.items) }
-{
-    let mut list = Vec::with_capacity(alloc, verdicts.len())?;
-    for verdict in verdicts {
-        list.push(refusal_of(verdict))?;
-    }
-    Ok(list)
 }
 
 /// What is known of a tree whose files are within the limits.
-fn packed(alloc: Global, files: &Files) -> Result<Known, NoMemory>
-    requires { size_limit (limited_sizes files.now) ≡ None }
+fn packed(alloc: Global, files: &Files, heard: &Heard) -> Result<Known, NoMemory>
+    requires within { size_limit (limited_sizes files.now) ≡ None }
+    requires kept { IsHeard heard.now }
     ensures { IfOk result (λ known. IsKnown files.now known) }
 {
-    let verdicts = read_all(alloc, files)?;
-    let heads = heads(alloc, files, &verdicts)?;
+    let (heads, refusals) = told_all(alloc, files, heard)?;
     let packages = packages(alloc, files, &heads)?;
     if packages.len() > MOST_PACKAGES {
         return Ok(Known::Over(TreeLimit::Packages));
     }
-    let refusals = refusals(alloc, verdicts)?;
     Ok(Known::Of(Formed {
         refusals,
         heads,
@@ -87,14 +70,15 @@ fn packed(alloc: Global, files: &Files) -> Result<Known, NoMemory>
 }
 
 /// What is known of a tree: the first limit that it is over, or its files and packages.
-pub fn known_of(alloc: Global, files: &Files) -> Result<Known, NoMemory>
+pub fn known_of(alloc: Global, files: &Files, heard: &Heard) -> Result<Known, NoMemory>
+    requires { IsHeard heard.now }
     ensures { IfOk result (λ known. IsKnown files.now known) }
 {
     let sizes = limited_sizes(alloc, files)?;
     match size_limit(&sizes) {
         Some(limit) => Ok(Known::Over(limit)),
         None => {
-            let known = packed(alloc, files)?;
+            let known = packed(alloc, files, heard)?;
             Ok(known)
         }
     }

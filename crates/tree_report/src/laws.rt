@@ -13,7 +13,7 @@ ghost use Rattle.tree_report.specs.Lines.{mark_text};
 ghost use Rattle.tree_report.specs.Reports.{IsHonest, Reports};
 ghost use Rattle.tree_report.specs.declared.print.TreeReport.{TreeReport};
 
-use gv_driver::a_tree_has_a_report;
+use gv_driver::{a_tree_has_a_report, one_report};
 
 /// Over one cache a tree has one report to each command and leaves one cache, and from an honest one an honest one; a cache without
 /// entries is honest. A tree that has a report can be read.
@@ -23,7 +23,9 @@ pub fn one_report_of_a_tree()
     ensures read { (asked : Command) (only : ℕ) (tree : List Entry) (before after : List Kept) (a : TreeReport) → Reports asked only tree before after a → HasReading tree }
     ensures fresh { IsHonest [] }
     ensures honest { (asked : Command) (only : ℕ) (tree : List Entry) (before after : List Kept) (a : TreeReport) → IsHonest before → Reports asked only tree before after a → IsHonest after }
-{}
+{
+    one_report();
+}
 
 /// The line of a mark says the text of the rule or of the limit that has its number.
 pub fn each_mark_has_its_text()

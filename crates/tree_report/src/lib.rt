@@ -2,6 +2,8 @@
 #![tactic(auto)]
 
 mod formed;
+mod heads;
+mod heard;
 mod laws;
 mod limits;
 mod lines;
@@ -13,6 +15,7 @@ mod run;
 mod states;
 mod texts;
 
+pub use heard::{Heard, nothing_heard};
 pub use laws::{a_tree_that_is_read_has_a_report, each_mark_has_its_text, one_report_of_a_tree};
 pub use print::TreeReport;
 pub use run::report_on;

@@ -7,13 +7,15 @@ ghost use Rattle.gv_driver.specs.Tallies.{tally};
 ghost use Rattle.tree_findings.specs.Lines.{all_lines};
 ghost use Rattle.tree_findings.specs.Mending.{FoundFits};
 ghost use Rattle.tree_report.specs.Formed.{Holds, IsReplyOf, limit_reply};
+ghost use Rattle.tree_report.specs.Keeping.{IsHeard};
 ghost use Rattle.tree_report.specs.Limits.{IsFirstLimit};
 ghost use Rattle.tree_report.specs.Reports.{AreFilesOf, HasCircle, IsHonest, IsSafe, IsStopped, MetCircle, Reports, ReportsLimit, ReportsPackages, TellsPackages};
 
-use crate::formed::{Formed, Known, known_of};
+use crate::formed::{Formed, Known, heard_of, known_of};
+use crate::heard::Heard;
 use crate::print::{TreeReport, printed};
 use crate::states::{Found, error_lines};
-use crate::texts::all_texts;
+use crate::texts::{all_texts, shared_files};
 use action_graph::{Kit, Unloaded};
 use analysis_core::{Command, Counts, Options, Reply, TreeLimit};
 use fact_cache::Cache;
@@ -55,6 +57,7 @@ fn reply_of(
     requires few { length formed.now.packages.items ≤ 1024 }
     requires size { length ran.now.verdicts ≡ length formed.now.packages.items }
     requires found { length ran.now.found ≡ length formed.now.packages.items }
+    requires facts { length ran.now.facts ≡ length formed.now.packages.items }
     requires fit { All (FoundFits files.now) (all_lines formed.now.packages.items ran.now.found) }
     ensures { IfOk result (λ reply. IsReplyOf files.now asked formed.now ran.now reply) }
 {
@@ -74,6 +77,7 @@ fn reply_of(
     let results = Results {
         packages: &formed.packages,
         found,
+        facts: ran.facts.as_slice(),
         counts: ran.counts,
     };
     let reply = reply_to(alloc, asked, files, &results, Row::new(errors))?;
@@ -142,16 +146,20 @@ fn report_formed<K: Kit>(
 /// nothing is looked up, executed or kept. Every tree is taken. Over any cache each place of the report stands in one of the files, and each file that is changed is one of them.
 /// Where a package is stuck, since its rules go in a circle or what is seen of it can't be told, nothing is told of the tree. After that, as after want of memory, no more
 /// was executed than was missing or needed, and the cache has gained entries of what was missing alone. A cache within its limits stays there.
+/// What was read for the last report serves where a file is the same, and what was read for this one is left for the next.
 pub fn report_on<K: Kit>(
     alloc: Global,
     files: &Files,
     options: Options,
+    heard: &mut Heard,
     cache: &mut Cache,
     kits: &mut [K],
 ) -> Result<TreeReport, Unloaded>
+    requires kept { IsHeard heard.old }
     requires some { 0 < length kits.old }
     requires loads { (k : ℕ) (kit : K) → slice_get kits.old k ≡ Some kit → K.loads kit ≤ 2 ^ 62 }
     requires runs { (k : ℕ) (kit : K) → slice_get kits.old k ≡ Some kit → K.runs kit ≤ 2 ^ 62 }
+    ensures kept { IsHeard heard.new }
     ensures bound { sum_by K.loads kits.new + sum_by K.runs kits.new ≤ sum_by K.loads kits.old + sum_by K.runs kits.old + 16384 }
     ensures changed { IfOk result (λ report. AreFilesOf files.now report.changed) }
     ensures safe { IfOk result (IsSafe options.command files.now cache.old cache.new (tally (sum_by K.loads kits.old) (sum_by K.runs kits.old)) (tally (sum_by K.loads kits.new) (sum_by K.runs kits.new))) }
@@ -164,14 +172,16 @@ pub fn report_on<K: Kit>(
     ensures honest { IsHonest cache.old → IsHonest cache.new }
     ensures within { is_within cache.old ≡ true → is_within cache.new ≡ true }
 {
-    let known = known_of(alloc, files)?;
+    let known = known_of(alloc, files, heard)?;
     match known {
         Known::Over(limit) => {
             let report = report_limit(alloc, files, limit)?;
             Ok(report)
         }
         Known::Of(formed) => {
+            let shared = shared_files(alloc, files)?;
             let report = report_formed(alloc, files, options, &formed, cache, kits)?;
+            *heard = heard_of(shared, formed);
             Ok(report)
         }
     }

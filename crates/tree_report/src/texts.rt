@@ -24,6 +24,18 @@ fn shared(alloc: Global, file: &(Text, Bytes)) -> Result<(Text, Bytes), NoMemory
     Ok((path, bytes))
 }
 
+/// All files again.
+pub fn shared_files(alloc: Global, files: &Files) -> Result<Vec<(Text, Bytes)>, NoMemory>
+    ensures { IfOk result (λ list. list.items ≡ files.now) }
+{
+    let mut list = Vec::new(alloc);
+    for file in 0..files.count() {
+        let more = shared(alloc, files.entry(file))?;
+        list.push(more)?;
+    }
+    Ok(list)
+}
+
 fn shared_file(alloc: Global, files: &Files, file: u32) -> Result<(Text, Bytes), NoMemory>
     ensures { IfOk result (λ more. more ≡ file_numbered files.now file) }
 {

@@ -70,8 +70,8 @@ fn tells_of_too_many_packages(rt: HostRuntime) -> Result<(), Fail> {
 fn tells_each_command_of_a_limit(rt: HostRuntime) -> Result<(), Fail> {
     let mut script = Vec::new(rt.alloc());
     put_packages(rt.alloc(), &mut script, 1025)?;
-    script.extend_from_slice(b"report\nfix\n")?;
-    let said = b"limit: packages\nlimit: packages\nlimit: packages\n";
+    script.extend_from_slice(b"report\nfacts\nfix\n")?;
+    let said = b"limit: packages\nlimit: packages\nlimit: packages\nlimit: packages\n";
     told(&rt, rt.alloc(), &mut script, said, NO_NUMBERS, 1)
 }
 

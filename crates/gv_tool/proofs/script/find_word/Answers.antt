@@ -4,4 +4,4 @@ use Rattle.gv_tool.proofs.WordLaws.{number_of-below}
 use Rattle.gv_tool.proofs.script.find_word.Goals as goal
 
 pub returns : goal.returns
-returns c = λ word more after e. c.loop-number.invariant word (let h : number_of word < 8 = number_of-below word in let n = c.loop-number-test.false in omega arith) more after e
+returns c = λ word more after e. c.loop-number.invariant word (let h : number_of word < 9 = number_of-below word in let n = c.loop-number-test.false in omega arith) more after e

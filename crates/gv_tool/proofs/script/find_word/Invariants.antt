@@ -7,4 +7,4 @@ abbrev pub invariant-loop-number : goal.invariant-loop-number
 invariant-loop-number l = (word : Word) → number_of word < l.number → (more after : List ℕ) → l.bytes ++ more ≡ text_of word ++ after → ⊥
 
 abbrev pub decreases-loop-number : goal.decreases-loop-number
-decreases-loop-number l = 8 - l.number
+decreases-loop-number l = 9 - l.number

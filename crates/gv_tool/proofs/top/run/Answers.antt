@@ -7,6 +7,7 @@ script-preserved g c = record {
   so_far = SoFar-turn c.script.invariant.so_far c.in_default.ensures.turns;
   room = c.in_default.ensures.room refl;
   paths = c.in_default.ensures.paths refl;
+  kept = c.in_default.ensures.kept refl;
   source = omega (arith, c.in_default.ensures.source_fault.later);
   sink = omega (arith, c.in_default.ensures.sink_fault.later);
   stalls = omega (arith, c.in_default.ensures.stuck.later);

@@ -4,6 +4,7 @@ use Rattle.gv_driver.specs.Standing.{AreFoundIn, AreVerdictsIn}
 use Rattle.gv_driver.specs.Tallies.{tally}
 use Rattle.gv_driver.specs.Trees.{IsTree}
 use Rattle.analysis_core.specs.declared.reply.Counts.{Counts}
+use Rattle.fact_lines.specs.Lines.{all_facts}
 use Rattle.tree_findings.specs.Lines.{all_lines}
 use Rattle.tree_findings.specs.Telling.{AreFilesOf, chosen_by}
 use Rattle.tree_findings.proofs.ToldLemmas.{told-files, told-found, told-stands}
@@ -46,14 +47,14 @@ returns-in_err-report-clause-cut_off g c = λ honest.
 
 pub printed-requires : goal.printed-requires
 printed-requires g c =
-    told-stands c.args.options.command c.args.files.now (all_lines c.args.formed.now.packages.items c.in_ok-ran.ran.found) c.in_ok-reply.reply c.in_ok-reply.ensures.told
+    told-stands c.args.options.command c.args.files.now (all_lines c.args.formed.now.packages.items c.in_ok-ran.ran.found) (all_facts c.args.formed.now.packages.items c.in_ok-ran.ran.facts) c.in_ok-reply.reply c.in_ok-reply.ensures.told
     (subst (All (StandsIn c.args.files.now)) (sym (c.in_ok-reply.ensures.errors ∙ told_same c.args.formed.now.heads.items c.requires.form.0 c.args.formed.now.packages.items c.in_ok-ran.ran.verdicts c.args.formed.now.refusals.items c.requires.form.1.1))
     (error-lines-stand c.args.files.now c.requires.form.0 c.args.formed.now.heads.items c.args.formed.now.packages.items c.in_ok-ran.ran.verdicts c.requires.form.1.0 (subst (λ l. AreVerdictsIn l c.in_ok-ran.ran.verdicts) (c.deref-2.ensures.value ∙ (c.in_ok-tree.ensures ∙ ap (map (texts_of c.args.files.now)) c.deref.ensures.value)) c.in_ok-ran.ensures.stand)))
     (found-lines-stand c.args.files.now c.requires.form.0 c.args.formed.now.heads.items c.args.formed.now.packages.items c.in_ok-ran.ran.found c.requires.form.1.0 (subst (λ l. AreFoundIn l c.in_ok-ran.ran.found) (c.deref-2.ensures.value ∙ (c.in_ok-tree.ensures ∙ ap (map (texts_of c.args.files.now)) c.deref.ensures.value)) c.in_ok-ran.ensures.found))
 
 pub returns-clause-changed : goal.returns-clause-changed
 returns-clause-changed g c = subst (AreFilesOf c.args.files.now) (sym c.in_ok-report.ensures.changed)
-    (told-files c.args.options.command c.args.files.now (all_lines c.args.formed.now.packages.items c.in_ok-ran.ran.found) c.in_ok-reply.reply c.in_ok-reply.ensures.told)
+    (told-files c.args.options.command c.args.files.now (all_lines c.args.formed.now.packages.items c.in_ok-ran.ran.found) (all_facts c.args.formed.now.packages.items c.in_ok-ran.ran.facts) c.in_ok-reply.reply c.in_ok-reply.ensures.told)
 
 pub returns-clause-safe : goal.returns-clause-safe
 returns-clause-safe g c = record {
@@ -62,12 +63,13 @@ returns-clause-safe g c = record {
   packages = c.args.formed.now.packages.items;
   form = c.requires.form.1.0;
   findings = c.in_ok-ran.ran.found;
+  facts = c.in_ok-ran.ran.facts;
   reply = c.in_ok-reply.reply;
   told = c.in_ok-reply.ensures.told;
   size = c.in_ok-reply.ensures.size;
   stand = (subst (All (StandsIn c.args.files.now)) (sym (c.in_ok-reply.ensures.errors ∙ told_same c.args.formed.now.heads.items c.requires.form.0 c.args.formed.now.packages.items c.in_ok-ran.ran.verdicts c.args.formed.now.refusals.items c.requires.form.1.1))
       (error-lines-stand c.args.files.now c.requires.form.0 c.args.formed.now.heads.items c.args.formed.now.packages.items c.in_ok-ran.ran.verdicts c.requires.form.1.0 (subst (λ l. AreVerdictsIn l c.in_ok-ran.ran.verdicts) (c.deref-2.ensures.value ∙ (c.in_ok-tree.ensures ∙ ap (map (texts_of c.args.files.now)) c.deref.ensures.value)) c.in_ok-ran.ensures.stand)));
-  found_stand = told-found c.args.options.command c.args.files.now (all_lines c.args.formed.now.packages.items c.in_ok-ran.ran.found) c.in_ok-reply.reply c.in_ok-reply.ensures.told (found-lines-stand c.args.files.now c.requires.form.0 c.args.formed.now.heads.items c.args.formed.now.packages.items c.in_ok-ran.ran.found c.requires.form.1.0 (subst (λ l. AreFoundIn l c.in_ok-ran.ran.found) (c.deref-2.ensures.value ∙ (c.in_ok-tree.ensures ∙ ap (map (texts_of c.args.files.now)) c.deref.ensures.value)) c.in_ok-ran.ensures.found));
+  found_stand = told-found c.args.options.command c.args.files.now (all_lines c.args.formed.now.packages.items c.in_ok-ran.ran.found) (all_facts c.args.formed.now.packages.items c.in_ok-ran.ran.facts) c.in_ok-reply.reply c.in_ok-reply.ensures.told (found-lines-stand c.args.files.now c.requires.form.0 c.args.formed.now.heads.items c.args.formed.now.packages.items c.in_ok-ran.ran.found c.requires.form.1.0 (subst (λ l. AreFoundIn l c.in_ok-ran.ran.found) (c.deref-2.ensures.value ∙ (c.in_ok-tree.ensures ∙ ap (map (texts_of c.args.files.now)) c.deref.ensures.value)) c.in_ok-ran.ensures.found));
   text = c.in_ok-report.ensures.text;
   found = c.in_ok-report.ensures.found;
   changed = c.in_ok-report.ensures.changed;
@@ -86,6 +88,8 @@ returns-clause-told g c = λ honest.
       outcome = ran.report;
       findings = c.in_ok-ran.ran.found;
       finds = ran.found;
+      facts = c.in_ok-ran.ran.facts;
+      given = ran.facts;
       plan = ran.plan;
       is_plan = ran.is_plan;
       cache = ran.cache;

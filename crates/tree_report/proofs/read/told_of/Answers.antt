@@ -1,0 +1,15 @@
+use Rattle.std.proofs.Common.{List, ℕ, sym, ap, ◌∙◌, subst}
+use Rattle.import_graph.specs.Sources.{is_source}
+use Rattle.tree_report.specs.Reading.{IsRead}
+use Rattle.tree_report.proofs.read.told_of.Goals as goal
+
+pub read-requires : goal.read-requires
+read-requires c = λ source. c.requires (ap is_source (sym c.as_bytes.ensures.value) ∙ source)
+
+pub returns : goal.returns
+returns c = record {
+  verdict = c.in_ok-verdict.verdict;
+  read = subst (λ (b : List ℕ). IsRead (b, c.args.text.now) c.in_ok-verdict.verdict) c.as_bytes.ensures.value c.in_ok-verdict.ensures;
+  head = c.in_ok-head.ensures;
+  refusal = c.refusal_of-refusal.ensures;
+}
