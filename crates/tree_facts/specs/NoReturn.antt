@@ -1,0 +1,81 @@
+-- The functions of a whole tree that never return. This knows neither facts nor caches: no package is told of another.
+use Rattle.std.specs.Prelude.{◌≡◌, ◌↔◌, ℕ, Bool, true, Some, List, map, slice_get}
+use Rattle.std.specs.List.{Contains}
+use Rattle.fact_codec.specs.declared.units.Never.{Never}
+use Rattle.fact_codec.specs.Texts.{AreFacts}
+use Rattle.handed_facts.specs.Handed.{Named, Facts}
+use Rattle.least.specs.Least.{IsClosed, IsLeast}
+use Rattle.least.specs.Tables.{Member, member}
+use Rattle.never_returns.specs.Admits.{Admits}
+use Rattle.vet_never.specs.Listed.{listed_in}
+use Rattle.vet_never.specs.Never.{Around, bodies_in, IsAround, spelling, fact_name}
+use Rattle.mark_walk.specs.Asks.{IsTheAnnotation}
+use Rattle.typed_marks.specs.declared.item.Item.{Item}
+use Rattle.typed_marks.specs.Meanings.{Meaning}
+use Rattle.type_answers.specs.Answering.{says_of}
+use Rattle.elaborate.specs.Walks.{item_rule}
+use Rattle.go_rules.specs.Stages.{rule}
+use Rattle.unit_read.specs.Units.{Unit}
+use Rattle.package_faces.specs.Faces.{Face}
+use Rattle.check_pkg.specs.Packages.{Package, IsUnit}
+use Rattle.action_graph.specs.Judging.{Env, IsPackageOf}
+use Rattle.action_graph.specs.Judging.Judged.{Accepts}
+use Rattle.gv_driver.specs.declared.tree.PackageTexts.{PackageTexts}
+use Rattle.gv_driver.specs.Facts.{HasFacts}
+use Rattle.gv_driver.specs.Whole.{Checked, HasEnv}
+
+-- An accepted package of the tree, as it is typed: over what is seen of its environment, with its one annotation.
+pub record IsAccepted (tree : List PackageTexts) (p : ℕ) (u : Unit) (marks : Item → Meaning) : Type 0 where
+  pub pack : PackageTexts
+  pub at : slice_get tree p ≡ Some pack
+  pub face : Face
+  pub accepted : Checked tree p (Accepts face)
+  pub env : Env
+  pub faces : HasEnv tree p env
+  pub of : Package
+  pub is_of : IsPackageOf pack.path pack.files of
+  pub is_unit : IsUnit of env u
+  pub annotated : IsTheAnnotation (says_of u) (item_rule rule u) marks
+
+-- Where these functions never return, this one doesn't either: an accepted package of the tree declares it, and it is listed, or has a body of which
+-- neither a `return` nor the end is reached, where calls of `panic` and of these functions stop control.
+pub record IsAdmitted (tree : List PackageTexts) (N : Member → Bool) (m : Member) : Type 0 where
+  pub p : ℕ
+  pub unit : Unit
+  pub marks : Item → Meaning
+  pub accepted : IsAccepted tree p unit marks
+  pub own : m.path ≡ unit.path
+  pub around : Around
+  pub is_around : IsAround unit marks around
+  pub admits : Admits (listed_in unit) (bodies_in unit around) N m
+
+-- The functions of the tree that never return: the least set that has each function which it admits.
+abbrev pub AreNoReturn : List PackageTexts → (Member → Bool) → Type 0
+AreNoReturn tree N = IsLeast (IsAdmitted tree) N
+
+-- the function is in each set that has what it admits, so in the least
+abbrev pub NoReturn : List PackageTexts → Member → Type 0
+NoReturn tree m = (N : Member → Bool) → IsClosed (IsAdmitted tree) N → N m ≡ true
+
+-- the text names exactly the functions of the path of which this holds
+pub record Names (P : Member → Type 0) (path text : List ℕ) : Type 0 where
+  pub table : Facts Never
+  pub spelled : AreFacts spelling table text
+  pub each : (name : List ℕ) → Contains (map fact_name table) name ↔ P (member path name 0)
+
+-- ---- facts of all packages
+
+-- the text is that of the facts of an accepted package, beside its path
+pub record IsFactText (tree : List PackageTexts) (x : Named) : Type 0 where
+  pub p : ℕ
+  pub pack : PackageTexts
+  pub face : Face
+  pub at : slice_get tree p ≡ Some pack
+  pub accepted : Checked tree p (Accepts face)
+  pub path : x.0 ≡ pack.path
+  pub has : HasFacts tree 4 p x.1
+
+-- Of each accepted package of the tree, and of no other, the facts of `ctrlflow`.
+pub record AreFactTexts (tree : List PackageTexts) (all : List Named) : Type 0 where
+  pub each : (k : ℕ) (x : Named) → slice_get all k ≡ Some x → IsFactText tree x
+  pub every : (p : ℕ) (pack : PackageTexts) (face : Face) → slice_get tree p ≡ Some pack → Checked tree p (Accepts face) → (k : ℕ) × (x : Named) × (slice_get all k ≡ Some x) × (x.0 ≡ pack.path)
