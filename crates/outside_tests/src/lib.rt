@@ -4,6 +4,8 @@
 #[cfg(test)]
 mod disk_tests;
 #[cfg(test)]
+mod folder_tests;
+#[cfg(test)]
 mod slow_devices_tests;
 #[cfg(test)]
 mod wave_run_tests;
