@@ -1,13 +1,13 @@
 #!/usr/bin/env bash
 # Runs what the pages show: each file that a page of docs/rules calls refused or accepted, each in which a page of docs/analyzers says that
-# something is reported or that nothing is, the worked session of docs/FORMATS.md, and the sessions of README.md. Prints each that gives something else than its page says, each rule that has no refused or no accepted file,
+# something is reported or known, or that nothing is, the worked session of docs/FORMATS.md, and the sessions of README.md. Prints each that gives something else than its page says, each rule that has no refused or no accepted file,
 # and how many were run; ends with 1 where something is wrong, or nothing was found on a page.
 #
 #     tools/check-pages.sh [PROGRAM]     PROGRAM is gvet as it was built; with none it is ./gvet, which proves and builds where it has to
 #
 # On a page of docs/rules stands, below a heading `### E31 ..`, a paragraph `Refused, `LINE` and `LINE`:` or `Accepted:`, and a go block:
 # a file, or several, each behind a line `-- PATH --`. All that is printed of it are those lines. On a page of docs/analyzers the paragraphs
-# are `Reported, `LINE` and `LINE`:` and `Silent:`, and the lines are those of `report`. A session is a block of lines
+# are `Reported, `LINE` and `LINE`:` and `Silent:`, and the lines are those of `report`; or `Known, ..`, and they are those of `facts`. A session is a block of lines
 # `$ COMMAND` and of what each prints.
 set -u
 cd "$(dirname "$0")/.." || exit 1
@@ -39,7 +39,7 @@ take_out() {
             next
         }
         in_block { print > text; next }
-        /^(Refused|Reported), / { kind = "refused"; words = "" }
+        /^(Refused|Reported|Known), / { kind = "refused"; words = "" }
         /^(Accepted|Silent):/ { kind = "accepted"; words = "" }
         /^```go$/ {
             if (kind == "") { print page ": " rule " has a file that is neither refused nor accepted" ; kind = "accepted"; words = "" }
@@ -55,7 +55,7 @@ take_out() {
             while (match(words, /`[^`]+`/)) {
                 line = substr(words, RSTART + 1, RLENGTH - 2)
                 words = substr(words, RSTART + RLENGTH)
-                if (line ~ /^[^ :]+:[0-9]+:[0-9]+: /) {
+                if (line ~ /^[^ :]+:[0-9]+:[0-9]+: / || line ~ /^[^ :]+: [^ :]+: .* never returns$/) {
                     print line > want
                     found++
                 }
@@ -95,16 +95,17 @@ script_of() {
 run_example() {
     local base=$1 command=$2 name first packages lines due
     name=$(cat "$base.name")
-    first=$(head -n 1 "$base.want" | cut -d: -f1)
+    first=$(grep -oE '^[^ :]+\.go:' "$base.want" | head -n 1 | tr -d :)
     script_of "$base.text" "${first:-a/a.go}" "$command" >"$base.script"
     packages=$(sed -n 's/^put \(.*\)\/[^/ ]* [0-9]*$/\1/p' "$base.script" | sort -u | wc -l | tr -d ' ')
     lines=$(wc -l <"$base.want" | tr -d ' ')
     due=0
-    [ "$lines" -eq 0 ] || due=1
+    [ "$lines" -eq 0 ] || [ "$command" = facts ] || due=1
     cat "$base.want" >"$base.due"
     case $command in
     check) echo "packages $packages, errors $lines" ;;
     report) echo "packages $packages, errors 0, diagnostics $lines" ;;
+    facts) echo "packages $packages, errors 0, facts $lines" ;;
     esac >>"$base.due"
     "$program" session <"$base.script" >"$base.reply"
     local ended=$?
@@ -179,11 +180,13 @@ run_worked() {
     sessions=$((sessions + count))
 }
 
-# Runs the examples of all pages of a folder by a command.
+# Runs the examples of all pages of a folder by a command; of a page where something is known, by `facts`.
 run_pages() {
-    local folder=$1 command=$2 page place lacks count
+    local folder=$1 command page place lacks count
     for page in "$folder"/*.md; do
         [ "$page" != "$folder/README.md" ] || continue
+        command=$2
+        ! grep -q '^Known, ' "$page" || command=facts
         place=$room/$command-$(basename "$page" .md)
         mkdir "$place"
         lacks=$(take_out "$page" "$place")

@@ -1,10 +1,12 @@
 #!/usr/bin/env python3
 """Has gvet and x/tools' analyzers report on random trees, and prints each line in which one reports what the other doesn't.
 
-    tools/agree_vet/random_trees.py PROGRAM FIRST LAST     PROGRAM is gvet; a tree for each seed from FIRST to before LAST
+    tools/agree_vet/random_trees.py PROGRAM FIRST LAST           PROGRAM is gvet; a tree for each seed from FIRST to before LAST
+    tools/agree_vet/random_trees.py PROGRAM FIRST LAST facts     the same for the facts of ctrlflow, over the trees of never_trees.py
+    tools/agree_vet/random_trees.py PROGRAM FIRST LAST flow      reports on those trees, which are full of what control doesn't come to
 
 A tree has 40 packages of some 150 lines: chains of conditions, assignments, comparisons of functions with nil, conversions to strings, calls as
-statements, copies of locks, tags. Lines are compared by package, line and analyzer. Packages that break a rule of typing are left out, after
+statements, copies of locks, tags. Lines are compared by file, line and analyzer, those of unreachable by column too. Packages that break a rule of typing are left out, after
 both have to refuse them. What the pages in docs/analyzers say that `go vet` does otherwise is counted and not printed."""
 import collections
 import os
@@ -14,6 +16,8 @@ import shutil
 import subprocess
 import sys
 import tempfile
+
+import never_trees
 
 HERE = os.path.dirname(os.path.realpath(__file__))
 STUBS = {
@@ -170,55 +174,92 @@ def tree(seed):
 
 
 def is_known(analyzer, of_gvet, source):
-    """Whether a page in docs/analyzers says so: parentheses are dropped where a copy is made, and kept where operands are compared; fmt.Sprintln; a name of one dash."""
+    """Whether a page in docs/analyzers says so, by the line and the two before it: a panic that the file declares; parentheses are dropped where a copy is made, and kept where operands are compared; fmt.Sprintln; a name of one dash."""
+    if analyzer == "unreachable":
+        return of_gvet and "panic := fn; panic(" in source
+    source = source.split("\n")[-1]
     if of_gvet:
         return analyzer == "unusedresult" and "Sprintln" in source or analyzer == "structtag" and 'json:"-"' in source
     return analyzer == "copylocks" and re.search(r"\((\*?)mkp?\(\)\)", source) or analyzer == "bools" and re.search(r"\((b|i [!=]= \d)\)", source)
 
 
 def reported(lines, typing):
-    """The lines by package, line and analyzer, and the packages in which typing errors are told."""
-    found, refused = {}, set()
+    """The lines by file, place and analyzer, and the packages in which typing errors are told."""
+    found, refused = {}, refused_in(line for line in lines if line.startswith("refused") or re.match(r"[^ ]+: (" + typing + "|blocked)", line))
     for line in lines:
-        told = re.match(r"(?:refused: )?(p\d+)/p\.go:(\d+):\d+: (\w+)[: ]", line)
-        if told and (line.startswith("refused") or re.match(typing, told[3])):
-            refused.add(told[1])
-        elif told:
-            found[told[1], int(told[2]), told[3]] = line
+        told = re.match(r"(p\d+/\w+\.go):(\d+):(\d+): (\w+): ", line)
+        if told and not re.match(typing, told[4]):
+            found[told[1], int(told[2]), told[4], told[3] if told[4] == "unreachable" else ""] = line
     return found, refused
+
+
+def replies(program, agree, folder, files, command):
+    """What both print of a tree, by lines: gvet by a command of a session, x/tools over the tree's folder."""
+    for path, text in files.items():
+        os.makedirs(os.path.dirname(f"{folder}/{path}"), exist_ok=True)
+        with open(f"{folder}/{path}", "w") as out:
+            out.write(text)
+    script = b"".join(f"put {path} {len(text.encode())}\n{text}\n".encode() for path, text in sorted(files.items())) + f"{command}\n".encode()
+    ours = subprocess.run([program, "session"], input=script, stdout=subprocess.PIPE).stdout.decode().split("\n")
+    words = [agree, folder] if command == "report" else [agree, command, folder]
+    theirs = subprocess.run(words, stdout=subprocess.PIPE, stderr=subprocess.DEVNULL, check=True).stdout.decode().split("\n")
+    shutil.rmtree(folder)
+    return ours, theirs
+
+
+def compare_reports(seed, files, ours, theirs, counts):
+    (ours, refused), (theirs, refused_too) = reported(ours, r"E\d|outside"), reported(theirs, r"E\d")
+    for name in sorted(refused ^ refused_too):
+        print(f"seed {seed}: one of both refuses {name}")
+    for key in sorted(ours.keys() | theirs.keys()):
+        if key[0].split("/")[0] in refused:
+            continue
+        source = "\n".join(files[key[0]].split("\n")[max(0, key[1] - 3) : key[1]])
+        if key in ours and key in theirs:
+            counts[key[2], "both"] += 1
+        elif is_known(key[2], key in ours, source):
+            counts[key[2], "as its page says"] += 1
+        else:
+            counts[key[2], "one"] += 1
+            print(f"seed {seed}: {'gvet' if key in ours else 'x/tools'} alone: {ours.get(key) or theirs.get(key)}\n    {source.split(chr(10))[-1].strip()}")
+    counts["packages", "compared"] += 40 - len(refused | refused_too)
+
+
+def refused_in(lines):
+    """The packages that aren't accepted: with errors, or that import one with errors."""
+    told = [re.match(r"(?:refused: )?(p\d+)/\w+\.go:\d+:\d+: |m/(p\d+): blocked", line) for line in lines]
+    return {match[1] or match[2] for match in told if match}
+
+
+def compare_facts(seed, files, ours, theirs, counts):
+    refused, refused_too = refused_in(ours), refused_in(theirs)
+    for name in sorted(refused ^ refused_too):
+        print(f"seed {seed}: one of both refuses {name}")
+    found = {line for line in ours if line.endswith(" never returns")}
+    by_cause = {cause: {line[len(cause) :] for line in theirs if line.startswith(cause)} for cause in ("circles: ", "expressions: ")}
+    alone = {line for line in theirs if line.endswith(" never returns") and not line.startswith(tuple(by_cause))}
+    counts["ctrlflow", "both"] += len(found & alone)
+    for cause, lines in by_cause.items():
+        counts["ctrlflow", f"as its page says, {cause[:-2]}"] += len(lines & (found ^ alone))
+    due = alone - by_cause["expressions: "] | by_cause["circles: "]
+    for line in sorted(found ^ due):
+        counts["ctrlflow", "one"] += 1
+        print(f"seed {seed}: {'gvet' if line in found else 'x/tools'} alone: {line}")
+    counts["packages", "compared"] += len({path.split("/")[0] for path in files if path.startswith("p")} - refused - refused_too)
 
 
 def main():
     program, first, last = sys.argv[1], int(sys.argv[2]), int(sys.argv[3])
+    command = sys.argv[4] if len(sys.argv) > 4 else "report"
+    tree_of, compare = tree if command == "report" else never_trees.tree, compare_facts if command == "facts" else compare_reports
+    command = "report" if command == "flow" else command
     room = tempfile.mkdtemp()
     env = {**os.environ, "GO111MODULE": "off", "GOPATH": "/usr/share/gocode"}
     subprocess.run(["go", "build", "-o", f"{room}/agree", f"{HERE}/main.go"], env=env, check=True)
     counts = collections.Counter()
     for seed in range(first, last):
-        files = tree(seed)
-        for path, text in files.items():
-            os.makedirs(os.path.dirname(f"{room}/{seed}/{path}"), exist_ok=True)
-            with open(f"{room}/{seed}/{path}", "w") as out:
-                out.write(text)
-        script = b"".join(f"put {path} {len(text.encode())}\n{text}\n".encode() for path, text in sorted(files.items())) + b"report\n"
-        ours = subprocess.run([program, "session"], input=script, stdout=subprocess.PIPE).stdout.decode().split("\n")
-        theirs = subprocess.run([f"{room}/agree", f"{room}/{seed}"], stdout=subprocess.PIPE, stderr=subprocess.DEVNULL, check=True).stdout.decode().split("\n")
-        (ours, refused), (theirs, refused_too) = reported(ours, r"E\d|outside"), reported(theirs, r"E\d")
-        for name in sorted(refused ^ refused_too):
-            print(f"seed {seed}: one of both refuses {name}")
-        for key in sorted(ours.keys() | theirs.keys()):
-            if key[0] in refused:
-                continue
-            source = files[f"{key[0]}/p.go"].split("\n")[key[1] - 1]
-            if key in ours and key in theirs:
-                counts[key[2], "both"] += 1
-            elif is_known(key[2], key in ours, source):
-                counts[key[2], "as its page says"] += 1
-            else:
-                counts[key[2], "one"] += 1
-                print(f"seed {seed}: {'gvet' if key in ours else 'x/tools'} alone: {ours.get(key) or theirs.get(key)}\n    {source.strip()}")
-        counts["packages", "compared"] += 40 - len(refused | refused_too)
-        shutil.rmtree(f"{room}/{seed}")
+        files = tree_of(seed)
+        compare(seed, files, *replies(program, f"{room}/agree", f"{room}/{seed}", files, command), counts)
     shutil.rmtree(room)
     for (what, which), count in sorted(counts.items()):
         print(f"{what}, {which}: {count}")
