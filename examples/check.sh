@@ -1,11 +1,11 @@
 #!/usr/bin/env bash
 # Checks the Go files of a folder with gvet, and its go.mod: makes the script that puts each of them and asks for a check, or for another
 # command, and runs it.
-#   examples/check.sh DIR [check | report | fix]
+#   examples/check.sh DIR [check | report | facts | fix]
 # A fix is told and not written into the folder. Its output and its status are gvet's. Names that gvet takes for no paths are told and left out.
 set -eu
 gvet=$(cd "$(dirname "$0")/.." && pwd)/gvet
-dir=${1:?"usage: examples/check.sh DIR [check | report | fix]"}
+dir=${1:?"usage: examples/check.sh DIR [check | report | facts | fix]"}
 command=${2:-check}
 [ -d "$dir" ] || { echo "check.sh: $dir is no folder" >&2; exit 2; }
 script=$(mktemp)
