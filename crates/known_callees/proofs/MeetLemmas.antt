@@ -1,23 +1,21 @@
 -- One closed set that has, of each of some packages, what is told of it alone.
-use Rattle.std.proofs.Common.{◌≡◌, ◌⊎◌, inl, inr, ◌<◌, ◌+◌, ℕ, zero, suc, ◌&&◌, Bool, true, false, List, [], ◌∷◌, map, length, Option, Some, None, slice_get, refl, sym, ap, ◌∙◌, subst, arith}
+use Rattle.std.proofs.Common.{◌≡◌, inl, inr, ◌<◌, ℕ, zero, suc, ◌&&◌, Bool, true, List, Option, Some, None, slice_get, refl, sym, ap, ◌∙◌, subst, arith}
 use Rattle.std.specs.List.{Contains}
 use Rattle.std.proofs.lemmas.Bool.{cases_eq}
-use Rattle.std.proofs.lemmas.Option.{slice_get_within}
-use Rattle.fact_codec.specs.declared.units.Never.{Never}
 use Rattle.fact_codec.specs.Texts.{AreFacts}
-use Rattle.handed_facts.specs.Handed.{Named, Facts}
+use Rattle.handed_facts.specs.Handed.{Named, Facts, entry, entries_of}
 use Rattle.least.specs.Least.{IsClosed, IsMonotone}
 use Rattle.least.specs.Tables.{Member}
 use Rattle.own_functions.proofs.NameLemmas.{both_true}
-use Rattle.vet_never.specs.Never.{spelling, fact_name}
 use Rattle.known_callees.specs.Telling.{TellsLeast}
-use Rattle.known_callees.proofs.EntryLemmas.{one_read}
+use Rattle.known_callees.proofs.EntryLemmas.{ReadsOnce}
 use Rattle.known_callees.proofs.Words.{both_so, no_some, same_some}
 
-module _ (whole : (Member → Bool) → Member → Type 0) (grows : IsMonotone whole) (given : List Named) (below : (k : ℕ) (x : Named) → slice_get given k ≡ Some x → TellsLeast whole x.0 x.1) where
+module _ {F : Type 0} (spelling kinds : F → List ℕ) (once : ReadsOnce spelling) (whole : (Member → Bool) → Member → Type 0) (grows : IsMonotone whole) (given : List Named)
+    (below : (k : ℕ) (x : Named) → slice_get given k ≡ Some x → TellsLeast spelling kinds whole x.0 x.1) where
   -- the names that are told of the package at a place
   abbrev IsToldAt : (k : ℕ) (x : Named) → slice_get given k ≡ Some x → Member → Type 0
-  IsToldAt k x e m = (m.kind ≡ 0) × Contains (map fact_name (below k x e).table) m.name
+  IsToldAt k x e m = Contains (entries_of kinds (below k x e).table) (entry m.name m.kind)
 
   pub record IsMet (n : ℕ) : Type 0 where
     pub set : Member → Bool
@@ -43,10 +41,10 @@ module _ (whole : (Member → Bool) → Member → Type 0) (grows : IsMonotone w
         (λ before. was.exact k y e before m path (split m is).0)
         (λ same.
         let one : x ≡ y = same_some x y (sym there ∙ (ap (slice_get given) (sym same) ∙ e)) in
-        let told = (below n x there).only m (path ∙ ap (λ (z : Named). z.0) (sym one)) (split m is).1 in
+        let told : Contains (entries_of kinds (below n x there).table) (entry m.name m.kind) = (below n x there).only m (path ∙ ap (λ (z : Named). z.0) (sym one)) (split m is).1 in
         let tables : (below n x there).table ≡ (below k y e).table =
-        one_read y.1 (below n x there).table (below k y e).table (subst (λ (z : Named). AreFacts spelling (below n x there).table z.1) one (below n x there).spelled) (below k y e).spelled in
-        (told.0, subst (λ (t : Facts Never). Contains (map fact_name t) m.name) tables told.1));
+        once y.1 (below n x there).table (below k y e).table (subst (λ (z : Named). AreFacts spelling (below n x there).table z.1) one (below n x there).spelled) (below k y e).spelled in
+        subst (λ (t : Facts F). Contains (entries_of kinds t) (entry m.name m.kind)) tables told);
   } where
     both : Member → Bool
     both m = was.set m && (below n x there).set m

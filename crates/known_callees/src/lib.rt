@@ -3,4 +3,4 @@
 
 mod laws;
 
-pub use laws::{callees_are_seen, named_are_seen, one_admission};
+pub use laws::{callees_are_seen, handed_on_are_seen, named_are_seen, one_admission};

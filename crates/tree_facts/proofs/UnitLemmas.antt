@@ -1,5 +1,5 @@
 -- An accepted package is typed in one way.
-use Rattle.std.proofs.Common.{◌≡◌, ℕ, List, Some, slice_get, refl, sym, ap, ◌∙◌, subst}
+use Rattle.std.proofs.Common.{◌≡◌, ℕ, List, sym, ◌∙◌, subst}
 use Rattle.std.proofs.Math.Path.{fun_ext}
 use Rattle.mark_walk.specs.Asks.{IsTheAnnotation}
 use Rattle.typed_marks.specs.declared.item.Item.{Item}
@@ -13,8 +13,9 @@ use Rattle.check_pkg.proofs.OneUnit.{the_unit}
 use Rattle.action_graph.specs.Judging.{Env, IsPackageOf}
 use Rattle.action_graph.proofs.OneFinding.{one-package, package-spelled}
 use Rattle.gv_driver.specs.declared.tree.PackageTexts.{PackageTexts}
-use Rattle.gv_driver.proofs.WholeLaws.{one-env, same_pack}
-use Rattle.tree_facts.specs.NoReturn.{IsAccepted}
+use Rattle.gv_driver.specs.Trees.{IsTree}
+use Rattle.gv_driver.proofs.WholeLaws.{one-env, same-number, same_pack}
+use Rattle.tree_facts.specs.Accepted.{IsAccepted}
 
 module _ (tree : List PackageTexts) (p : ℕ) (u v : Unit) (m n : Item → Meaning) (a : IsAccepted tree p u m) (b : IsAccepted tree p v n) where
   pack_is : a.pack ≡ b.pack
@@ -40,3 +41,20 @@ module _ (tree : List PackageTexts) (p : ℕ) (u v : Unit) (m n : Item → Meani
 
   pub marks_are : m ≡ n
   marks_are = fun_ext (b.annotated.alone m annotated_here.is)
+
+pub unit_path : (tree : List PackageTexts) (p : ℕ) (u : Unit) (m : Item → Meaning) (here : IsAccepted tree p u m) → u.path ≡ here.pack.path
+unit_path tree p u m here = here.is_unit.path ∙ here.is_of.path_is
+
+-- an accepted package whose typing has the path of this one is this one, typed as this
+module _ (tree : List PackageTexts) (formed : IsTree tree) (p q : ℕ) (u v : Unit) (m n : Item → Meaning) (here : IsAccepted tree p u m) (there : IsAccepted tree q v n) (path : v.path ≡ u.path) where
+  number_is : q ≡ p
+  number_is = same-number tree q p there.pack here.pack formed there.at here.at (sym (unit_path tree q v n there) ∙ (path ∙ unit_path tree p u m here))
+
+  there_at : IsAccepted tree p v n
+  there_at = subst (λ (k : ℕ). IsAccepted tree k v n) number_is there
+
+  pub same_unit : v ≡ u
+  same_unit = unit_is tree p v u n m there_at here
+
+  pub same_marks : n ≡ m
+  same_marks = marks_are tree p v u n m there_at here

@@ -1,5 +1,5 @@
 -- The functions of a whole tree that never return. This knows neither facts nor caches: no package is told of another.
-use Rattle.std.specs.Prelude.{◌≡◌, ◌↔◌, ℕ, Bool, true, Some, List, map, slice_get}
+use Rattle.std.specs.Prelude.{◌≡◌, ◌↔◌, ℕ, Bool, true, List, map}
 use Rattle.std.specs.List.{Contains}
 use Rattle.fact_codec.specs.declared.units.Never.{Never}
 use Rattle.fact_codec.specs.Texts.{AreFacts}
@@ -9,33 +9,11 @@ use Rattle.least.specs.Tables.{Member, member}
 use Rattle.never_returns.specs.Admits.{Admits}
 use Rattle.vet_never.specs.Listed.{listed_in}
 use Rattle.vet_never.specs.Never.{Around, bodies_in, IsAround, spelling, fact_name}
-use Rattle.mark_walk.specs.Asks.{IsTheAnnotation}
 use Rattle.typed_marks.specs.declared.item.Item.{Item}
 use Rattle.typed_marks.specs.Meanings.{Meaning}
-use Rattle.type_answers.specs.Answering.{says_of}
-use Rattle.elaborate.specs.Walks.{item_rule}
-use Rattle.go_rules.specs.Stages.{rule}
 use Rattle.unit_read.specs.Units.{Unit}
-use Rattle.package_faces.specs.Faces.{Face}
-use Rattle.check_pkg.specs.Packages.{Package, IsUnit}
-use Rattle.action_graph.specs.Judging.{Env, IsPackageOf}
-use Rattle.action_graph.specs.Judging.Judged.{Accepts}
 use Rattle.gv_driver.specs.declared.tree.PackageTexts.{PackageTexts}
-use Rattle.gv_driver.specs.Facts.{HasFacts}
-use Rattle.gv_driver.specs.Whole.{Checked, HasEnv}
-
--- An accepted package of the tree, as it is typed: over what is seen of its environment, with its one annotation.
-pub record IsAccepted (tree : List PackageTexts) (p : ℕ) (u : Unit) (marks : Item → Meaning) : Type 0 where
-  pub pack : PackageTexts
-  pub at : slice_get tree p ≡ Some pack
-  pub face : Face
-  pub accepted : Checked tree p (Accepts face)
-  pub env : Env
-  pub faces : HasEnv tree p env
-  pub of : Package
-  pub is_of : IsPackageOf pack.path pack.files of
-  pub is_unit : IsUnit of env u
-  pub annotated : IsTheAnnotation (says_of u) (item_rule rule u) marks
+use Rattle.tree_facts.specs.Accepted.{IsAccepted, AreFactTextsBy}
 
 -- Where these functions never return, this one doesn't either: an accepted package of the tree declares it, and it is listed, or has a body of which
 -- neither a `return` nor the end is reached, where calls of `panic` and of these functions stop control.
@@ -63,19 +41,6 @@ pub record Names (P : Member → Type 0) (path text : List ℕ) : Type 0 where
   pub spelled : AreFacts spelling table text
   pub each : (name : List ℕ) → Contains (map fact_name table) name ↔ P (member path name 0)
 
--- ---- facts of all packages
-
--- the text is that of the facts of an accepted package, beside its path
-pub record IsFactText (tree : List PackageTexts) (x : Named) : Type 0 where
-  pub p : ℕ
-  pub pack : PackageTexts
-  pub face : Face
-  pub at : slice_get tree p ≡ Some pack
-  pub accepted : Checked tree p (Accepts face)
-  pub path : x.0 ≡ pack.path
-  pub has : HasFacts tree 4 p x.1
-
 -- Of each accepted package of the tree, and of no other, the facts of `ctrlflow`.
-pub record AreFactTexts (tree : List PackageTexts) (all : List Named) : Type 0 where
-  pub each : (k : ℕ) (x : Named) → slice_get all k ≡ Some x → IsFactText tree x
-  pub every : (p : ℕ) (pack : PackageTexts) (face : Face) → slice_get tree p ≡ Some pack → Checked tree p (Accepts face) → (k : ℕ) × (x : Named) × (slice_get all k ≡ Some x) × (x.0 ≡ pack.path)
+abbrev pub AreFactTexts : List PackageTexts → List Named → Type 0
+AreFactTexts tree all = AreFactTextsBy 4 tree all

@@ -3,4 +3,4 @@
 
 mod laws;
 
-pub use laws::facts_are_those_of_the_tree;
+pub use laws::{facts_are_those_of_the_tree, wrappers_are_those_of_the_tree};

@@ -133,7 +133,7 @@ module _ (u : Unit) (marks : Item → Meaning) where
       by_own true = by_at (declared_at u m.name)
       by_own false = λ x e. absurd (cc)
 
-    admits_moved : (N : Member → Bool) (m : Member) → Admits (listed_in u) (bodies_in u a) N m → Admits (listed_in u) (bodies_in u b) N m
+    pub admits_moved : (N : Member → Bool) (m : Member) → Admits (listed_in u) (bodies_in u a) N m → Admits (listed_in u) (bodies_in u b) N m
     admits_moved N m (inl listed) = inl listed
     admits_moved N m (inr (x, there, never)) = let (y, other, alike_xy) = other_body N m x there in inr (y, other, alike_xy.there never)
 

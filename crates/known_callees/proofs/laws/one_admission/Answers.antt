@@ -1,4 +1,4 @@
-use Rattle.known_callees.proofs.AroundLemmas.{admits_moved}
+use Rattle.vet_never.proofs.OneLemmas.{admits_moved}
 use Rattle.known_callees.proofs.laws.one_admission.Goals as goal
 
 pub returns : goal.returns

@@ -1,6 +1,5 @@
-use Rattle.known_callees.proofs.ToldLemmas.{AdmitLaws}
-use Rattle.tree_facts.proofs.TreeLemmas.{names_each, names_set}
-use Rattle.tree_facts.proofs.WholeLemmas.{whole, whole_least}
+use Rattle.known_callees.proofs.NeverLemmas.{AdmitLaws}
+use Rattle.tree_facts.proofs.NeverTree.{names_each, names_set, some_set}
 use Rattle.tree_facts.proofs.laws.facts_are_those_of_the_tree.Goals as goal
 
 pub returns-clause-each : goal.returns-clause-each
@@ -16,4 +15,4 @@ returns-clause-set c tree N p pack face text formed are at good has =
 pub returns-clause-exists : goal.returns-clause-exists
 returns-clause-exists c tree all formed are =
     let laws : AdmitLaws = record { grows = c.admission_is_monotone.ensures; local = c.admission_is_local.ensures } in
-    (whole laws c.one_admission.ensures tree formed all are, whole_least laws c.one_admission.ensures tree formed all are)
+    some_set laws c.one_admission.ensures tree formed all are
