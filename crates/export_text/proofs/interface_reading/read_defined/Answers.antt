@@ -3,7 +3,7 @@ use Rattle.type_model.specs.declared.term.Method.{Method}
 use Rattle.type_model.specs.GoTypes.{type_at, MethodsBelow}
 use Rattle.type_model.specs.Parts.{method_of}
 use Rattle.type_model.specs.Tables.{types_in, count}
-use Rattle.type_texts.proofs.GrowLaws.{grown_then}
+use Rattle.type_texts.proofs.GrowLaws.{grown_itself, grown_then}
 use Rattle.export_text.proofs.FaceReading.{defined_read}
 use Rattle.export_text.proofs.InterfaceLaws.{id_stays}
 use Rattle.export_text.proofs.interface_reading.read_defined.Goals as goal
@@ -24,3 +24,6 @@ returns-in_err-methods-clause-grown c = grown_then c.args.table.now c.read_type.
 
 pub returns-clause-below : goal.returns-clause-below
 returns-clause-below c = ((c.in_ok-methods.ensures.grown.extends c.in_ok-under.under.0 c.in_ok-under.ensures.below).0, subst (λ (ms : List Method). MethodsBelow (count c.read_ordered_methods.new.table) ms) (sym c.new.ensures) c.in_ok-methods.ensures.below)
+
+pub returns-in_err-name-clause-grown : goal.returns-in_err-name-clause-grown
+returns-in_err-name-clause-grown c = grown_itself c.args.table.now c.requires.table

@@ -1,6 +1,6 @@
 use Rattle.std.proofs.Common.{List, map, sym, subst}
 use Rattle.type_model.specs.Tables.{terms_in, types_in, count}
-use Rattle.type_texts.proofs.GrowLaws.{grown_then}
+use Rattle.type_texts.proofs.GrowLaws.{grown_itself, grown_then}
 use Rattle.package_faces.specs.declared.interface.Exported.{Exported}
 use Rattle.package_faces.specs.declared.interface.ExportedType.{ExportedType}
 use Rattle.package_faces.specs.Interfaces.{defined_in, object_in, AreObjectsIn, AreDefinedIn}
@@ -28,3 +28,9 @@ returns-clause-within c = record {
   objects = subst (λ (l : List Exported). AreObjectsIn c.in_ok-path.path (count c.read_ordered_defineds.new.table) (types_in c.read_ordered_defineds.new.table) l) (sym c.new.ensures) (objects_grow (terms_in c.read_ordered_objects.new.table) (terms_in c.read_ordered_defineds.new.table) c.in_ok-types.ensures.grown.extends c.in_ok-path.path c.in_ok-objects.objects.items c.in_ok-objects.ensures.own);
   defined = subst (λ (l : List ExportedType). AreDefinedIn (count c.read_ordered_defineds.new.table) l) (sym c.new-2.ensures) c.in_ok-types.ensures.below;
 }
+
+pub returns-in_err-path-clause-grown : goal.returns-in_err-path-clause-grown
+returns-in_err-path-clause-grown c = grown_itself c.args.table.now c.requires.table
+
+pub returns-in_err-name-clause-grown : goal.returns-in_err-name-clause-grown
+returns-in_err-name-clause-grown c = grown_itself c.args.table.now c.requires.table

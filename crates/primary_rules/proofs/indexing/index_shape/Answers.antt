@@ -1,0 +1,12 @@
+use Rattle.std.proofs.Common.{arith}
+use Rattle.type_answers.proofs.ComingLaws.{same_comes}
+use Rattle.primary_rules.specs.Indexing.{index_shape}
+use Rattle.primary_rules.proofs.indexing.index_shape.Goals as goal
+
+pub returns-in-Texts-clause-comes : goal.returns-in-Texts-clause-comes
+unfolding index_shape
+returns-in-Texts-clause-comes c = grind (arith, same_comes)
+
+pub returns-in-Slices-clause-comes : goal.returns-in-Slices-clause-comes
+unfolding index_shape
+returns-in-Slices-clause-comes c = grind (arith, same_comes)

@@ -1,0 +1,12 @@
+use Rattle.std.proofs.Common.{arith}
+use Rattle.type_answers.proofs.ComingLaws.{bind_comes, bind_waits}
+use Rattle.statement_rules.specs.Switching.{against}
+use Rattle.statement_rules.proofs.agreeing.against.Goals as goal
+
+pub returns-in_ok-step-in-Is-clause-comes : goal.returns-in_ok-step-in-Is-clause-comes
+unfolding against
+returns-in_ok-step-in-Is-clause-comes c = grind (arith, bind_comes)
+
+pub returns-in-Wait-clause-comes : goal.returns-in-Wait-clause-comes
+unfolding against
+returns-in-Wait-clause-comes c = grind (arith, bind_waits)
