@@ -1,5 +1,5 @@
 //! Edges by where they begin.
-ghost use Rattle.std.specs.Prelude.{◌≡◌, ◌++◌, ◌∷◌, [], ◌<◌, ◌↔◌, ℕ, List, OnOk, IfOk, length, slice_set, Contains};
+ghost use Rattle.std.specs.Prelude.{◌≡◌, ◌++◌, ◌∷◌, [], ◌<◌, ◌↔◌, ℕ, List, OnOk, IfOk, IsTrue, cond, length, slice_set, Contains};
 ghost use Rattle.flow.specs.Edges.{edge};
 ghost use Rattle.flow.specs.Search.{row_at, StepsBy};
 
@@ -8,16 +8,24 @@ use gv_base::NoMemory;
 use std::alloc::Global;
 use std::marker::Model;
 
-/// The points to which a point leads.
+/// The points to which a point leads. Most lead to one, which takes no memory but the row's own.
 #[derive(Drop)]
 pub(crate) struct Targets {
+    is_one: bool,
+    one: usize,
     items: Vec<usize>,
 }
 
 impl Model for Targets {
     ghost Value = { List ℕ };
 
-    ghost view = { λ r. r.items.items };
+    ghost view = { λ r. cond r.is_one (r.one ∷ []) r.items.items };
+}
+
+fn is_empty(items: &Vec<usize>) -> bool
+    ensures { IsTrue result ↔ (items.now.items ≡ []) }
+{
+    items.is_empty()
 }
 
 impl Targets {
@@ -25,6 +33,8 @@ impl Targets {
         ensures { result ≡ [] }
     {
         Targets {
+            is_one: false,
+            one: 0,
             items: Vec::new(alloc),
         }
     }
@@ -32,12 +42,27 @@ impl Targets {
     pub(crate) fn as_slice(&self) -> &[usize]
         ensures { result.now ≡ self.now }
     {
+        if self.is_one {
+            return std::slice::from_ref(&self.one);
+        }
         &self.items
     }
 
     pub(crate) fn add(&mut self, target: usize) -> Result<(), NoMemory>
         ensures { OnOk result (self.new ≡ self.old ++ target ∷ []) }
     {
+        if self.is_one {
+            self.items.clear();
+            self.items.push(self.one)?;
+            self.items.push(target)?;
+            self.is_one = false;
+            return Ok(());
+        }
+        if is_empty(&self.items) {
+            self.one = target;
+            self.is_one = true;
+            return Ok(());
+        }
         self.items.push(target)?;
         Ok(())
     }
@@ -67,7 +92,7 @@ fn add_target(rows: &mut Vec<Targets>, e: Edge) -> Result<(), NoMemory>
 pub(crate) fn rows_of(alloc: Global, edges: &[Edge]) -> Result<Vec<Targets>, NoMemory>
     ensures { IfOk result (λ rows. (p q : ℕ) → StepsBy rows.items p q ↔ Contains edges.now (edge p q)) }
 {
-    let mut rows = Vec::new(alloc);
+    let mut rows = Vec::with_capacity(alloc, edges.len())?;
     for e in edges {
         grow(alloc, &mut rows, e.from)?;
         add_target(&mut rows, *e)?;

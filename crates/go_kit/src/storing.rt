@@ -111,7 +111,7 @@ fn bytes_of(env: &[(Text, Bytes)]) -> usize {
     bytes
 }
 
-/// What a load goes on with, and what is put aside meanwhile. A table is taken up again where it has no more types than a thirty-second of the
+/// What a load goes on with, and what is put aside meanwhile. A table is taken up again where it has no more types than a twentieth of the
 /// bytes of the export texts: so much longer does it take to go over a type and to copy it than to read a byte.
 pub(crate) fn chosen(kept: Option<Kept>, env: &[(Text, Bytes)]) -> (Option<Kept>, Option<Kept>)
     requires { IsStore kept }
@@ -120,7 +120,7 @@ pub(crate) fn chosen(kept: Option<Kept>, env: &[(Text, Bytes)]) -> (Option<Kept>
 {
     match kept {
         Some(old) => {
-            if old.table.terms().len() <= bytes_of(env) / 32 {
+            if old.table.terms().len() <= bytes_of(env) / 20 {
                 (Some(old), None)
             } else {
                 (None, Some(old))
@@ -130,14 +130,14 @@ pub(crate) fn chosen(kept: Option<Kept>, env: &[(Text, Bytes)]) -> (Option<Kept>
     }
 }
 
-/// What is kept: what was put aside, or else what a load left.
+/// What is kept: what the last load left, or else what was put aside. What it left has no more types than the packages that it was over need.
 pub(crate) fn stored(aside: Option<Kept>, after: Option<Kept>) -> Option<Kept>
     requires aside { IsStore aside }
     requires after { IsStore after }
     ensures { IsStore result }
 {
-    match aside {
-        Some(old) => Some(old),
-        None => after,
+    match after {
+        Some(new) => Some(new),
+        None => aside,
     }
 }

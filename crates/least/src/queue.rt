@@ -19,7 +19,7 @@ fn all_items(alloc: Global, count: u32) -> Result<Vec<u32>, NoMemory>
     ensures each { IfOk result (λ all. (i : ℕ) → i < count → Contains all.items i) }
     ensures items { IfOk result (λ all. (i : ℕ) → Contains all.items i → i < count) }
 {
-    let mut items = Vec::new(alloc);
+    let mut items = Vec::with_capacity(alloc, count as usize)?;
     for i in 0..count {
         items.push(i)?;
     }

@@ -86,7 +86,7 @@ pub fn least<A: Admission>(
     let count = admission.count();
     let mut flags = flags_of(alloc, count)?;
     let mut marks = flags_of(alloc, count)?;
-    let mut queue = VecDeque::new(alloc);
+    let mut queue = VecDeque::with_capacity(alloc, count as usize)?;
     wait_all(alloc, count, first, &mut marks, &mut queue)?;
     while let Some(at) = queue.pop_front() {
         look(admission, &mut flags, &mut marks, &mut queue, at)?;

@@ -109,7 +109,7 @@ pub(crate) fn told_row(
     requires small { count ≤ 2 ^ 32 }
     ensures { IfOk result (λ row. AreCallees (unit_in p.now) (marks_in p.now) file count row.items) }
 {
-    let mut row = Vec::new(alloc);
+    let mut row = Vec::with_capacity(alloc, count)?;
     for n in 0..count {
         let told = told_of(alloc, p, file, n as u32)?;
         row.push(told)?;
@@ -127,7 +127,7 @@ pub(crate) fn call_row(
     requires { IsKnown (unit_in p.now) known.now }
     ensures { IfOk result (λ calls. AreCalls (handed_in known.now) (number 0 (unit_in p.now)) row.now calls.items) }
 {
-    let mut calls = Vec::new(alloc);
+    let mut calls = Vec::with_capacity(alloc, row.len())?;
     for told in row {
         let one = call(p, known, told)?;
         calls.push(one)?;

@@ -1,4 +1,5 @@
 pub mod AskLemmas
+pub mod BareLemmas
 pub mod EachLemmas
 pub mod PartLemmas
 pub mod FitLemmas

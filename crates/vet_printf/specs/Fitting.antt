@@ -57,6 +57,19 @@ Has ds of wanted = (m : GoMethod) × IsInSet ds of m × (is_wanted wanted m ≡ 
 
 -- ---- types by their form
 
+-- types that have neither members nor a name, by their form, and are no pointers
+abbrev pub is_bare : GoType → Bool
+is_bare (BasicType kind) = true
+is_bare (DefinedType name) = false
+is_bare (PointerTo of) = false
+is_bare (SliceOf of) = true
+is_bare (ArrayOf size of) = true
+is_bare (MapOf key of) = true
+is_bare (ChanOf direction of) = true
+is_bare (FuncOf of) = true
+is_bare (StructOf fields) = false
+is_bare (InterfaceOf methods) = false
+
 abbrev pub is_byte_kind : Kind → Bool
 is_byte_kind kind.Uint8 = true
 is_byte_kind _ = false

@@ -22,42 +22,40 @@ use handed_facts::read_handed;
 use own_functions::{Declared, functions_of, numbers_of};
 use std::alloc::Global;
 
-fn facts_known(alloc: Global, p: &Pass, known: &Known<'_, '_>) -> Result<Vec<u8>, NoMemory>
+/// What is found of a package, and the text of its facts.
+#[derive(Drop)]
+pub struct Printed {
+    pub found: Vec<Diagnostic>,
+    pub facts: Vec<u8>,
+}
+
+fn told_known(alloc: Global, p: &Pass, known: &Known<'_, '_>) -> Result<Printed, NoMemory>
     requires pass { IsPass p.now }
     requires known { IsKnown (unit_in p.now) (marks_in p.now) known.now }
     requires apart { ArePathsApart known.now.handed.now.given.now }
     requires told { AreToldBy wraps_spelling known.now.handed.now.given.now known.now.handed.now.tables.items }
-    ensures { IfOk result (λ text. IsWrapsText (unit_in p.now) (marks_in p.now) known.now.handed.now.given.now text.items) }
+    ensures found { IfOk result (λ x. ArePrintfFindings (unit_in p.now) (marks_in p.now) known.now.handed.now.given.now x.found.items) }
+    ensures facts { IfOk result (λ x. IsWrapsText (unit_in p.now) (marks_in p.now) known.now.handed.now.given.now x.facts.items) }
 {
     let printing = all_printing(alloc, p, known)?;
     let table = table_of(alloc, p, known, &printing)?;
-    let text = table.write()?;
-    Ok(text)
-}
-
-fn report_known(alloc: Global, p: &Pass, known: &Known<'_, '_>) -> Result<Vec<Diagnostic>, NoMemory>
-    requires pass { IsPass p.now }
-    requires known { IsKnown (unit_in p.now) (marks_in p.now) known.now }
-    requires apart { ArePathsApart known.now.handed.now.given.now }
-    requires told { AreToldBy wraps_spelling known.now.handed.now.given.now known.now.handed.now.tables.items }
-    ensures { IfOk result (λ found. ArePrintfFindings (unit_in p.now) (marks_in p.now) known.now.handed.now.given.now found.items) }
-{
-    let printing = all_printing(alloc, p, known)?;
+    let facts = table.write()?;
     let kinds = kinds_rows(alloc, p, known, &printing)?;
     let found = Printf.run(alloc, p, &kinds)?;
-    Ok(found)
+    Ok(Printed { found, facts })
 }
 
-fn facts_over<'a>(
+fn told_over<'a>(
     alloc: Global,
     p: &Pass,
     list: &'a [Declared],
     given: &'a [(Text, Bytes)],
-) -> Result<Vec<u8>, NoMemory>
+) -> Result<Printed, NoMemory>
     requires pass { IsPass p.now }
     requires list { map named_in list.now ≡ functions (unit_in p.now) }
     requires apart { ArePathsApart given.now }
-    ensures { IfOk result (λ text. IsWrapsText (unit_in p.now) (marks_in p.now) given.now text.items) }
+    ensures found { IfOk result (λ x. ArePrintfFindings (unit_in p.now) (marks_in p.now) given.now x.found.items) }
+    ensures facts { IfOk result (λ x. IsWrapsText (unit_in p.now) (marks_in p.now) given.now x.facts.items) }
 {
     // So many functions have no room in any memory.
     if list.len() >= 4294967296 {
@@ -72,69 +70,26 @@ fn facts_over<'a>(
         numbers: &numbers,
         cells: &cells,
     };
-    let text = facts_known(alloc, p, &known)?;
-    Ok(text)
-}
-
-fn report_over<'a>(
-    alloc: Global,
-    p: &Pass,
-    list: &'a [Declared],
-    given: &'a [(Text, Bytes)],
-) -> Result<Vec<Diagnostic>, NoMemory>
-    requires pass { IsPass p.now }
-    requires list { map named_in list.now ≡ functions (unit_in p.now) }
-    requires apart { ArePathsApart given.now }
-    ensures { IfOk result (λ found. ArePrintfFindings (unit_in p.now) (marks_in p.now) given.now found.items) }
-{
-    // So many functions have no room in any memory.
-    if list.len() >= 4294967296 {
-        return Err(NoMemory);
-    }
-    let numbers = numbers_of(alloc, list)?;
-    let handed = read_handed::<Wraps>(alloc, given)?;
-    let cells = cell_rows(alloc, p)?;
-    let known = Known {
-        handed: &handed,
-        list,
-        numbers: &numbers,
-        cells: &cells,
-    };
-    let found = report_known(alloc, p, &known)?;
-    Ok(found)
+    let told = told_known(alloc, p, &known)?;
+    Ok(told)
 }
 
 impl Printf {
-    /// The text of the facts of a package: its functions that print by handing their arguments on, each with its kinds. `given` has the path and the
-    /// fact text of each package of its environment.
-    pub fn facts(
+    /// All that is found of a package, and the text of its facts: its functions that print by handing their arguments on, each with its kinds. `given`
+    /// has the path and the fact text of each package of its environment.
+    pub fn tell(
         &self,
         alloc: Global,
         pass: &Pass,
         given: &[(Text, Bytes)],
-    ) -> Result<Vec<u8>, NoMemory>
+    ) -> Result<Printed, NoMemory>
         requires pass { IsPass pass.now }
         requires apart { ArePathsApart given.now }
-        ensures { IfOk result (λ text. IsWrapsText (unit_in pass.now) (marks_in pass.now) given.now text.items) }
+        ensures found { IfOk result (λ x. ArePrintfFindings (unit_in pass.now) (marks_in pass.now) given.now x.found.items) }
+        ensures facts { IfOk result (λ x. IsWrapsText (unit_in pass.now) (marks_in pass.now) given.now x.facts.items) }
     {
         let list = functions_of(alloc, pass)?;
-        let text = facts_over(alloc, pass, &list, given)?;
-        Ok(text)
-    }
-
-    /// All that is found of a package.
-    pub fn report(
-        &self,
-        alloc: Global,
-        pass: &Pass,
-        given: &[(Text, Bytes)],
-    ) -> Result<Vec<Diagnostic>, NoMemory>
-        requires pass { IsPass pass.now }
-        requires apart { ArePathsApart given.now }
-        ensures { IfOk result (λ found. ArePrintfFindings (unit_in pass.now) (marks_in pass.now) given.now found.items) }
-    {
-        let list = functions_of(alloc, pass)?;
-        let found = report_over(alloc, pass, &list, given)?;
-        Ok(found)
+        let told = told_over(alloc, pass, &list, given)?;
+        Ok(told)
     }
 }

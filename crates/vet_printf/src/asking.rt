@@ -1,11 +1,12 @@
 //! Which methods that print types have.
-ghost use Rattle.std.specs.Prelude.{◌≡◌, ◌<◌, ◌^◌, ◌&&◌, ◌||◌, codes, map, IfOk};
+ghost use Rattle.std.specs.Prelude.{◌≡◌, ◌<◌, ◌^◌, ◌&&◌, ◌||◌, List, codes, map, IfOk};
 ghost use Rattle.std.specs.List.{list_any};
 ghost use Rattle.std.specs.Str.{bytes_eq};
-ghost use Rattle.type_model.specs.GoTypes.{type_at, types_at, signature_of, AreBelow, SignatureBelow, MethodsBelow};
+ghost use Rattle.type_model.specs.GoTypes.{GoType, type_at, type_of, types_at, signature_of, AreBelow, SignatureBelow, MethodsBelow};
 ghost use Rattle.type_model.specs.Parts.{method_of};
 ghost use Rattle.type_model.specs.Tables.{IsTable, types_in, count};
-ghost use Rattle.vet_printf.specs.Fitting.{is_text_kind, is_text, are_none, are_one_text, gives_text, is_wanted};
+ghost use Rattle.method_sets.specs.Paths.{base};
+ghost use Rattle.vet_printf.specs.Fitting.{is_text_kind, is_text, are_none, are_one_text, gives_text, is_wanted, is_bare};
 ghost use Rattle.vet_printf.specs.InTable.{AreEach, IsAsked};
 
 use gv_base::{Kind, NoMemory};
@@ -124,7 +125,7 @@ fn any_wanted(t: &TypeTable, wanted: Wanted, methods: &[Method]) -> bool
     false
 }
 
-fn asked_of(alloc: Global, t: &TypeTable, id: TypeId) -> Result<Asked, NoMemory>
+fn asked_by_set(alloc: Global, t: &TypeTable, id: TypeId) -> Result<Asked, NoMemory>
     requires table { IsTable t.now }
     requires within { id.0 < count t.now }
     ensures { IfOk result (IsAsked t.now id.0) }
@@ -135,6 +136,68 @@ fn asked_of(alloc: Global, t: &TypeTable, id: TypeId) -> Result<Asked, NoMemory>
         text: any_wanted(t, Wanted::Text, &methods),
         error: any_wanted(t, Wanted::Error, &methods),
     })
+}
+
+fn is_bare(term: &Term) -> bool
+    ensures { (types : List GoType) → result ≡ is_bare (type_of types term.now) }
+{
+    match term {
+        Term::Basic(_) => true,
+        Term::Slice(_) => true,
+        Term::Array(_, _) => true,
+        Term::Map(_, _) => true,
+        Term::Chan(_, _) => true,
+        Term::Func(_) => true,
+        Term::Defined(_) => false,
+        Term::Pointer(_) => false,
+        Term::Struct(_) => false,
+        Term::Interface(_) => false,
+    }
+}
+
+fn is_bare_at(t: &TypeTable, u: TypeId) -> bool
+    requires table { IsTable t.now }
+    requires within { u.0 < count t.now }
+    ensures { result ≡ is_bare (type_at (types_in t.now) u) }
+{
+    is_bare(t.term(u))
+}
+
+/// Whether a type, or what it points to, has neither members nor a name.
+fn is_bare_under(t: &TypeTable, id: TypeId) -> bool
+    requires table { IsTable t.now }
+    requires within { id.0 < count t.now }
+    ensures { result ≡ is_bare (base (type_at (types_in t.now) id)) }
+{
+    match t.term(id) {
+        Term::Basic(_) => true,
+        Term::Slice(_) => true,
+        Term::Array(_, _) => true,
+        Term::Map(_, _) => true,
+        Term::Chan(_, _) => true,
+        Term::Func(_) => true,
+        Term::Defined(_) => false,
+        Term::Pointer(of) => is_bare_at(t, *of),
+        Term::Struct(_) => false,
+        Term::Interface(_) => false,
+    }
+}
+
+/// Most types of a table have no methods, as their form tells.
+fn asked_of(alloc: Global, t: &TypeTable, id: TypeId) -> Result<Asked, NoMemory>
+    requires table { IsTable t.now }
+    requires within { id.0 < count t.now }
+    ensures { IfOk result (IsAsked t.now id.0) }
+{
+    if is_bare_under(t, id) {
+        return Ok(Asked {
+            format: false,
+            text: false,
+            error: false,
+        });
+    }
+    let asked = asked_by_set(alloc, t, id)?;
+    Ok(asked)
 }
 
 pub(crate) fn count_types(t: &TypeTable) -> usize
@@ -149,7 +212,7 @@ pub(crate) fn all_asked(alloc: Global, t: &TypeTable) -> Result<Vec<Asked>, NoMe
     requires few { count t.now < 2 ^ 32 }
     ensures { IfOk result (λ list. AreEach (IsAsked t.now) (count t.now) list.items) }
 {
-    let mut list = Vec::new(alloc);
+    let mut list = Vec::with_capacity(alloc, count_types(t))?;
     for n in 0..count_types(t) {
         let one = asked_of(alloc, t, TypeId(n as u32))?;
         list.push(one)?;

@@ -168,7 +168,7 @@ pub(crate) fn all_fits(
     requires asked { AreEach (IsAsked t.now) (count t.now) all.now }
     ensures { IfOk result (λ list. AreEach (IsFitAt t.now class) (count t.now) list.items) }
 {
-    let mut list = Vec::new(alloc);
+    let mut list = Vec::with_capacity(alloc, count_types(t))?;
     for n in 0..count_types(t) {
         let one = fit_nth(t, class, all, n as u32);
         list.push(one)?;

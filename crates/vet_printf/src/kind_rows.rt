@@ -74,7 +74,7 @@ fn kinds_to(
     requires small { end ≤ 2 ^ 32 }
     ensures { IfOk result (λ row. AreKindsCells known.now (unit_in p.now) (marks_in p.now) x.now file end row.items) }
 {
-    let mut row = Vec::new(alloc);
+    let mut row = Vec::with_capacity(alloc, end)?;
     for n in 0..end {
         let one = kinds_at(alloc, p, known, x, file, n as u32)?;
         row.push(one)?;

@@ -40,6 +40,7 @@ mod ways;
 mod words;
 mod wrapping;
 
+pub use analyzer::Printed;
 pub use asking::{Asked, Wanted};
 pub use calls::Printf;
 pub use fault::{Argument, Classes, Fault, directive_fault, first_fault};

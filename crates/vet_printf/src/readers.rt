@@ -46,7 +46,7 @@ pub(crate) fn no_rows(alloc: Global, count: usize) -> Result<Vec<Readers>, NoMem
     ensures size { IfOk result (λ rows. length rows.items ≡ count) }
     ensures empty { IfOk result (λ rows. (j : ℕ) → row_of rows.items j ≡ []) }
 {
-    let mut rows = Vec::new(alloc);
+    let mut rows = Vec::with_capacity(alloc, count)?;
     for i in 0..count {
         rows.push(Readers::new(alloc))?;
     }

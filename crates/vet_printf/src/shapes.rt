@@ -130,7 +130,7 @@ pub(crate) fn all_shapes(alloc: Global, t: &TypeTable) -> Result<Vec<Shape>, NoM
     requires few { count t.now < 2 ^ 32 }
     ensures { IfOk result (λ list. AreEach (IsShape t.now) (count t.now) list.items) }
 {
-    let mut list = Vec::new(alloc);
+    let mut list = Vec::with_capacity(alloc, count_types(t))?;
     for n in 0..count_types(t) {
         let one = shape_of(alloc, t, TypeId(n as u32))?;
         list.push(one)?;

@@ -90,7 +90,7 @@ fn cells_to(alloc: Global, p: &Pass, file: u32, end: usize) -> Result<Vec<Option
     requires small { end ≤ 2 ^ 32 }
     ensures { IfOk result (λ row. AreCells (unit_in p.now) (marks_in p.now) file end row.items) }
 {
-    let mut row = Vec::new(alloc);
+    let mut row = Vec::with_capacity(alloc, end)?;
     for n in 0..end {
         let one = node_named(alloc, p, file, n as u32)?;
         row.push(one)?;

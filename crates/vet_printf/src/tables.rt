@@ -108,7 +108,7 @@ fn suited_row(
     requires fails { (m : ℕ) → m < count t.now → TellsFailing t.now class m (flag_at fails.now m) }
     ensures { IfOk result (λ list. AreEach (IsSuited t.now class) (count t.now) list.items) }
 {
-    let mut list = Vec::new(alloc);
+    let mut list = Vec::with_capacity(alloc, count_types(t))?;
     for n in 0..count_types(t) {
         let one = suited_nth(t, class, fits, fails, n as u32);
         list.push(one)?;

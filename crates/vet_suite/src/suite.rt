@@ -90,103 +90,6 @@ fn dead_code(
     Ok(found)
 }
 
-fn print_faults(
-    alloc: Global,
-    pass: &Pass,
-    files: &[(Text, Bytes)],
-    named: &[(Text, Text)],
-    given: &[(Text, Bytes)],
-) -> Result<Vec<Diagnostic>, NoMemory>
-    requires pass { IsPass pass.now }
-    requires given { AreGiven (unit_in pass.now) files.now named.now given.now }
-    ensures { IfOk result (λ found. ArePrintfFindings (unit_in pass.now) (marks_in pass.now) given.now found.items) }
-{
-    let _ = files;
-    let _ = named;
-    let found = Printf.report(alloc, pass, given)?;
-    Ok(found)
-}
-
-fn run_named(
-    alloc: Global,
-    name: AnalyzerName,
-    pass: &Pass,
-    files: &[(Text, Bytes)],
-    named: &[(Text, Text)],
-    given: &[(Text, Bytes)],
-) -> Result<Vec<Diagnostic>, NoMemory>
-    requires pass { IsPass pass.now }
-    requires given { AreGiven (unit_in pass.now) files.now named.now given.now }
-    ensures { IfOk result (λ found. FoundOf name (unit_in pass.now) (marks_in pass.now) (map path_of files.now) given.now found.items) }
-{
-    match name {
-        AnalyzerName::Assign => {
-            let found = Assign.run(alloc, pass)?;
-            Ok(found)
-        }
-        AnalyzerName::Bools => {
-            let found = Bools.run(alloc, pass)?;
-            Ok(found)
-        }
-        AnalyzerName::CopyLocks => {
-            let found = CopyLocks.run(alloc, pass)?;
-            Ok(found)
-        }
-        AnalyzerName::CtrlFlow => {
-            let found = nothing(alloc)?;
-            Ok(found)
-        }
-        AnalyzerName::NilFunc => {
-            let found = NilFunc.run(alloc, pass)?;
-            Ok(found)
-        }
-        AnalyzerName::Printf => {
-            let found = print_faults(alloc, pass, files, named, given)?;
-            Ok(found)
-        }
-        AnalyzerName::StringIntConv => {
-            let found = rune_texts(alloc, pass, files, named, given)?;
-            Ok(found)
-        }
-        AnalyzerName::StructTag => {
-            let found = tag_faults(alloc, pass, files, named, given)?;
-            Ok(found)
-        }
-        AnalyzerName::Unreachable => {
-            let found = dead_code(alloc, pass, files, named, given)?;
-            Ok(found)
-        }
-        AnalyzerName::UnusedResult => {
-            let found = UnusedResult.run(alloc, pass)?;
-            Ok(found)
-        }
-    }
-}
-
-fn run_if(
-    alloc: Global,
-    name: Option<AnalyzerName>,
-    pass: &Pass,
-    files: &[(Text, Bytes)],
-    named: &[(Text, Text)],
-    given: &[(Text, Bytes)],
-) -> Result<Vec<Diagnostic>, NoMemory>
-    requires pass { IsPass pass.now }
-    requires given { AreGiven (unit_in pass.now) files.now named.now given.now }
-    ensures { IfOk result (λ found. FoundIf name (unit_in pass.now) (marks_in pass.now) (map path_of files.now) given.now found.items) }
-{
-    match name {
-        Some(name) => {
-            let found = run_named(alloc, name, pass, files, named, given)?;
-            Ok(found)
-        }
-        None => {
-            let found = nothing(alloc)?;
-            Ok(found)
-        }
-    }
-}
-
 // ---- facts
 
 #[tactic(auto, using(crate::proofs::FactLemmas::no_facts_text))]
@@ -214,103 +117,6 @@ fn never_text(
     Ok(text)
 }
 
-fn wraps_text(
-    alloc: Global,
-    pass: &Pass,
-    files: &[(Text, Bytes)],
-    named: &[(Text, Text)],
-    given: &[(Text, Bytes)],
-) -> Result<Vec<u8>, NoMemory>
-    requires pass { IsPass pass.now }
-    requires given { AreGiven (unit_in pass.now) files.now named.now given.now }
-    ensures { IfOk result (λ text. IsWrapsText (unit_in pass.now) (marks_in pass.now) given.now text.items) }
-{
-    let _ = files;
-    let _ = named;
-    let text = Printf.facts(alloc, pass, given)?;
-    Ok(text)
-}
-
-fn facts_named(
-    alloc: Global,
-    name: AnalyzerName,
-    pass: &Pass,
-    files: &[(Text, Bytes)],
-    named: &[(Text, Text)],
-    given: &[(Text, Bytes)],
-) -> Result<Vec<u8>, NoMemory>
-    requires pass { IsPass pass.now }
-    requires given { AreGiven (unit_in pass.now) files.now named.now given.now }
-    ensures { IfOk result (λ text. FactsOf name (unit_in pass.now) (marks_in pass.now) given.now text.items) }
-{
-    match name {
-        AnalyzerName::Assign => {
-            let text = no_facts(alloc)?;
-            Ok(text)
-        }
-        AnalyzerName::Bools => {
-            let text = no_facts(alloc)?;
-            Ok(text)
-        }
-        AnalyzerName::CopyLocks => {
-            let text = no_facts(alloc)?;
-            Ok(text)
-        }
-        AnalyzerName::CtrlFlow => {
-            let text = never_text(alloc, pass, files, named, given)?;
-            Ok(text)
-        }
-        AnalyzerName::NilFunc => {
-            let text = no_facts(alloc)?;
-            Ok(text)
-        }
-        AnalyzerName::Printf => {
-            let text = wraps_text(alloc, pass, files, named, given)?;
-            Ok(text)
-        }
-        AnalyzerName::StringIntConv => {
-            let text = no_facts(alloc)?;
-            Ok(text)
-        }
-        AnalyzerName::StructTag => {
-            let text = no_facts(alloc)?;
-            Ok(text)
-        }
-        AnalyzerName::Unreachable => {
-            let text = no_facts(alloc)?;
-            Ok(text)
-        }
-        AnalyzerName::UnusedResult => {
-            let text = no_facts(alloc)?;
-            Ok(text)
-        }
-    }
-}
-
-fn facts_if(
-    alloc: Global,
-    name: Option<AnalyzerName>,
-    pass: &Pass,
-    files: &[(Text, Bytes)],
-    named: &[(Text, Text)],
-    given: &[(Text, Bytes)],
-) -> Result<Vec<u8>, NoMemory>
-    requires pass { IsPass pass.now }
-    requires given { AreGiven (unit_in pass.now) files.now named.now given.now }
-    ensures { IfOk result (λ text. FactsIf name (unit_in pass.now) (marks_in pass.now) given.now text.items) }
-{
-    match name {
-        Some(name) => {
-            let text = facts_named(alloc, name, pass, files, named, given)?;
-            Ok(text)
-        }
-        None => {
-            let text = no_facts(alloc)?;
-            Ok(text)
-        }
-    }
-}
-
 // ---- both
 
 /// What an analyzer reports, and its facts as their text.
@@ -318,6 +124,150 @@ fn facts_if(
 pub struct Found {
     pub found: Vec<Diagnostic>,
     pub facts: Bytes,
+}
+
+/// What an analyzer without facts reports.
+fn alone(alloc: Global, found: Vec<Diagnostic>) -> Result<Found, NoMemory>
+    ensures found { IfOk result (λ f. f.found.items ≡ found.items) }
+    ensures facts { IfOk result (λ f. f.facts ≡ no_facts) }
+{
+    let facts = no_facts(alloc)?;
+    Ok(Found {
+        found,
+        facts: Bytes::new(facts),
+    })
+}
+
+fn never(
+    alloc: Global,
+    pass: &Pass,
+    files: &[(Text, Bytes)],
+    named: &[(Text, Text)],
+    given: &[(Text, Bytes)],
+) -> Result<Found, NoMemory>
+    requires pass { IsPass pass.now }
+    requires given { AreGiven (unit_in pass.now) files.now named.now given.now }
+    ensures found { IfOk result (λ f. f.found.items ≡ []) }
+    ensures facts { IfOk result (λ f. IsNeverText (unit_in pass.now) (marks_in pass.now) given.now f.facts) }
+{
+    let found = nothing(alloc)?;
+    let facts = never_text(alloc, pass, files, named, given)?;
+    Ok(Found {
+        found,
+        facts: Bytes::new(facts),
+    })
+}
+
+fn printed(
+    alloc: Global,
+    pass: &Pass,
+    files: &[(Text, Bytes)],
+    named: &[(Text, Text)],
+    given: &[(Text, Bytes)],
+) -> Result<Found, NoMemory>
+    requires pass { IsPass pass.now }
+    requires given { AreGiven (unit_in pass.now) files.now named.now given.now }
+    ensures found { IfOk result (λ f. ArePrintfFindings (unit_in pass.now) (marks_in pass.now) given.now f.found.items) }
+    ensures facts { IfOk result (λ f. IsWrapsText (unit_in pass.now) (marks_in pass.now) given.now f.facts) }
+{
+    let _ = files;
+    let _ = named;
+    let told = Printf.tell(alloc, pass, given)?;
+    Ok(Found {
+        found: told.found,
+        facts: Bytes::new(told.facts),
+    })
+}
+
+fn run_named(
+    alloc: Global,
+    name: AnalyzerName,
+    pass: &Pass,
+    files: &[(Text, Bytes)],
+    named: &[(Text, Text)],
+    given: &[(Text, Bytes)],
+) -> Result<Found, NoMemory>
+    requires pass { IsPass pass.now }
+    requires given { AreGiven (unit_in pass.now) files.now named.now given.now }
+    ensures found { IfOk result (λ f. FoundOf name (unit_in pass.now) (marks_in pass.now) (map path_of files.now) given.now f.found.items) }
+    ensures facts { IfOk result (λ f. FactsOf name (unit_in pass.now) (marks_in pass.now) given.now f.facts) }
+{
+    match name {
+        AnalyzerName::Assign => {
+            let found = Assign.run(alloc, pass)?;
+            let both = alone(alloc, found)?;
+            Ok(both)
+        }
+        AnalyzerName::Bools => {
+            let found = Bools.run(alloc, pass)?;
+            let both = alone(alloc, found)?;
+            Ok(both)
+        }
+        AnalyzerName::CopyLocks => {
+            let found = CopyLocks.run(alloc, pass)?;
+            let both = alone(alloc, found)?;
+            Ok(both)
+        }
+        AnalyzerName::CtrlFlow => {
+            let both = never(alloc, pass, files, named, given)?;
+            Ok(both)
+        }
+        AnalyzerName::NilFunc => {
+            let found = NilFunc.run(alloc, pass)?;
+            let both = alone(alloc, found)?;
+            Ok(both)
+        }
+        AnalyzerName::Printf => {
+            let both = printed(alloc, pass, files, named, given)?;
+            Ok(both)
+        }
+        AnalyzerName::StringIntConv => {
+            let found = rune_texts(alloc, pass, files, named, given)?;
+            let both = alone(alloc, found)?;
+            Ok(both)
+        }
+        AnalyzerName::StructTag => {
+            let found = tag_faults(alloc, pass, files, named, given)?;
+            let both = alone(alloc, found)?;
+            Ok(both)
+        }
+        AnalyzerName::Unreachable => {
+            let found = dead_code(alloc, pass, files, named, given)?;
+            let both = alone(alloc, found)?;
+            Ok(both)
+        }
+        AnalyzerName::UnusedResult => {
+            let found = UnusedResult.run(alloc, pass)?;
+            let both = alone(alloc, found)?;
+            Ok(both)
+        }
+    }
+}
+
+fn run_if(
+    alloc: Global,
+    name: Option<AnalyzerName>,
+    pass: &Pass,
+    files: &[(Text, Bytes)],
+    named: &[(Text, Text)],
+    given: &[(Text, Bytes)],
+) -> Result<Found, NoMemory>
+    requires pass { IsPass pass.now }
+    requires given { AreGiven (unit_in pass.now) files.now named.now given.now }
+    ensures found { IfOk result (λ f. FoundIf name (unit_in pass.now) (marks_in pass.now) (map path_of files.now) given.now f.found.items) }
+    ensures facts { IfOk result (λ f. FactsIf name (unit_in pass.now) (marks_in pass.now) given.now f.facts) }
+{
+    match name {
+        Some(name) => {
+            let both = run_named(alloc, name, pass, files, named, given)?;
+            Ok(both)
+        }
+        None => {
+            let found = nothing(alloc)?;
+            let both = alone(alloc, found)?;
+            Ok(both)
+        }
+    }
 }
 
 /// What the analyzer of a number reports of a package, and its facts. `files` are the paths and the bytes of its files, `named` has the path and the
@@ -338,10 +288,6 @@ pub fn run(
     ensures facts { IfOk result (λ f. FactsBy number (unit_in pass.now) (marks_in pass.now) given.now f.facts) }
 {
     let name = AnalyzerName::of_number(number);
-    let found = run_if(alloc, name, pass, files, named, given)?;
-    let facts = facts_if(alloc, name, pass, files, named, given)?;
-    Ok(Found {
-        found,
-        facts: Bytes::new(facts),
-    })
+    let both = run_if(alloc, name, pass, files, named, given)?;
+    Ok(both)
 }

@@ -4,7 +4,7 @@ use Rattle.vet_never.proofs.CalleeLemmas.{no_callees, callee_more, all_callees}
 use Rattle.vet_never.proofs.calls.told_row.Goals as goal
 
 pub loop-n-init : goal.loop-n-init
-loop-n-init c = no_callees (unit_in c.args.p.now) (marks_in c.args.p.now) c.args.file c.new-row.result.items c.new-row.ensures.items
+loop-n-init c = no_callees (unit_in c.args.p.now) (marks_in c.args.p.now) c.args.file c.in_ok-row.row.items c.in_ok-row.ensures.items
 
 pub loop-n-preserved : goal.loop-n-preserved
 loop-n-preserved c =

@@ -5,7 +5,7 @@ use Rattle.vet_printf.proofs.EachLemmas.{none_yet, one_more, all_there}
 use Rattle.vet_printf.proofs.kind_rows.kinds_to.Goals as goal
 
 pub loop-n-init : goal.loop-n-init
-loop-n-init c = none_yet (IsKindsCell c.args.known.now (unit_in c.args.p.now) (marks_in c.args.p.now) c.args.x.now c.args.file) c.new-row.result.items c.new-row.ensures.items
+loop-n-init c = none_yet (IsKindsCell c.args.known.now (unit_in c.args.p.now) (marks_in c.args.p.now) c.args.x.now c.args.file) c.in_ok-row.row.items c.in_ok-row.ensures.items
 
 pub loop-n-preserved : goal.loop-n-preserved
 loop-n-preserved c =

@@ -1,9 +1,0 @@
-use Rattle.std.proofs.Common.{subst}
-use Rattle.findings.specs.Passes.{unit_in, marks_in}
-use Rattle.vet_printf.proofs.PrintingLemmas.{findings_are}
-use Rattle.vet_printf.proofs.analyzer.report_known.Goals as goal
-
-pub returns : goal.returns
-returns c =
-    let p = c.args.p.now in
-    findings_are c.args.known.now (unit_in p) (marks_in p) c.requires.known c.requires.apart c.requires.told c.in_ok-printing.printing c.in_ok-kinds.kinds.items c.in_ok-found.found.items c.in_ok-printing.ensures c.in_ok-kinds.ensures c.in_ok-found.ensures
