@@ -1,8 +1,9 @@
 -- Rows of the numbers of texts that are kept already.
 use Rattle.std.proofs.Common.{◌≡◌, ℕ, ◌<◌, ◌+◌, ◌-◌, Bool, true, false, Option, Some, None, List, [], ◌∷◌, ◌++◌, length, slice_get, get_or, map, take, refl, sym, ap, ◌∙◌, subst, arith, zero, suc}
-use Rattle.std.specs.Prelude.{◌==◌, All}
+use Rattle.std.specs.Prelude.{◌==◌, All, nat_lt}
 use Rattle.std.specs.Str.{bytes_eq}
 use Rattle.std.specs.List.{flat_map}
+use Rattle.std.proofs.lemmas.Bool.{and_parts, ltb-true}
 use Rattle.std.proofs.lemmas.Bool.Decides.{Decides-eqb}
 use Rattle.std.proofs.lemmas.Option.{same_Some, slice_get_read}
 use Rattle.std.proofs.lemmas.Slice.Eq.{bytes_eq-Decides}
@@ -13,11 +14,17 @@ use Rattle.fact_cache.specs.declared.numbered.Numbered.{Numbered}
 use Rattle.fact_cache.specs.Inputs.{Text}
 use Rattle.fact_cache.specs.Indexes.{IsWalk}
 use Rattle.fact_cache.specs.Spread.{bucket_of}
-use Rattle.fact_cache.specs.Kept.{uses_at, text_at, one_at, AreKept, IsHeld}
+use Rattle.fact_cache.specs.Kept.{uses_at, text_at, is_kept_at, one_at, AreKept, IsHeld}
 use Rattle.fact_cache.specs.Numbered.{numbers_of, times, AreTaken, IsCache}
 use Rattle.fact_cache.proofs.ListFacts.{map-push}
 use Rattle.fact_cache.proofs.NumberedLemmas.{take-push, taken-more, times-append, times-push, one-here}
 use Rattle.fact_cache.proofs.CacheLemmas.{IsPassed, row-there}
+
+-- a text that is kept at a place
+pub kept-there : (places : List Place) (n : ℕ) (text : Text) → is_kept_at places n text ≡ true → (0 < uses_at places n) × (text_at places n ≡ text)
+kept-there places n text kept =
+    let parts = and_parts (nat_lt 0 (uses_at places n)) (bytes_eq (text_at places n) text) kept in
+    (ltb-true 0 (uses_at places n) parts.0, (bytes_eq-Decides (text_at places n) text).0 parts.1)
 
 -- two used numbers are the same where their texts are
 pub same-number : (index : List ℕ) (view old : List Place) (m n total : ℕ) → old ≡ view → AreKept index old total → 0 < uses_at view m → 0 < uses_at view n

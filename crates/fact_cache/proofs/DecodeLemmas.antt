@@ -79,3 +79,8 @@ pub answer-only : (o : Option (List Entry)) (es : List Entry) (bytes : List ℕ)
     → IfSome o (λ cache. AreCoded ts rs × (cache ≡ map (decoded ts) rs)) → IfNone o (AreCoded ts rs → ⊥) → o ≡ Some es
 answer-only None es bytes ts rs spelled small read some none = absurd (decode-none es bytes ts rs spelled small read none)
 answer-only (Some cache) es bytes ts rs spelled small read some none = answer-some es cache (decode-only es cache bytes ts rs spelled small read some.1)
+
+-- A text is of one cache.
+pub one-cache : (c d : List Entry) (bytes : List ℕ) → length bytes < 2 ^ 64 → CacheSpelled c bytes → CacheSpelled d bytes → c ≡ d
+one-cache c d bytes small sc sd =
+    sym (those c sc.0.0).entries ∙ (read-those d bytes (firsts (mentions c)) (map (coded (firsts (mentions c))) c) sd small (spelled-reads c bytes sc.0.1 sc.1 small)).entries

@@ -1,8 +1,9 @@
 -- Numbers of texts that are at hand.
-use Rattle.std.proofs.Common.{◌≡◌, ℕ, List, [], ◌∷◌, ◌++◌, map, refl, sym, ap, ◌∙◌}
+use Rattle.std.proofs.Common.{◌≡◌, ◌==◌, ℕ, true, List, [], ◌∷◌, ◌++◌, map, refl, sym, ap, ◌∙◌}
+use Rattle.std.proofs.lemmas.Bool.{and_parts, eqb-true}
 use Rattle.std.proofs.lemmas.List.{map-append}
 use Rattle.fact_cache.specs.declared.spread.Key.{Key}
-use Rattle.fact_cache.specs.Spread.{mixed, mixed_numbers, mixed_texts, text_mix, head_of, bucket_of, AreSpread}
+use Rattle.fact_cache.specs.Spread.{mixed, mixed_numbers, mixed_texts, text_mix, head_of, bucket_of, is_same_key, AreSpread}
 
 -- one text more
 pub spread-push : (key : Key) (texts new : List (List ℕ)) (text : List ℕ) (numbers more : List ℕ) (number : ℕ) → AreSpread key texts numbers → number ≡ text_mix key text → new ≡ texts ++ text ∷ [] → more ≡ numbers ++ number ∷ []
@@ -17,8 +18,11 @@ spread-push key texts new text numbers more number are is put pushed =
 pub spread-same : (key : Key) (texts new : List (List ℕ)) (numbers more : List ℕ) → AreSpread key texts numbers → new ≡ texts → more ≡ numbers → AreSpread key new more
 spread-same key texts new numbers more are put pushed = pushed ∙ (are ∙ ap (λ (ts : List (List ℕ)). map (text_mix key) ts) (sym put))
 
-pub key-same : (a b : Key) → a.point ≡ b.point → a.factor ≡ b.factor → a ≡ b
-key-same a b point factor = ap (λ (n : ℕ). key_of n a.factor) point ∙ ap (λ (n : ℕ). key_of b.point n) factor where
+pub key-same : (a b : Key) → is_same_key a b ≡ true → a ≡ b
+key-same a b same = ap (λ (n : ℕ). key_of n a.factor) (eqb-true a.point b.point parts.0) ∙ ap (λ (n : ℕ). key_of b.point n) (eqb-true a.factor b.factor parts.1) where
+  parts : (a.point == b.point ≡ true) × (a.factor == b.factor ≡ true)
+  parts = and_parts (a.point == b.point) (a.factor == b.factor) same
+
   key_of : ℕ → ℕ → Key
   key_of point factor = record { point = point; factor = factor }
 

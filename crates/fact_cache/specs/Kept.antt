@@ -35,6 +35,10 @@ IsMixOf places text mix = (n : ℕ) → 0 < uses_at places n → text_at places 
 abbrev pub is_text_at : List Place → ℕ → ℕ → Text → Bool
 is_text_at places n mix text = nat_lt 0 (uses_at places n) && ((mix_at places n == mix) && bytes_eq (text_at places n) text)
 
+-- this text is kept there
+abbrev pub is_kept_at : List Place → ℕ → Text → Bool
+is_kept_at places n text = nat_lt 0 (uses_at places n) && bytes_eq (text_at places n) text
+
 -- no kept text is this one
 abbrev pub IsAbsent : List Place → Text → Type 0
 IsAbsent places text = (n : ℕ) → 0 < uses_at places n → text_at places n ≡ text → ⊥

@@ -1,12 +1,12 @@
 //! Texts, each kept once, with the number of its uses.
 //!
 //! A place whose uses have ended stays in its chain, empty, and the next text of its bucket takes it.
-ghost use Rattle.std.specs.Prelude.{◌≡◌, ◌<◌, ◌+◌, ◌-◌, ◌^◌, ◌++◌, ◌∷◌, [], ℕ, true, Some, IfSome, IfNone, IfOk, OnOk, OnErr, length, slice_get, slice_set};
+ghost use Rattle.std.specs.Prelude.{◌≡◌, ◌<◌, ◌+◌, ◌-◌, ◌^◌, ◌++◌, ◌∷◌, [], ℕ, Some, IfSome, IfNone, IfOk, OnOk, OnErr, length, slice_get, slice_set};
 ghost use Rattle.fact_cache.specs.declared.kept.Place.{Place};
 ghost use Rattle.fact_cache.specs.declared.spread.Key.{Key as Spread};
 ghost use Rattle.std.specs.Str.{bytes_eq};
 ghost use Rattle.fact_cache.specs.Spread.{text_mix, head_of};
-ghost use Rattle.fact_cache.specs.Kept.{uses_at, text_at, mix_at, is_text_at, IsMixOf, AreMixed, IsAbsent, IsThere, AreFound, IsChanged, IsHeld, IsFreed, kept_bytes};
+ghost use Rattle.fact_cache.specs.Kept.{uses_at, text_at, mix_at, is_text_at, is_kept_at, IsMixOf, AreMixed, IsAbsent, IsThere, AreFound, IsChanged, IsHeld, IsFreed, kept_bytes};
 
 use crate::index::Index;
 use crate::spread::{Key, head, text_number};
@@ -87,21 +87,14 @@ fn is_text(places: &[Place], n: usize, number: u64, bytes: &[u8]) -> bool
     text(places, n) == bytes
 }
 
-fn are_same(a: &[u8], b: &[u8]) -> bool
-    ensures { result ≡ true → a.now ≡ b.now }
-{
-    a == b
-}
-
 /// Whether a text is kept at a place.
 fn is_kept_at(places: &[Place], n: usize, bytes: &[u8]) -> bool
-    ensures { result ≡ true → (0 < uses_at places.now n) × (text_at places.now n ≡ bytes.now) }
+    ensures { result ≡ is_kept_at places.now n bytes.now }
 {
-    let count = uses(places, n);
-    if count > 0 {
-        return are_same(text(places, n), bytes);
+    if uses(places, n) == 0 {
+        return false;
     }
-    false
+    text(places, n) == bytes
 }
 
 /// The place of a kept text.

@@ -1,6 +1,6 @@
 //! Texts beside the numbers by which they are spread: a text that several look-ups have in common is gone through once.
-ghost use Rattle.std.specs.Prelude.{◌≡◌, ◌<◌, ◌^◌, ◌++◌, ◌∷◌, [], ℕ, List, true, IfOk, OnOk, OnErr, map, option_map};
-ghost use Rattle.fact_cache.specs.Spread.{mixed, mixed_numbers, bucket_of, head_of, AreSpread};
+ghost use Rattle.std.specs.Prelude.{◌≡◌, ◌==◌, ◌<◌, ◌^◌, ◌++◌, ◌∷◌, [], ℕ, List, IfOk, OnOk, OnErr, map, option_map};
+ghost use Rattle.fact_cache.specs.Spread.{mixed, mixed_numbers, bucket_of, head_of, is_same_key, AreSpread};
 ghost use Rattle.fact_cache.specs.Caches.{lookup};
 ghost use Rattle.fact_cache.specs.Numbered.{entry_in, IsCache};
 
@@ -111,13 +111,13 @@ fn made<'a>(key: Key, texts: Vec<&'a [u8]>, numbers: Vec<u64>) -> Parts<'a>
 }
 
 fn is_same(a: u64, b: u64) -> bool
-    ensures { result ≡ true → a ≡ b }
+    ensures { result ≡ (a == b) }
 {
     a == b
 }
 
 fn is_key(a: Key, b: Key) -> bool
-    ensures { result ≡ true → a ≡ b }
+    ensures { result ≡ is_same_key a b }
 {
     if !is_same(a.point, b.point) {
         return false;

@@ -12,4 +12,4 @@ mod whole;
 pub use print::stats;
 pub use reply_stand::reply_stands;
 pub use said::json;
-pub use whole::text;
+pub use whole::{last, text};

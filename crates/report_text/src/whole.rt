@@ -1,6 +1,7 @@
 //! The whole text of a run's reply.
 ghost use Rattle.std.specs.Prelude.{◌≡◌, ◌+◌, ◌++◌, ◌∷◌, [], length, codes, IfOk, OnOk, string_bytes};
 ghost use Rattle.std.specs.Fmt.{decimal};
+ghost use Rattle.std.specs.Option.{option_map_or};
 ghost use Rattle.analysis_core.specs.Replies.{limit_line, last_line, within_limits, reply_text, counted, ending, is_applied, applied, skipped};
 ghost use Rattle.report_text.specs.ReplyStanding.{ReplyStands};
 
@@ -143,6 +144,23 @@ pub fn text(alloc: Global, reply: &Reply, files: &Files, asked: Command) -> Resu
         }
         None => {
             push_within(alloc, files, &mut out, asked, reply)?;
+            Ok(Bytes::new(out))
+        }
+    }
+}
+
+/// The last line of a run's reply to a command, or its limit line.
+pub fn last(alloc: Global, asked: Command, reply: &Reply) -> Result<Bytes, NoMemory>
+    ensures { IfOk result (λ bytes. bytes ≡ option_map_or limit_line reply.now.limit (last_line asked reply.now)) }
+{
+    let mut out = Vec::new(alloc);
+    match reply.limit {
+        Some(limit) => {
+            push_limit(&mut out, limit)?;
+            Ok(Bytes::new(out))
+        }
+        None => {
+            push_last(alloc, &mut out, asked, reply)?;
             Ok(Bytes::new(out))
         }
     }
