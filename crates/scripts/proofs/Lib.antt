@@ -1,0 +1,9 @@
+pub mod Grammar
+pub mod RunLaws
+pub mod FieldLaws
+pub mod PathLaws
+pub mod FileLaws
+pub mod WordLaws
+pub mod Spellings
+pub mod ReadLaws
+pub mod ReadOnLaws
