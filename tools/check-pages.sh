@@ -17,7 +17,14 @@ program=${1:-./gvet}
 program=$(cd "$(dirname "$program")" && pwd)/$(basename "$program")
 room=$(mktemp -d) || exit 1
 trap 'rm -rf "$room"' EXIT
+mkdir "$room/alone"
 status=0
+
+# Answers a script in a folder where no cache is kept.
+answer() {
+    rm -f "$room/alone/.gvet-cache"
+    (cd "$room/alone" && "$program" session)
+}
 wrong() {
     echo "$1"
     status=1
@@ -107,7 +114,7 @@ run_example() {
     report) echo "packages $packages, errors 0, diagnostics $lines" ;;
     facts) echo "packages $packages, errors 0, facts $lines" ;;
     esac >>"$base.due"
-    "$program" session <"$base.script" >"$base.reply"
+    answer <"$base.script" >"$base.reply"
     local ended=$?
     if ! cmp -s "$base.due" "$base.reply"; then
         wrong "$name: what is printed (>) isn't what the page says (<)"
@@ -140,8 +147,8 @@ run_sessions() {
 # Runs the commands of a block in turn, and prints each with its output, as the block has to have them.
 run_block() {
     local page=$1 block=$2 place=$3
-    if grep '^\$ ' "$block" | grep -qvE '^\$ (cat|echo|\./gvet|examples/|find|ls|printf) ?'; then
-        wrong "$page: a session has a command that isn't run here: $(grep '^\$ ' "$block" | grep -vE '^\$ (cat|echo|\./gvet|examples/|find|ls|printf) ?' | head -n 1)"
+    if grep '^\$ ' "$block" | grep -qvE '^\$ (cat|cd|echo|\./gvet|(\.\./)+gvet|examples/|find|ls|printf) ?'; then
+        wrong "$page: a session has a command that isn't run here: $(grep '^\$ ' "$block" | grep -vE '^\$ (cat|cd|echo|\./gvet|(\.\./)+gvet|examples/|find|ls|printf) ?' | head -n 1)"
         return
     fi
     {
@@ -173,7 +180,7 @@ run_worked() {
         local base=${put%.put}
         count=$((count + 1))
         [ -e "$base.due" ] || { wrong "$page: a worked session without a file or a reply"; continue; }
-        { cat "$put"; cat "$base.text"; echo; echo check; } | "$program" session >"$base.reply"
+        { cat "$put"; cat "$base.text"; echo; echo check; } | answer >"$base.reply"
         cmp -s "$base.due" "$base.reply" || { wrong "$page: what the worked session prints (>) isn't what the page says (<)"; diff "$base.due" "$base.reply"; }
     done
     [ $count -gt 0 ] || wrong "$page: no worked session was found"

@@ -1,12 +1,13 @@
 //! A tree in the tool's session.
 use crate::trees::SourceFile;
 use anyhow::{Result, bail};
+use go_kit::GoKit;
 use gv_base::{MemSink, SureKeeper, SureSource, SureTree};
-use gv_tool::call::gvet;
 use std::alloc::Global;
 use std::fmt::Write;
 use std::random::RandomSource;
 use std::thread::Threads;
+use top_calls::gvet::gvet;
 
 /// The script that puts the files and then gives the command.
 pub fn script_of(alloc: Global, files: &[SourceFile<'_>], command: &str) -> Result<String> {
@@ -39,6 +40,7 @@ pub fn reply<R: Threads + Sync + RandomSource>(
         &mut keeper,
         &mut input,
         &mut output,
+        &mut [GoKit::new(alloc)],
     );
     match std::str::from_utf8(output.bytes()) {
         Ok(text) => Ok((status, String::from_str(alloc, text)?)),

@@ -74,7 +74,7 @@ in-append (x ∷ xs) ys i (suc k, l, e) = elim (in-append xs ys i (k, (let m : s
   | inr c ↦ inr c
 ]
 
-distinct-append : (xs ys : List Input) → Distinct xs → Distinct ys → ((i : Input) → Contains xs i → Contains ys i → ⊥) → Distinct (xs ++ ys)
+pub distinct-append : (xs ys : List Input) → Distinct xs → Distinct ys → ((i : Input) → Contains xs i → Contains ys i → ⊥) → Distinct (xs ++ ys)
 distinct-append [] ys a b none = b
 distinct-append (x ∷ xs) ys a b none = (
   λ c. elim (in-append xs ys x c) [ inl h ↦ a.0 h | inr h ↦ none x (contains-head x xs) h ],
@@ -111,7 +111,7 @@ distinct-if : (b : Bool) (x : Input) (xs : List Input) → Distinct xs → (Cont
 distinct-if true x xs h none = h
 distinct-if false x xs h none = (none, h)
 
-distinct-missing : (cache : List Entry) (xs : List Input) → Distinct xs → Distinct (missing_of cache xs)
+pub distinct-missing : (cache : List Entry) (xs : List Input) → Distinct xs → Distinct (missing_of cache xs)
 distinct-missing cache [] h = tt
 distinct-missing cache (x ∷ xs) h = distinct-if (is_cached cache x) x (missing_of cache xs) (distinct-missing cache xs h.1) (λ c. h.0 (missing-in cache xs x c))
 

@@ -12,13 +12,13 @@ mod TableLaws
 mod StepLaws
 mod OrderLaws
 mod MissingLaws
-mod AnalyzerLaws
+pub mod AnalyzerLaws
 mod RunNodeLaws
 mod LoadingLaws
 mod MakingLaws
 mod InputLaws
 pub mod PlanLaws
-mod EntryLaws
+pub mod EntryLaws
 mod EntryLoops
 mod FoundInLaws
 mod FindingLaws

@@ -1,61 +1,89 @@
-//! The program: gvet over standard input and standard output.
+//! The program: gvet over the current folder, standard input and standard output.
 #![tactic(auto)]
 
-ghost use Rattle.std.specs.Prelude.{◌≡◌, ◌≢◌};
+ghost use Rattle.std.specs.Prelude.{◌≡◌, ◌≢◌, ◌⊎◌, map, string_bytes};
 ghost use Rattle.std.specs.Process.{exit_status};
-ghost use Rattle.gv_tool.specs.Headline.{IsSession};
+ghost use Rattle.words.specs.Grammar.{Asks};
+ghost use Rattle.words.specs.declared.asked.Words.{Words};
 
-use gv_base::{SureKeeper, SureTree};
-use gv_tool::adapters::{StdSink, StdSource};
-use gv_tool::call::gvet;
-use gv_tool::status::{Status, status_name};
-use std::alloc::Global;
+use disk::{DirTree, FileKeeper, SystemDisk};
+use go_kit::GoKit;
+use std::alloc::{AllocError, Global};
 use std::io::{Input, Print};
 use std::process::ExitCode;
 use std::random::RandomSource;
 use std::thread::Threads;
 use std::{env, io};
+use top_calls::adapters::{StdSink, StdSource};
+use top_calls::gvet::gvet;
+use top_calls::stop::{NO_MEMORY, USAGE, status_name};
 
-/// The words of the call, without the program's name.
-fn words_of(rt: &HostRuntime) -> Result<Vec<String>, Status> {
+/// The words of the call, without the program's name; or the status that there is without them.
+fn words_of(rt: &HostRuntime) -> Result<Vec<String>, u8> {
     let mut words = match env::args(rt) {
         Ok(words) => words,
         Err(error) => {
             return Err(match error.kind() {
-                io::ErrorKind::OutOfMemory => Status::NoMemory,
-                _ => Status::Usage,
+                io::ErrorKind::OutOfMemory => NO_MEMORY,
+                _ => USAGE,
             });
         }
     };
     let _program = words.next();
     match words.collect(rt.alloc()) {
         Ok(words) => Ok(words),
-        Err(_) => Err(Status::NoMemory),
+        Err(_) => Err(NO_MEMORY),
     }
 }
 
-/// Calls the tool over the real devices. The tree and the keeper are not touched yet.
+/// The name of the current folder.
+const HERE: &str = ".";
+
+/// A disk with the files of the current folder.
+type Here = SystemDisk<HostRuntime>;
+
+/// The tree of the current folder, and the keeper in it.
+fn devices(
+    rt: HostRuntime,
+    alloc: Global,
+) -> Result<(DirTree<Here>, FileKeeper<Here>), AllocError> {
+    let top = String::from_str(alloc, HERE)?;
+    let tree = DirTree::new(alloc, SystemDisk::new(rt, top));
+    let top = String::from_str(alloc, HERE)?;
+    let keeper = FileKeeper::new(alloc, SystemDisk::new(rt, top));
+    Ok((tree, keeper))
+}
+
+/// Calls the tool over the real devices. Where memory is wanting for these, nothing is read.
 fn call<R: Threads + Sync + RandomSource + Input + Print>(
+    host: HostRuntime,
     rt: &R,
     alloc: Global,
     words: &[String],
 ) -> u8
-    ensures usage { ¬ (IsSession words.now) → result ≡ 2 }
-    ensures only_usage { IsSession words.now → result ≢ 2 }
+    ensures usage { ((call : Words) → Asks (map string_bytes words.now) call → ⊥) → (result ≡ 2) ⊎ (result ≡ 7) }
+    ensures only_usage { (call : Words) → Asks (map string_bytes words.now) call → result ≢ 2 }
 {
-    let mut tree = SureTree::new(alloc);
-    let mut keeper = SureKeeper::new(alloc, None);
-    let mut input = StdSource::new(rt.reader());
-    let mut output = StdSink::new(io::writer(rt));
-    gvet(
-        rt,
-        alloc,
-        words,
-        &mut tree,
-        &mut keeper,
-        &mut input,
-        &mut output,
-    )
+    match devices(host, alloc) {
+        Err(_) => NO_MEMORY,
+        Ok((tree, keeper)) => {
+            let mut tree = tree;
+            let mut keeper = keeper;
+            let mut input = StdSource::new(rt.reader());
+            let mut output = StdSink::new(io::writer(rt));
+            let mut kits = [GoKit::new(alloc)];
+            gvet(
+                rt,
+                alloc,
+                words,
+                &mut tree,
+                &mut keeper,
+                &mut input,
+                &mut output,
+                &mut kits,
+            )
+        }
+    }
 }
 
 /// Prints the name of a status on standard error, where it has one, and ends with its number.
@@ -71,8 +99,8 @@ fn end(rt: &HostRuntime, status: u8) -> ExitCode
 
 fn main(rt: HostRuntime) -> ExitCode {
     let status = match words_of(&rt) {
-        Ok(words) => call(&rt, rt.alloc(), &words),
-        Err(status) => status as u8,
+        Ok(words) => call(rt, &rt, rt.alloc(), &words),
+        Err(status) => status,
     };
     end(&rt, status)
 }

@@ -1,15 +1,18 @@
 //! Small trees: the reply and the work of a run, twice.
+ghost use Rattle.analysis_core.specs.declared.command.Command.TheVariants.{Check};
+ghost use Rattle.report_text.specs.ReplyStanding.{ReplyStands};
 ghost use Rattle.tree_report.specs.Keeping.{IsHeard};
 
 use crate::told::{add, said};
 use action_graph::Unloaded;
-use analysis_core::{Command, Options};
+use analysis_core::{Command, Options, Reply};
 use bundles::bytes_of;
 use fact_cache::Cache;
 use go_kit::GoKit;
 use gv_base::{Files, NoMemory};
 use std::alloc::Global;
-use tree_report::{Heard, TreeReport, nothing_heard, report_on};
+use report_text::text;
+use tree_report::{Heard, nothing_heard, report_on};
 
 /// Puts a file of one of eight paths.
 fn put(files: &mut Files, path: &str, bytes: &[u8]) -> Result<(), NoMemory> {
@@ -37,10 +40,13 @@ fn tree_of(alloc: Global, input: &str) -> Result<Files, NoMemory> {
     Ok(files)
 }
 
-/// What a report says.
-fn report_says(alloc: Global, report: &TreeReport) -> Result<Vec<u8>, NoMemory> {
-    let mut out = report.text.as_slice().to_vec(alloc)?;
-    let text = format!(in alloc; "found {}, {:?}; ", report.found, report.counts)?;
+/// What a reply to a check says.
+fn reply_says(alloc: Global, files: &Files, reply: &Reply) -> Result<Vec<u8>, NoMemory>
+    requires { ReplyStands files.now Check reply.now }
+{
+    let lines = text(alloc, reply, files, Command::Check)?;
+    let mut out = lines.as_slice().to_vec(alloc)?;
+    let text = format!(in alloc; "found {}, {:?}; ", reply.is_found(), reply.counts)?;
     add(&mut out, text.as_str())?;
     Ok(out)
 }
@@ -63,7 +69,7 @@ fn told(
 {
     let mut kits = [GoKit::new(alloc)];
     match report_on(alloc, files, CHECK, heard, cache, &mut kits) {
-        Ok(report) => report_says(alloc, &report),
+        Ok(reply) => reply_says(alloc, files, &reply),
         Err(Unloaded::NoMemory) => Err(NoMemory),
         Err(Unloaded::Stuck) => said(alloc, "circle"),
     }

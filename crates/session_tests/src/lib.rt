@@ -1,5 +1,5 @@
-//! Tests of `gv_tool` by its public calls: whole sessions. There is nothing else here.
+//! Tests of `top_calls` by its public calls: whole sessions. There is nothing else here.
 #![tactic(auto)]
 
 #[cfg(test)]
-mod gv_tool_tests;
+mod top_calls_tests;

@@ -1,9 +1,8 @@
--- Where no lawful load is without an outcome, no tree that can be read is without a report.
-use Rattle.std.proofs.Common.{ℕ, inl, inr, true, List, [], map, length, refl, ap}
+-- Where no lawful load is without an outcome, no tree that can be read is without a reply.
+use Rattle.std.proofs.Common.{ℕ, inl, inr, List, map, length, refl, ap}
 use Rattle.gv_base.specs.Files.{Entry, AreInOrder}
 use Rattle.analysis_core.specs.declared.command.Command.{Command}
 use Rattle.analysis_core.specs.declared.reply.Counts.{Counts}
-use Rattle.analysis_core.specs.Replies.{is_found, limit_line, no_counts, reply_text}
 use Rattle.fact_cache.specs.declared.list.Entry.{Entry as Kept}
 use Rattle.gv_driver.specs.declared.tree.PackageTexts.{PackageTexts}
 use Rattle.gv_driver.specs.Trees.{IsTree}
@@ -16,7 +15,7 @@ use Rattle.tree_findings.specs.Telling.{chosen_by}
 use Rattle.tree_findings.proofs.ToldLemmas.{told-exists}
 use Rattle.tree_report.specs.Existence.{HasReport}
 use Rattle.tree_report.specs.Lines.{error_lines}
-use Rattle.tree_report.specs.Reports.{texts_of}
+use Rattle.tree_report.specs.Reports.{limit_reply, texts_of}
 use Rattle.tree_report.specs.Reports.Reports.{of_limit, of_packages}
 use Rattle.tree_report.proofs.TreeLemmas.{is-tree}
 
@@ -26,7 +25,7 @@ EachHasRun = AllHaveOutcomes → AllRunsHaveOutcomes → (tree : List PackageTex
 
 pub report-exists : EachHasRun → AllHaveOutcomes → AllRunsHaveOutcomes → (asked : Command) (only : ℕ) (tree : List Entry) → AreInOrder tree → (before : List Kept) → HasReport asked only tree before
 report-exists each outcomes analyses asked only tree ordered before (inl over) none =
-    none before (record { text = limit_line over.0; found = true; counts = no_counts; changed = [] }) (of_limit (record { limit = over.0; first = over.1; text = refl; found = refl; counts = refl; changed = refl }) refl)
+    none before (limit_reply over.0) (of_limit (record { limit = over.0; first = over.1; replies = refl }) refl)
 report-exists each outcomes analyses asked only tree ordered before (inr read) none =
     let verdicts = read.0 in
     let heads = read.1.0 in
@@ -35,7 +34,7 @@ report-exists each outcomes analyses asked only tree ordered before (inr read) n
     each outcomes analyses (map (texts_of tree) packages) (chosen_by asked only) (is-tree tree verdicts heads packages ordered form) before (λ found findings facts plan after is finds given is_plan cache.
     let counts : Counts = record { nodes = length (all_inputs plan); missing = length (missing_of before (all_inputs plan)); loads = loads_of before plan; runs = runs_of before plan } in
     told-exists asked tree (all_lines packages findings) (all_facts packages facts) (length packages) (error_lines heads verdicts packages found) counts (λ reply told size errors counted.
-    none after (record { text = reply_text tree asked reply; found = is_found reply; counts = reply.counts; changed = reply.changed }) (of_packages (record {
+    none after reply (of_packages (record {
       verdicts = verdicts;
       heads = heads;
       packages = packages;
@@ -49,7 +48,6 @@ report-exists each outcomes analyses asked only tree ordered before (inr read) n
       plan = plan;
       is_plan = is_plan;
       cache = cache;
-      reply = reply;
       told = told;
       size = size;
       errors = errors;
@@ -57,8 +55,4 @@ report-exists each outcomes analyses asked only tree ordered before (inr read) n
       missing = ap (λ (c : Counts). c.missing) counted;
       loads = ap (λ (c : Counts). c.loads) counted;
       runs = ap (λ (c : Counts). c.runs) counted;
-      text = refl;
-      found = refl;
-      counts = refl;
-      changed = refl;
     }))))

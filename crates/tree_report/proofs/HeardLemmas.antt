@@ -1,5 +1,9 @@
 -- What was read of a file serves where the file is the same.
-use Rattle.std.proofs.Common.{◌≡◌, ℕ, ◌+◌, ◌<◌, ◌≤◌, Bool, false, Option, Some, None, is_some, List, [], ◌∷◌, ◌++◌, length, take, map, slice_get, get_or, option_map, refl, sym, ap, ◌∙◌, subst, arith}
+use Rattle.std.proofs.Common.{◌≡◌, ℕ, ◌+◌, ◌<◌, ◌≤◌, Bool, true, false, Option, Some, None, is_some, List, [], ◌∷◌, ◌++◌, length, take, map, slice_get, get_or, option_map, refl, sym, ap, ◌∙◌, subst, arith}
+use Rattle.std.specs.Prelude.{◌&&◌}
+use Rattle.std.specs.Str.{bytes_eq}
+use Rattle.std.proofs.lemmas.Bool.{and_parts}
+use Rattle.std.proofs.lemmas.Slice.Eq.{bytes_eq-Decides}
 use Rattle.std.proofs.lemmas.List.{length-map, take_more, take_all}
 use Rattle.std.proofs.lemmas.Option.{get_or_from_slice_get, same_Some, slice_get_read, slice_get-map, slice_get_within, slice_get-get_or}
 use Rattle.gv_base.specs.Files.{Entry}
@@ -30,6 +34,12 @@ told_kept files heads refusals are at entry head copy here refused headed same =
 none_of : {X : Type 0} (o : Option X) (b : Bool) → b ≡ is_some o → b ≡ false → o ≡ None
 none_of None b is h = refl
 none_of (Some x) b is h = absurd cc
+
+-- a file of this path and these bytes
+pub file_same : (entry : Entry) (path text : List ℕ) → (bytes_eq entry.0 path && bytes_eq entry.1 text) ≡ true → entry ≡ (path, text)
+file_same (p, t) path text same =
+    let parts = and_parts (bytes_eq p path) (bytes_eq t text) same in
+    ap (λ (q : List ℕ). (q, t)) ((bytes_eq-Decides p path).0 parts.0) ∙ ap (λ (u : List ℕ). (path, u)) ((bytes_eq-Decides t text).0 parts.1)
 
 -- the same of what stands at a place
 pub told_place : (files : List Entry) (heads : List (Option Head)) (refusals : List (Option FileVerdict)) → AreTold files (length files) heads refusals → (at : ℕ) (entry wanted : Entry) (refusal : Option FileVerdict) (head copy : Option Head) (some : Bool)

@@ -16,15 +16,13 @@ use Rattle.analysis_core.specs.declared.command.Command.{Command}
 use Rattle.analysis_core.specs.declared.reply.Counts.{Counts}
 use Rattle.analysis_core.specs.declared.reply.Reply.{Reply}
 use Rattle.analysis_core.specs.declared.reply.TreeLimit.{TreeLimit}
-use Rattle.analysis_core.specs.Replies.{is_found, limit_line, reply_text}
 use Rattle.fact_lines.specs.Lines.{all_facts}
 use Rattle.tree_findings.specs.Lines.{all_lines}
 use Rattle.tree_findings.specs.Telling.{chosen_by, IsTold}
 use Rattle.tree_findings.proofs.ToldLemmas.{told-once}
-use Rattle.tree_report.specs.declared.print.TreeReport.{TreeReport}
 use Rattle.tree_report.specs.Form.{HasReading, IsForm}
 use Rattle.tree_report.specs.Lines.{error_lines}
-use Rattle.tree_report.specs.Reports.{texts_of, Reports, ReportsLimit, ReportsPackages}
+use Rattle.tree_report.specs.Reports.{texts_of, limit_reply, Reports, ReportsLimit, ReportsPackages}
 use Rattle.tree_report.specs.Reports.Reports.{of_limit, of_packages}
 use Rattle.tree_report.proofs.OnceLemmas.{Same, reading-once}
 use Rattle.tree_report.proofs.LimitLemmas.{first-once, not-within}
@@ -43,14 +41,7 @@ same-counts a b n m l r =
     ∙ (ap (λ x. record { nodes = b.nodes; missing = b.missing; loads = x; runs = a.runs }) l
     ∙ ap (λ x. record { nodes = b.nodes; missing = b.missing; loads = b.loads; runs = x }) r))
 
-same-report : (a b : TreeReport) → a.text ≡ b.text → a.found ≡ b.found → a.counts ≡ b.counts → a.changed ≡ b.changed → a ≡ b
-same-report a b t f c x =
-    ap (λ z. record { text = z; found = a.found; counts = a.counts; changed = a.changed }) t
-    ∙ (ap (λ z. record { text = b.text; found = z; counts = a.counts; changed = a.changed }) f
-    ∙ (ap (λ z. record { text = b.text; found = b.found; counts = z; changed = a.changed }) c
-    ∙ ap (λ z. record { text = b.text; found = b.found; counts = b.counts; changed = z }) x))
-
-module _ (asked : Command) (only : ℕ) (tree : List Entry) (before after other : List Kept) (a b : TreeReport) (r : ReportsPackages asked only tree before after a) (s : ReportsPackages asked only tree before other b) where
+module _ (asked : Command) (only : ℕ) (tree : List Entry) (before after other : List Kept) (a b : Reply) (r : ReportsPackages asked only tree before after a) (s : ReportsPackages asked only tree before other b) where
   same-form : Same r.verdicts s.verdicts r.heads s.heads r.packages s.packages
   same-form = form-once tree r.verdicts s.verdicts r.heads s.heads r.packages s.packages r.form s.form
 
@@ -60,9 +51,9 @@ module _ (asked : Command) (only : ℕ) (tree : List Entry) (before after other 
   packages-cache-once : after ≡ other
   packages-cache-once = cache-once before after other (all_inputs s.plan) (subst (λ i. IsCacheAfter before after (all_inputs i)) plan-once r.cache) s.cache
 
-  counts-once : r.reply.counts ≡ s.reply.counts
+  counts-once : a.counts ≡ b.counts
   counts-once =
-      same-counts r.reply.counts s.reply.counts
+      same-counts a.counts b.counts
       (r.nodes ∙ (ap (λ i. length (all_inputs i)) plan-once ∙ sym s.nodes))
       (r.missing ∙ (ap (λ i. length (missing_of before (all_inputs i))) plan-once ∙ sym s.missing))
       (r.loads ∙ (ap (loads_of before) plan-once ∙ sym s.loads))
@@ -83,51 +74,43 @@ module _ (asked : Command) (only : ℕ) (tree : List Entry) (before after other 
       (subst (λ o. IsFactReport (map (texts_of tree) s.packages) (chosen_by asked only) o r.facts) outcomes-once
       (subst (λ p. IsFactReport (map (texts_of tree) p) (chosen_by asked only) r.outcomes r.facts) same-form.packages r.given)) s.given
 
-  reply-once : FactsOnce → r.reply ≡ s.reply
-  reply-once once =
-      told-once asked tree (all_lines s.packages s.findings) (all_facts s.packages s.facts) r.reply s.reply
-      (subst (λ f. IsTold asked tree (all_lines s.packages s.findings) (all_facts s.packages f) r.reply) (facts-alike once)
-      (subst (λ f. IsTold asked tree (all_lines s.packages f) (all_facts s.packages r.facts) r.reply) findings-once
-      (subst (λ p. IsTold asked tree (all_lines p r.findings) (all_facts p r.facts) r.reply) same-form.packages r.told))) s.told
+  packages-report-once : FactsOnce → a ≡ b
+  packages-report-once once =
+      told-once asked tree (all_lines s.packages s.findings) (all_facts s.packages s.facts) a b
+      (subst (λ f. IsTold asked tree (all_lines s.packages s.findings) (all_facts s.packages f) a) (facts-alike once)
+      (subst (λ f. IsTold asked tree (all_lines s.packages f) (all_facts s.packages r.facts) a) findings-once
+      (subst (λ p. IsTold asked tree (all_lines p r.findings) (all_facts p r.facts) a) same-form.packages r.told))) s.told
       (r.size ∙ (ap length same-form.packages ∙ sym s.size))
       (r.errors ∙ (ap (λ v. error_lines r.heads v r.packages r.outcomes) same-form.verdicts ∙ (ap (λ h. error_lines h s.verdicts r.packages r.outcomes) same-form.heads
       ∙ (ap (λ p. error_lines s.heads s.verdicts p r.outcomes) same-form.packages ∙ (ap (λ o. error_lines s.heads s.verdicts s.packages o) outcomes-once ∙ sym s.errors)))))
       counts-once
 
-  packages-report-once : FactsOnce → a ≡ b
-  packages-report-once once =
-      same-report a b
-      (r.text ∙ (ap (reply_text tree asked) (reply-once once) ∙ sym s.text))
-      (r.found ∙ (ap is_found (reply-once once) ∙ sym s.found))
-      (r.counts ∙ (ap (λ (x : Reply). x.counts) (reply-once once) ∙ sym s.counts))
-      (r.changed ∙ (ap (λ (x : Reply). x.changed) (reply-once once) ∙ sym s.changed))
-
-packages-honest : (asked : Command) (only : ℕ) (tree : List Entry) (before after : List Kept) (a : TreeReport) → IsHonest before → ReportsPackages asked only tree before after a → IsHonest after
+packages-honest : (asked : Command) (only : ℕ) (tree : List Entry) (before after : List Kept) (a : Reply) → IsHonest before → ReportsPackages asked only tree before after a → IsHonest after
 packages-honest asked only tree before after a honest r = honest-after before after (all_inputs r.plan) honest r.cache
 
 -- ---- over a limit or not
 
-limit-report-once : (tree : List Entry) (a b : TreeReport) → ReportsLimit tree a → ReportsLimit tree b → a ≡ b
+limit-report-once : (tree : List Entry) (a b : Reply) → ReportsLimit tree a → ReportsLimit tree b → a ≡ b
 limit-report-once tree a b r s =
     let same : r.limit ≡ s.limit = first-once tree r.limit s.limit r.first s.first in
-    same-report a b (r.text ∙ (ap (λ (l : TreeLimit). limit_line l) same ∙ sym s.text)) (r.found ∙ sym s.found) (r.counts ∙ sym s.counts) (r.changed ∙ sym s.changed)
+    r.replies ∙ (ap limit_reply same ∙ sym s.replies)
 
-pub report-once-of : FactsOnce → (asked : Command) (only : ℕ) (tree : List Entry) (before after other : List Kept) (a b : TreeReport) → Reports asked only tree before after a → Reports asked only tree before other b → a ≡ b
+pub report-once-of : FactsOnce → (asked : Command) (only : ℕ) (tree : List Entry) (before after other : List Kept) (a b : Reply) → Reports asked only tree before after a → Reports asked only tree before other b → a ≡ b
 report-once-of once asked only tree before after other a b (of_limit r kept) (of_limit s same) = limit-report-once tree a b r s
 report-once-of once asked only tree before after other a b (of_limit r kept) (of_packages s) = absurd (not-within tree (r.limit, r.first) s.form.within)
 report-once-of once asked only tree before after other a b (of_packages r) (of_limit s same) = absurd (not-within tree (s.limit, s.first) r.form.within)
 report-once-of once asked only tree before after other a b (of_packages r) (of_packages s) = packages-report-once asked only tree before after other a b r s once
 
-pub cache-once-of : (asked : Command) (only : ℕ) (tree : List Entry) (before after other : List Kept) (a b : TreeReport) → Reports asked only tree before after a → Reports asked only tree before other b → after ≡ other
+pub cache-once-of : (asked : Command) (only : ℕ) (tree : List Entry) (before after other : List Kept) (a b : Reply) → Reports asked only tree before after a → Reports asked only tree before other b → after ≡ other
 cache-once-of asked only tree before after other a b (of_limit r kept) (of_limit s same) = kept ∙ sym same
 cache-once-of asked only tree before after other a b (of_limit r kept) (of_packages s) = absurd (not-within tree (r.limit, r.first) s.form.within)
 cache-once-of asked only tree before after other a b (of_packages r) (of_limit s same) = absurd (not-within tree (s.limit, s.first) r.form.within)
 cache-once-of asked only tree before after other a b (of_packages r) (of_packages s) = packages-cache-once asked only tree before after other a b r s
 
-pub read-of : (asked : Command) (only : ℕ) (tree : List Entry) (before after : List Kept) (a : TreeReport) → Reports asked only tree before after a → HasReading tree
+pub read-of : (asked : Command) (only : ℕ) (tree : List Entry) (before after : List Kept) (a : Reply) → Reports asked only tree before after a → HasReading tree
 read-of asked only tree before after a (of_limit r kept) = inl (r.limit, r.first)
 read-of asked only tree before after a (of_packages r) = inr (r.verdicts, (r.heads, (r.packages, r.form)))
 
-pub honest-after-of : (asked : Command) (only : ℕ) (tree : List Entry) (before after : List Kept) (a : TreeReport) → IsHonest before → Reports asked only tree before after a → IsHonest after
+pub honest-after-of : (asked : Command) (only : ℕ) (tree : List Entry) (before after : List Kept) (a : Reply) → IsHonest before → Reports asked only tree before after a → IsHonest after
 honest-after-of asked only tree before after a honest (of_limit r kept) = subst (λ l. IsHonest l) (sym kept) honest
 honest-after-of asked only tree before after a honest (of_packages r) = packages-honest asked only tree before after a honest r

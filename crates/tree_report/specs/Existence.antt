@@ -6,8 +6,8 @@ use Rattle.fact_cache.specs.declared.list.Entry.{Entry as Kept}
 pub use Rattle.gv_driver.specs.Existence.{AllHaveOutcomes, AllRunsHaveOutcomes}
 use Rattle.tree_report.specs.Form.{HasReading}
 use Rattle.tree_report.specs.Reports.{Reports}
-use Rattle.tree_report.specs.declared.print.TreeReport.{TreeReport}
+use Rattle.analysis_core.specs.declared.reply.Reply.{Reply}
 
--- the tree, where it can be read, isn't without a report over this cache, as it is asked
+-- the tree, where it can be read, isn't without a reply over this cache, as it is asked
 abbrev pub HasReport : Command → ℕ → List Entry → List Kept → Type 0
-HasReport asked only tree before = HasReading tree → ((after : List Kept) (report : TreeReport) → Reports asked only tree before after report → ⊥) → ⊥
+HasReport asked only tree before = HasReading tree → ((after : List Kept) (reply : Reply) → Reports asked only tree before after reply → ⊥) → ⊥

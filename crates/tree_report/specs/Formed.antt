@@ -1,10 +1,8 @@
 -- What the code holds of a tree, and of its reply.
-use Rattle.std.specs.Prelude.{◌≡◌, Option, Some, List, [], length, map}
+use Rattle.std.specs.Prelude.{◌≡◌, Option, List, length, map}
 use Rattle.gv_base.specs.Files.{Entry}
 use Rattle.analysis_core.specs.declared.command.Command.{Command}
 use Rattle.analysis_core.specs.declared.reply.Reply.{Reply}
-use Rattle.analysis_core.specs.declared.reply.TreeLimit.{TreeLimit}
-use Rattle.analysis_core.specs.Replies.{is_found, no_counts, reply_text}
 use Rattle.gv_driver.specs.declared.reply.Judgement.{Judgement}
 use Rattle.fact_lines.specs.Lines.{all_facts}
 use Rattle.tree_findings.specs.Lines.{all_lines}
@@ -14,7 +12,6 @@ use Rattle.tree_report.specs.Lines.{refusal_of, error_lines}
 use Rattle.tree_report.specs.declared.formed.Formed.{Formed}
 use Rattle.tree_report.specs.declared.formed.Known.{Known}
 use Rattle.tree_report.specs.declared.formed.Known.TheVariants as known
-use Rattle.tree_report.specs.declared.print.TreeReport.{TreeReport}
 use Rattle.tree_report.specs.Form.{IsForm}
 use Rattle.tree_report.specs.Limits.{IsFirstLimit}
 
@@ -26,20 +23,9 @@ abbrev pub IsKnown : List Entry → Known → Type 0
 IsKnown tree (known.Over first) = IsFirstLimit tree first
 IsKnown tree (known.Of f) = Holds tree f
 
--- The reply of a run over a tree that is over a limit.
-abbrev pub limit_reply : TreeLimit → Reply
-limit_reply first = record { limit = Some first; packages = 0; errors = []; diagnostics = []; facts = []; choices = []; changed = []; counts = no_counts }
-
 -- The reply of a run over the packages of a tree, as it is asked.
 pub record IsReplyOf (tree : List Entry) (asked : Command) (f : Formed) (ran : Judgement) (reply : Reply) : Type 0 where
   pub told : IsTold asked tree (all_lines f.packages.items ran.found) (all_facts f.packages.items ran.facts) reply
   pub size : reply.packages ≡ length f.packages.items
   pub errors : reply.errors ≡ error_lines f.heads.items f.refusals.items f.packages.items ran.verdicts
   pub counts : reply.counts ≡ ran.counts
-
--- the report is that of the reply to this command
-pub record Tells (tree : List Entry) (asked : Command) (reply : Reply) (report : TreeReport) : Type 0 where
-  pub text : report.text ≡ reply_text tree asked reply
-  pub found : report.found ≡ is_found reply
-  pub counts : report.counts ≡ reply.counts
-  pub changed : report.changed ≡ reply.changed

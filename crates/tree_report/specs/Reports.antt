@@ -1,5 +1,5 @@
 -- What a run answers of a tree, and what it leaves in the cache.
-use Rattle.std.specs.Prelude.{◌≡◌, ℕ, true, Option, List, [], length, map, All}
+use Rattle.std.specs.Prelude.{◌≡◌, ℕ, Option, Some, List, [], length, map, All}
 use Rattle.gv_base.specs.Files.{Entry}
 use Rattle.fact_cache.specs.declared.texts.Input.{Input}
 use Rattle.fact_cache.specs.declared.list.Entry.{Entry as Kept}
@@ -19,14 +19,13 @@ use Rattle.analysis_core.specs.declared.command.Command.{Command}
 use Rattle.analysis_core.specs.declared.diagnostic.Diagnostic.{Diagnostic}
 use Rattle.analysis_core.specs.declared.reply.Reply.{Reply}
 use Rattle.analysis_core.specs.declared.reply.TreeLimit.{TreeLimit}
-use Rattle.analysis_core.specs.Replies.{file_numbered, is_found, limit_line, no_counts, reply_text}
+use Rattle.analysis_core.specs.Replies.{file_numbered, no_counts}
 use Rattle.report_text.specs.Standing.{StandsIn}
 use Rattle.report_text.specs.ReplyStanding.{FoundStands}
 use Rattle.fact_lines.specs.Lines.{all_facts}
 use Rattle.tree_findings.specs.Lines.{all_lines}
 pub use Rattle.tree_findings.specs.Telling.{AreFilesOf}
 use Rattle.tree_findings.specs.Telling.{IsTold, chosen_by}
-use Rattle.tree_report.specs.declared.print.TreeReport.{TreeReport}
 use Rattle.go_tree.specs.declared.head.Head.{Head}
 use Rattle.tree_report.specs.Form.{IsForm}
 use Rattle.tree_report.specs.Limits.{IsFirstLimit}
@@ -36,20 +35,20 @@ use Rattle.tree_report.specs.Lines.{error_lines}
 abbrev pub texts_of : List Entry → Package → PackageTexts
 texts_of tree p = record { path = p.path; stub = p.stub; sound = is_sound p.state; imports = p.imports; files = map (file_numbered tree) p.files }
 
--- The report of a tree over a limit, whatever is asked: the line of the first, and nothing more. There are no nodes, so that all counts are 0, and no file changes.
-pub record ReportsLimit (tree : List Entry) (report : TreeReport) : Type 0 where
+-- The reply of a run over a tree that is over a limit, whatever is asked: it names the first, and nothing more. There are no nodes, so that all counts are 0, and no file changes.
+abbrev pub limit_reply : TreeLimit → Reply
+limit_reply first = record { limit = Some first; packages = 0; errors = []; diagnostics = []; facts = []; choices = []; changed = []; counts = no_counts }
+
+pub record ReportsLimit (tree : List Entry) (reply : Reply) : Type 0 where
   pub limit : TreeLimit
   pub first : IsFirstLimit tree limit
-  pub text : report.text ≡ limit_line limit
-  pub found : report.found ≡ true
-  pub counts : report.counts ≡ no_counts
-  pub changed : report.changed ≡ []
+  pub replies : reply ≡ limit_reply limit
 
--- The report of a tree within the limits, as it is asked and with these analyzers, over one cache and leaving another. What comes of its packages
+-- The reply to a tree within the limits, as it is asked and with these analyzers, over one cache and leaving another. What comes of its packages
 -- and what is found in them, and the facts of their functions, come of their sources and know neither cache nor export texts. The nodes are the loads of its packages and the runs
 -- of analyzers over those that are accepted; those for whose inputs the cache had nothing were executed and stand in it then, and so were the loads
 -- that a run needed. The reply has the error lines, and what the command asks for besides.
-pub record ReportsPackages (asked : Command) (only : ℕ) (tree : List Entry) (before after : List Kept) (report : TreeReport) : Type 0 where
+pub record ReportsPackages (asked : Command) (only : ℕ) (tree : List Entry) (before after : List Kept) (reply : Reply) : Type 0 where
   pub verdicts : List (Option FileVerdict)
   pub heads : List (Option Head)
   pub packages : List Package
@@ -63,7 +62,6 @@ pub record ReportsPackages (asked : Command) (only : ℕ) (tree : List Entry) (b
   pub plan : List (List Input)
   pub is_plan : IsPlan (map (texts_of tree) packages) (chosen_by asked only) plan
   pub cache : IsCacheAfter before after (all_inputs plan)
-  pub reply : Reply
   pub told : IsTold asked tree (all_lines packages findings) (all_facts packages facts) reply
   pub size : reply.packages ≡ length packages
   pub errors : reply.errors ≡ error_lines heads verdicts packages outcomes
@@ -71,38 +69,30 @@ pub record ReportsPackages (asked : Command) (only : ℕ) (tree : List Entry) (b
   pub missing : reply.counts.missing ≡ length (missing_of before (all_inputs plan))
   pub loads : reply.counts.loads ≡ loads_of before plan
   pub runs : reply.counts.runs ≡ runs_of before plan
-  pub text : report.text ≡ reply_text tree asked reply
-  pub found : report.found ≡ is_found reply
-  pub counts : report.counts ≡ reply.counts
-  pub changed : report.changed ≡ reply.changed
 
--- The report of a tree, over one cache and leaving another: where it is over a limit it knows neither, and the cache stays as it was.
-pub data Reports (asked : Command) (only : ℕ) (tree : List Entry) (before after : List Kept) (report : TreeReport) : Type 0 where
-  of_limit : ReportsLimit tree report → after ≡ before → Reports asked only tree before after report
-  of_packages : ReportsPackages asked only tree before after report → Reports asked only tree before after report
+-- The reply to a tree, over one cache and leaving another: where it is over a limit it knows neither, and the cache stays as it was.
+pub data Reports (asked : Command) (only : ℕ) (tree : List Entry) (before after : List Kept) (reply : Reply) : Type 0 where
+  of_limit : ReportsLimit tree reply → after ≡ before → Reports asked only tree before after reply
+  of_packages : ReportsPackages asked only tree before after reply → Reports asked only tree before after reply
 
--- What holds over any cache of a report that tells of packages: it is that of a reply to the command for the packages of a tree within the limits, and each
+-- What holds over any cache of a reply that tells of packages: it is one to the command for the packages of a tree within the limits, and each
 -- place in it stands in one of the files.
-pub record TellsPackages (asked : Command) (tree : List Entry) (report : TreeReport) : Type 0 where
+pub record TellsPackages (asked : Command) (tree : List Entry) (reply : Reply) : Type 0 where
   pub verdicts : List (Option FileVerdict)
   pub heads : List (Option Head)
   pub packages : List Package
   pub form : IsForm tree verdicts heads packages
   pub findings : List (List Diagnostic)
   pub facts : List (List (ℕ × List ℕ))
-  pub reply : Reply
   pub told : IsTold asked tree (all_lines packages findings) (all_facts packages facts) reply
   pub size : reply.packages ≡ length packages
   pub stand : All (StandsIn tree) reply.errors
   pub found_stand : All (FoundStands tree) reply.diagnostics
-  pub text : report.text ≡ reply_text tree asked reply
-  pub found : report.found ≡ is_found reply
-  pub changed : report.changed ≡ reply.changed
 
--- What holds of a report over any cache: it tells of packages, or of a limit, and then the cache, the loads and the runs stayed as they were.
-pub data IsSafe (asked : Command) (tree : List Entry) (before after : List Kept) (count now : Tally) (report : TreeReport) : Type 0 where
-  of_limit : ReportsLimit tree report → after ≡ before → now ≡ count → IsSafe asked tree before after count now report
-  of_packages : TellsPackages asked tree report → IsSafe asked tree before after count now report
+-- What holds of a reply over any cache: it tells of packages, or of a limit, and then the cache, the loads and the runs stayed as they were.
+pub data IsSafe (asked : Command) (tree : List Entry) (before after : List Kept) (count now : Tally) (reply : Reply) : Type 0 where
+  of_limit : ReportsLimit tree reply → after ≡ before → now ≡ count → IsSafe asked tree before after count now reply
+  of_packages : TellsPackages asked tree reply → IsSafe asked tree before after count now reply
 
 -- After want of memory, or a circle: no package was looked at, and nothing has changed; or the tree is within the limits, at most the missing nodes of its
 -- packages and the loads that they need were executed, and the cache has gained the entries of the first of them alone, within its limits.

@@ -1,5 +1,6 @@
 //! What was read of the files of a report, for the next report.
-ghost use Rattle.std.specs.Prelude.{◌≡◌, ◌≤◌, true, length, IfOk, IfSome};
+ghost use Rattle.std.specs.Prelude.{◌≡◌, ◌≤◌, ◌&&◌, length, IfOk, IfSome};
+ghost use Rattle.std.specs.Str.{bytes_eq};
 ghost use Rattle.tree_report.specs.Keeping.{IsHeard};
 ghost use Rattle.tree_report.specs.Telling.{IsTold};
 
@@ -31,15 +32,12 @@ pub fn nothing_heard(alloc: Global) -> Heard
 
 /// Whether this is the file of this path and of these bytes.
 fn is_file(file: &(Text, Bytes), path: &str, text: &[u8]) -> bool
-    ensures { result ≡ true → file.now ≡ (path.now, text.now) }
+    ensures { result ≡ (bytes_eq file.now.0 path.now && bytes_eq file.now.1 text.now) }
 {
     if file.0.as_str().as_bytes() != path.as_bytes() {
         return false;
     }
-    if file.1.as_slice() != text {
-        return false;
-    }
-    true
+    file.1.as_slice() == text
 }
 
 /// The first of these files, from this one on, whose path doesn't stand before this path; their count where there is none. Only speed rests

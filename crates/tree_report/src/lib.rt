@@ -9,7 +9,6 @@ mod limits;
 mod lines;
 mod marks;
 mod outcomes;
-mod print;
 mod read;
 mod run;
 mod states;
@@ -17,5 +16,4 @@ mod texts;
 
 pub use heard::{Heard, nothing_heard};
 pub use laws::{a_tree_that_is_read_has_a_report, each_mark_has_its_text, one_report_of_a_tree};
-pub use print::TreeReport;
 pub use run::report_on;

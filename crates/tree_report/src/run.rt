@@ -1,19 +1,20 @@
-//! The report of a tree.
-ghost use Rattle.std.specs.Prelude.{◌≡◌, ◌<◌, ◌≤◌, ◌+◌, ◌^◌, ℕ, All, true, Some, Err, length, slice_get, sum_by, IfOk, OnErr};
+//! The reply to a tree.
+ghost use Rattle.std.specs.Prelude.{◌≡◌, ◌<◌, ◌≤◌, ◌+◌, ◌^◌, ℕ, All, true, [], Some, Err, length, slice_get, sum_by, IfOk, OnErr};
+ghost use Rattle.analysis_core.specs.declared.command.Command.{Command as Asked};
 ghost use Rattle.fact_cache.specs.Caches.{is_within};
 ghost use Rattle.import_graph.specs.Packages.{paths_of};
+ghost use Rattle.report_text.specs.ReplyStanding.{ReplyStands};
 ghost use Rattle.import_graph.specs.Tables.{AreAscending};
 ghost use Rattle.gv_driver.specs.Tallies.{tally};
 ghost use Rattle.tree_findings.specs.Lines.{all_lines};
 ghost use Rattle.tree_findings.specs.Mending.{FoundFits};
-ghost use Rattle.tree_report.specs.Formed.{Holds, IsReplyOf, limit_reply};
+ghost use Rattle.tree_report.specs.Formed.{Holds, IsReplyOf};
 ghost use Rattle.tree_report.specs.Keeping.{IsHeard};
 ghost use Rattle.tree_report.specs.Limits.{IsFirstLimit};
-ghost use Rattle.tree_report.specs.Reports.{AreFilesOf, HasCircle, IsHonest, IsSafe, IsStopped, MetCircle, Reports, ReportsLimit, ReportsPackages, TellsPackages};
+ghost use Rattle.tree_report.specs.Reports.{AreFilesOf, HasCircle, IsHonest, IsSafe, IsStopped, MetCircle, Reports, ReportsLimit, ReportsPackages, TellsPackages, limit_reply};
 
 use crate::formed::{Formed, Known, heard_of, known_of};
 use crate::heard::Heard;
-use crate::print::{TreeReport, printed};
 use crate::states::{Found, error_lines};
 use crate::texts::{all_texts, shared_files};
 use action_graph::{Kit, Unloaded};
@@ -100,16 +101,17 @@ fn limit_reply(alloc: Global, limit: TreeLimit) -> Reply
     }
 }
 
-/// The report of a tree that is over this limit first.
-fn report_limit(alloc: Global, files: &Files, limit: TreeLimit) -> Result<TreeReport, NoMemory>
+/// The reply to a tree that is over this limit first.
+fn reply_over(alloc: Global, files: &Files, limit: TreeLimit) -> Reply
     requires { IsFirstLimit files.now limit }
-    ensures { IfOk result (ReportsLimit files.now) }
+    ensures limit { ReportsLimit files.now result }
+    ensures stands { (asked : Asked) → ReplyStands files.now asked result }
+    ensures changed { result.changed ≡ [] }
 {
-    let report = printed(alloc, files, Command::Check, limit_reply(alloc, limit))?;
-    Ok(report)
+    limit_reply(alloc, limit)
 }
 
-/// The report of a tree within the limits.
+/// The reply to a tree within the limits.
 fn report_formed<K: Kit>(
     alloc: Global,
     files: &Files,
@@ -117,18 +119,19 @@ fn report_formed<K: Kit>(
     formed: &Formed,
     cache: &mut Cache,
     kits: &mut [K],
-) -> Result<TreeReport, Unloaded>
+) -> Result<Reply, Unloaded>
     requires form { Holds files.now formed.now }
     requires some { 0 < length kits.old }
     requires loads { (k : ℕ) (kit : K) → slice_get kits.old k ≡ Some kit → K.loads kit ≤ 2 ^ 62 }
     requires runs { (k : ℕ) (kit : K) → slice_get kits.old k ≡ Some kit → K.runs kit ≤ 2 ^ 62 }
     ensures bound { sum_by K.loads kits.new + sum_by K.runs kits.new ≤ sum_by K.loads kits.old + sum_by K.runs kits.old + 16384 }
-    ensures changed { IfOk result (λ report. AreFilesOf files.now report.changed) }
+    ensures changed { IfOk result (λ reply. AreFilesOf files.now reply.changed) }
+    ensures stands { IfOk result (ReplyStands files.now options.command) }
     ensures safe { IfOk result (TellsPackages options.command files.now) }
     ensures told { IsHonest cache.old → IfOk result (ReportsPackages options.command options.only files.now cache.old cache.new) }
     ensures cut_off { IsHonest cache.old → OnErr result (IsStopped options.command options.only files.now cache.old cache.new (tally (sum_by K.loads kits.old) (sum_by K.runs kits.old)) (tally (sum_by K.loads kits.new) (sum_by K.runs kits.new))) }
-    ensures loads { IsHonest cache.old → IfOk result (λ report. sum_by K.loads kits.new ≡ sum_by K.loads kits.old + report.counts.loads) }
-    ensures runs { IsHonest cache.old → IfOk result (λ report. sum_by K.runs kits.new ≡ sum_by K.runs kits.old + report.counts.runs) }
+    ensures loads { IsHonest cache.old → IfOk result (λ reply. sum_by K.loads kits.new ≡ sum_by K.loads kits.old + reply.counts.loads) }
+    ensures runs { IsHonest cache.old → IfOk result (λ reply. sum_by K.runs kits.new ≡ sum_by K.runs kits.old + reply.counts.runs) }
     ensures circle { result ≡ Err Unloaded.Stuck → MetCircle files.now cache.old }
     ensures stuck { IsHonest cache.old → result ≡ Err Unloaded.Stuck → HasCircle files.now }
     ensures honest { IsHonest cache.old → IsHonest cache.new }
@@ -138,12 +141,11 @@ fn report_formed<K: Kit>(
     let tree = all_texts(alloc, files, &formed.packages)?;
     let ran = gv_driver::run(alloc, &tree, chosen_by(options), cache, kits)?;
     let reply = reply_of(alloc, files, options.command, formed, &ran)?;
-    let report = printed(alloc, files, options.command, reply)?;
-    Ok(report)
+    Ok(reply)
 }
 
 /// Reports on a tree as it is asked, with the first of the kits, and with what the cache has; what was executed is kept. Of a tree over a limit the first one is told, and
-/// nothing is looked up, executed or kept. Every tree is taken. Over any cache each place of the report stands in one of the files, and each file that is changed is one of them.
+/// nothing is looked up, executed or kept. Every tree is taken. Over any cache each place of the reply stands in one of the files, and each file that is changed is one of them.
 /// Where a package is stuck, since its rules go in a circle or what is seen of it can't be told, nothing is told of the tree. After that, as after want of memory, no more
 /// was executed than was missing or needed, and the cache has gained entries of what was missing alone. A cache within its limits stays there.
 /// What was read for the last report serves where a file is the same, and what was read for this one is left for the next.
@@ -154,19 +156,20 @@ pub fn report_on<K: Kit>(
     heard: &mut Heard,
     cache: &mut Cache,
     kits: &mut [K],
-) -> Result<TreeReport, Unloaded>
+) -> Result<Reply, Unloaded>
     requires kept { IsHeard heard.old }
     requires some { 0 < length kits.old }
     requires loads { (k : ℕ) (kit : K) → slice_get kits.old k ≡ Some kit → K.loads kit ≤ 2 ^ 62 }
     requires runs { (k : ℕ) (kit : K) → slice_get kits.old k ≡ Some kit → K.runs kit ≤ 2 ^ 62 }
     ensures kept { IsHeard heard.new }
     ensures bound { sum_by K.loads kits.new + sum_by K.runs kits.new ≤ sum_by K.loads kits.old + sum_by K.runs kits.old + 16384 }
-    ensures changed { IfOk result (λ report. AreFilesOf files.now report.changed) }
+    ensures changed { IfOk result (λ reply. AreFilesOf files.now reply.changed) }
+    ensures stands { IfOk result (ReplyStands files.now options.command) }
     ensures safe { IfOk result (IsSafe options.command files.now cache.old cache.new (tally (sum_by K.loads kits.old) (sum_by K.runs kits.old)) (tally (sum_by K.loads kits.new) (sum_by K.runs kits.new))) }
     ensures told { IsHonest cache.old → IfOk result (Reports options.command options.only files.now cache.old cache.new) }
     ensures cut_off { IsHonest cache.old → OnErr result (IsStopped options.command options.only files.now cache.old cache.new (tally (sum_by K.loads kits.old) (sum_by K.runs kits.old)) (tally (sum_by K.loads kits.new) (sum_by K.runs kits.new))) }
-    ensures loads { IsHonest cache.old → IfOk result (λ report. sum_by K.loads kits.new ≡ sum_by K.loads kits.old + report.counts.loads) }
-    ensures runs { IsHonest cache.old → IfOk result (λ report. sum_by K.runs kits.new ≡ sum_by K.runs kits.old + report.counts.runs) }
+    ensures loads { IsHonest cache.old → IfOk result (λ reply. sum_by K.loads kits.new ≡ sum_by K.loads kits.old + reply.counts.loads) }
+    ensures runs { IsHonest cache.old → IfOk result (λ reply. sum_by K.runs kits.new ≡ sum_by K.runs kits.old + reply.counts.runs) }
     ensures circle { result ≡ Err Unloaded.Stuck → MetCircle files.now cache.old }
     ensures stuck { IsHonest cache.old → result ≡ Err Unloaded.Stuck → HasCircle files.now }
     ensures honest { IsHonest cache.old → IsHonest cache.new }
@@ -174,15 +177,12 @@ pub fn report_on<K: Kit>(
 {
     let known = known_of(alloc, files, heard)?;
     match known {
-        Known::Over(limit) => {
-            let report = report_limit(alloc, files, limit)?;
-            Ok(report)
-        }
+        Known::Over(limit) => Ok(reply_over(alloc, files, limit)),
         Known::Of(formed) => {
             let shared = shared_files(alloc, files)?;
-            let report = report_formed(alloc, files, options, &formed, cache, kits)?;
+            let reply = report_formed(alloc, files, options, &formed, cache, kits)?;
             *heard = heard_of(shared, formed);
-            Ok(report)
+            Ok(reply)
         }
     }
 }

@@ -6,7 +6,7 @@ use Rattle.gv_driver.specs.Trees.{IsTree}
 use Rattle.analysis_core.specs.declared.reply.Counts.{Counts}
 use Rattle.fact_lines.specs.Lines.{all_facts}
 use Rattle.tree_findings.specs.Lines.{all_lines}
-use Rattle.tree_findings.specs.Telling.{AreFilesOf, chosen_by}
+use Rattle.tree_findings.specs.Telling.{chosen_by}
 use Rattle.tree_findings.proofs.ToldLemmas.{told-files, told-found, told-stands}
 use Rattle.tree_report.specs.Reports.{texts_of}
 use Rattle.tree_report.proofs.TreeLemmas.{is-tree, paths-rise}
@@ -39,22 +39,15 @@ returns-in_err-reply-clause-cut_off g c = λ honest.
     (c.deref-2.ensures.value ∙ (c.in_ok-tree.ensures ∙ ap (map (texts_of c.args.files.now)) c.deref.ensures.value)) (subst (λ k. Ran c.deref-2.result.now k c.args.cache.now c.run.new.cache (tally (sum_by g.K.Kit.loads c.args.kits.now) (sum_by g.K.Kit.runs c.args.kits.now)) (tally (sum_by g.K.Kit.loads c.run.new.kits) (sum_by g.K.Kit.runs c.run.new.kits)) c.in_ok-ran.ran) c.chosen_by.ensures (c.in_ok-ran.ensures.ran honest)) in
     on_any_err c.from_residual-in_err-reply.result h
 
-pub returns-in_err-report-clause-cut_off : goal.returns-in_err-report-clause-cut_off
-returns-in_err-report-clause-cut_off g c = λ honest.
-    let h = stopped-after c.args.options.command c.args.options.only c.args.files.now c.requires.form.0 c.args.formed.now.heads.items c.args.formed.now.packages.items c.deref-2.result.now c.args.cache.now c.run.new.cache (tally (sum_by g.K.Kit.loads c.args.kits.now) (sum_by g.K.Kit.runs c.args.kits.now)) (tally (sum_by g.K.Kit.loads c.run.new.kits) (sum_by g.K.Kit.runs c.run.new.kits)) c.in_ok-ran.ran c.requires.form.1.0
-    (c.deref-2.ensures.value ∙ (c.in_ok-tree.ensures ∙ ap (map (texts_of c.args.files.now)) c.deref.ensures.value)) (subst (λ k. Ran c.deref-2.result.now k c.args.cache.now c.run.new.cache (tally (sum_by g.K.Kit.loads c.args.kits.now) (sum_by g.K.Kit.runs c.args.kits.now)) (tally (sum_by g.K.Kit.loads c.run.new.kits) (sum_by g.K.Kit.runs c.run.new.kits)) c.in_ok-ran.ran) c.chosen_by.ensures (c.in_ok-ran.ensures.ran honest)) in
-    on_any_err c.from_residual-in_err-report.result h
-
-pub printed-requires : goal.printed-requires
-printed-requires g c =
+pub returns-clause-stands : goal.returns-clause-stands
+returns-clause-stands g c =
     told-stands c.args.options.command c.args.files.now (all_lines c.args.formed.now.packages.items c.in_ok-ran.ran.found) (all_facts c.args.formed.now.packages.items c.in_ok-ran.ran.facts) c.in_ok-reply.reply c.in_ok-reply.ensures.told
     (subst (All (StandsIn c.args.files.now)) (sym (c.in_ok-reply.ensures.errors ∙ told_same c.args.formed.now.heads.items c.requires.form.0 c.args.formed.now.packages.items c.in_ok-ran.ran.verdicts c.args.formed.now.refusals.items c.requires.form.1.1))
     (error-lines-stand c.args.files.now c.requires.form.0 c.args.formed.now.heads.items c.args.formed.now.packages.items c.in_ok-ran.ran.verdicts c.requires.form.1.0 (subst (λ l. AreVerdictsIn l c.in_ok-ran.ran.verdicts) (c.deref-2.ensures.value ∙ (c.in_ok-tree.ensures ∙ ap (map (texts_of c.args.files.now)) c.deref.ensures.value)) c.in_ok-ran.ensures.stand)))
     (found-lines-stand c.args.files.now c.requires.form.0 c.args.formed.now.heads.items c.args.formed.now.packages.items c.in_ok-ran.ran.found c.requires.form.1.0 (subst (λ l. AreFoundIn l c.in_ok-ran.ran.found) (c.deref-2.ensures.value ∙ (c.in_ok-tree.ensures ∙ ap (map (texts_of c.args.files.now)) c.deref.ensures.value)) c.in_ok-ran.ensures.found))
 
 pub returns-clause-changed : goal.returns-clause-changed
-returns-clause-changed g c = subst (AreFilesOf c.args.files.now) (sym c.in_ok-report.ensures.changed)
-    (told-files c.args.options.command c.args.files.now (all_lines c.args.formed.now.packages.items c.in_ok-ran.ran.found) (all_facts c.args.formed.now.packages.items c.in_ok-ran.ran.facts) c.in_ok-reply.reply c.in_ok-reply.ensures.told)
+returns-clause-changed g c = told-files c.args.options.command c.args.files.now (all_lines c.args.formed.now.packages.items c.in_ok-ran.ran.found) (all_facts c.args.formed.now.packages.items c.in_ok-ran.ran.facts) c.in_ok-reply.reply c.in_ok-reply.ensures.told
 
 pub returns-clause-safe : goal.returns-clause-safe
 returns-clause-safe g c = record {
@@ -64,15 +57,11 @@ returns-clause-safe g c = record {
   form = c.requires.form.1.0;
   findings = c.in_ok-ran.ran.found;
   facts = c.in_ok-ran.ran.facts;
-  reply = c.in_ok-reply.reply;
   told = c.in_ok-reply.ensures.told;
   size = c.in_ok-reply.ensures.size;
   stand = (subst (All (StandsIn c.args.files.now)) (sym (c.in_ok-reply.ensures.errors ∙ told_same c.args.formed.now.heads.items c.requires.form.0 c.args.formed.now.packages.items c.in_ok-ran.ran.verdicts c.args.formed.now.refusals.items c.requires.form.1.1))
       (error-lines-stand c.args.files.now c.requires.form.0 c.args.formed.now.heads.items c.args.formed.now.packages.items c.in_ok-ran.ran.verdicts c.requires.form.1.0 (subst (λ l. AreVerdictsIn l c.in_ok-ran.ran.verdicts) (c.deref-2.ensures.value ∙ (c.in_ok-tree.ensures ∙ ap (map (texts_of c.args.files.now)) c.deref.ensures.value)) c.in_ok-ran.ensures.stand)));
   found_stand = told-found c.args.options.command c.args.files.now (all_lines c.args.formed.now.packages.items c.in_ok-ran.ran.found) (all_facts c.args.formed.now.packages.items c.in_ok-ran.ran.facts) c.in_ok-reply.reply c.in_ok-reply.ensures.told (found-lines-stand c.args.files.now c.requires.form.0 c.args.formed.now.heads.items c.args.formed.now.packages.items c.in_ok-ran.ran.found c.requires.form.1.0 (subst (λ l. AreFoundIn l c.in_ok-ran.ran.found) (c.deref-2.ensures.value ∙ (c.in_ok-tree.ensures ∙ ap (map (texts_of c.args.files.now)) c.deref.ensures.value)) c.in_ok-ran.ensures.found));
-  text = c.in_ok-report.ensures.text;
-  found = c.in_ok-report.ensures.found;
-  changed = c.in_ok-report.ensures.changed;
 }
 
 pub returns-clause-told : goal.returns-clause-told
@@ -93,7 +82,6 @@ returns-clause-told g c = λ honest.
       plan = ran.plan;
       is_plan = ran.is_plan;
       cache = ran.cache;
-      reply = c.in_ok-reply.reply;
       told = c.in_ok-reply.ensures.told;
       size = c.in_ok-reply.ensures.size;
       errors = c.in_ok-reply.ensures.errors ∙ told_same c.args.formed.now.heads.items c.requires.form.0 c.args.formed.now.packages.items c.in_ok-ran.ran.verdicts c.args.formed.now.refusals.items c.requires.form.1.1;
@@ -101,8 +89,4 @@ returns-clause-told g c = λ honest.
       missing = ap (λ (n : Counts). n.missing) c.in_ok-reply.ensures.counts ∙ ran.missing;
       loads = ap (λ (n : Counts). n.loads) c.in_ok-reply.ensures.counts ∙ ran.loads;
       runs = ap (λ (n : Counts). n.runs) c.in_ok-reply.ensures.counts ∙ ran.runs;
-      text = c.in_ok-report.ensures.text;
-      found = c.in_ok-report.ensures.found;
-      counts = c.in_ok-report.ensures.counts;
-      changed = c.in_ok-report.ensures.changed;
     }

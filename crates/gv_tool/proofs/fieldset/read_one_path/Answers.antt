@@ -1,5 +1,0 @@
-use Rattle.gv_tool.proofs.FileLaws.{path-part}
-use Rattle.gv_tool.proofs.fieldset.read_one_path.Goals as goal
-
-pub returns-in-Part : goal.returns-in-Part
-returns-in-Part c = path-part c.args.bytes.now c.in-Part.ensures

@@ -1,7 +1,0 @@
-use Rattle.std.proofs.Common.{◌≡◌, take}
-use Rattle.gv_tool.specs.declared.path.Segment.TheVariants.{Empty}
-use Rattle.gv_tool.specs.Segments.{segment_after}
-use Rattle.gv_tool.proofs.path.last_segment.Given as goal
-
-abbrev pub invariant-loop-byte : goal.invariant-loop-byte
-invariant-loop-byte l = l.segment ≡ segment_after Empty (take l.byte-index l.bytes)

@@ -1,7 +1,0 @@
-use Rattle.std.proofs.Common.{◌<◌, arith}
-use Rattle.gv_tool.specs.Words.{number_of}
-use Rattle.gv_tool.proofs.WordLaws.{number_of-below}
-use Rattle.gv_tool.proofs.script.find_word.Goals as goal
-
-pub returns : goal.returns
-returns c = λ word more after e. c.loop-number.invariant word (let h : number_of word < 9 = number_of-below word in let n = c.loop-number-test.false in omega arith) more after e

@@ -1,0 +1,16 @@
+pub mod RunsLaws
+pub mod KeepLaws
+pub mod CourseLaws
+pub mod DueLaws
+pub mod OutLaws
+pub mod Steps
+pub mod TurnLaws
+pub mod BeginLaws
+pub mod DeskLaws
+pub mod HeadlineLaws
+pub mod FolderLaws
+pub mod SingleLaws
+pub mod RunDueLaws
+pub mod RunHeadlineLaws
+pub mod CallLaws
+pub mod ExistLaws

@@ -1,0 +1,12 @@
+pub mod Standing
+pub mod Deeds
+pub mod Ends
+pub mod Outcome
+pub mod Due
+pub mod Desk
+pub mod Turn
+pub mod Headline
+pub mod Single
+pub mod RunHeadline
+pub mod Calls
+pub mod Existence

@@ -1,0 +1,99 @@
+//! A single run over a tree outside.
+ghost use Rattle.std.specs.Prelude.{◌≡◌, ◌≢◌, ◌+◌, ◌<◌, ◌≤◌, ◌^◌, length, sum_by};
+ghost use Rattle.folder.specs.Folders.{AreAtPaths, OnlyWhereRose};
+ghost use Rattle.top_calls.specs.Headline.{keeper_faults};
+ghost use Rattle.top_calls.specs.Single.{RunsOn, SingleRuns};
+ghost use Rattle.tree_runs.specs.Reports.{work};
+
+use crate::desk::task_of;
+use crate::folders::{read_files, write_changed};
+use crate::keep::{keep, open};
+use crate::lines::say;
+use crate::options::ToolOptions;
+use crate::stop::{Cut, Stop};
+use crate::top::greeting;
+use action_graph::{Kit, Unloaded};
+use analysis_core::Command as Kind;
+use fact_cache::{Cache, Key};
+use gv_base::{Files, Keeper, Sink, Tree};
+use scripts::Halt;
+use std::alloc::Global;
+use tree_runs::{nothing_heard, one_report_of_a_tree, run};
+
+/// Runs over files that were read: writes the changed files, then the reply, and then stores the cache.
+pub(crate) fn run_on<T: Tree, K: Keeper, O: Sink, W: Kit>(
+    alloc: Global,
+    options: &ToolOptions,
+    kind: Kind,
+    files: &Files,
+    cache: &mut Cache,
+    tree: &mut T,
+    keeper: &mut K,
+    output: &mut O,
+    kits: &mut [W],
+) -> Stop
+    requires some { 0 < length kits.old }
+    requires room { sum_by W.loads kits.old + sum_by W.runs kits.old ≤ 2 ^ 61 }
+    requires paths { AreAtPaths files.now }
+    ensures runs_on { RunsOn options.now kind (O.view output.old) (O.view output.new) (T.view tree.old).files (T.view tree.new).files (K.view keeper.old).kept (K.view keeper.new).kept (work (sum_by W.loads kits.old) (sum_by W.runs kits.old)) (work (sum_by W.loads kits.new) (sum_by W.runs kits.new)) files.now cache.old result }
+    ensures tree_fault { OnlyWhereRose (T.view tree.old).faults (T.view tree.new).faults (result ≡ Stop.Broken Cut.Tree) }
+    ensures keeper_fault { OnlyWhereRose (keeper_faults (K.view keeper.old)) (keeper_faults (K.view keeper.new)) (result ≡ Stop.Broken Cut.Keeper) }
+    ensures sink_fault { OnlyWhereRose (O.view output.old).faults (O.view output.new).faults (result ≡ Stop.Broken Cut.Sink) }
+    ensures stalled { OnlyWhereRose (O.view output.old).stalls (O.view output.new).stalls (result ≡ Stop.Broken Cut.Stalled) }
+    ensures not_source { result ≢ Stop.Broken Cut.Source }
+{
+    one_report_of_a_tree();
+    let task = task_of(options, kind);
+    let mut heard = nothing_heard(alloc);
+    match run(alloc, files, task, &mut heard, cache, kits) {
+        Err(Unloaded::NoMemory) => Stop::Broken(Cut::Memory),
+        Err(Unloaded::Stuck) => Stop::Broken(Cut::Circle),
+        Ok(report) => match write_changed(tree, report.changed.as_slice()) {
+            Err(cut) => Stop::Broken(cut),
+            Ok(()) => match say(report.text.as_slice(), output) {
+                Err(cut) => Stop::Broken(cut),
+                Ok(()) => match keep(cache, keeper) {
+                    Err(cut) => Stop::Broken(cut),
+                    Ok(()) => Stop::Halted(Halt::Ended, report.found),
+                },
+            },
+        },
+    }
+}
+
+/// One run over the tree, with the cache that the keeper has. The cache is of this key, on which no answer depends.
+pub fn single<T: Tree, K: Keeper, O: Sink, W: Kit>(
+    alloc: Global,
+    key: Key,
+    options: &ToolOptions,
+    kind: Kind,
+    tree: &mut T,
+    keeper: &mut K,
+    output: &mut O,
+    kits: &mut [W],
+) -> Stop
+    requires some { 0 < length kits.old }
+    requires room { sum_by W.loads kits.old + sum_by W.runs kits.old ≤ 2 ^ 61 }
+    ensures runs { SingleRuns options.now kind (O.view output.old) (O.view output.new) (T.view tree.old).files (T.view tree.new).files (K.view keeper.old).kept (K.view keeper.new).kept (work (sum_by W.loads kits.old) (sum_by W.runs kits.old)) (work (sum_by W.loads kits.new) (sum_by W.runs kits.new)) result }
+    ensures tree_fault { OnlyWhereRose (T.view tree.old).faults (T.view tree.new).faults (result ≡ Stop.Broken Cut.Tree) }
+    ensures keeper_fault { OnlyWhereRose (keeper_faults (K.view keeper.old)) (keeper_faults (K.view keeper.new)) (result ≡ Stop.Broken Cut.Keeper) }
+    ensures sink_fault { OnlyWhereRose (O.view output.old).faults (O.view output.new).faults (result ≡ Stop.Broken Cut.Sink) }
+    ensures stalled { OnlyWhereRose (O.view output.old).stalls (O.view output.new).stalls (result ≡ Stop.Broken Cut.Stalled) }
+    ensures not_source { result ≢ Stop.Broken Cut.Source }
+{
+    match open(alloc, key, keeper) {
+        Err(cut) => Stop::Broken(cut),
+        Ok(opening) => match say(greeting(opening.ignored), output) {
+            Err(cut) => Stop::Broken(cut),
+            Ok(()) => match read_files(alloc, tree) {
+                Err(cut) => Stop::Broken(cut),
+                Ok(files) => {
+                    let mut cache = opening.cache;
+                    run_on(
+                        alloc, options, kind, &files, &mut cache, tree, keeper, output, kits,
+                    )
+                }
+            },
+        },
+    }
+}

@@ -1,0 +1,10 @@
+pub mod ReportLaws
+pub mod SpendLaws
+pub mod PathLaws
+pub mod CacheLaws
+pub mod CutLaws
+pub mod ReadingLaws
+pub mod JsonLaws
+pub mod KeepLaws
+pub mod ExistenceLaws
+pub mod CutReports

@@ -1,0 +1,3 @@
+pub mod Reports
+pub mod Cutting
+pub mod Existence
