@@ -35,4 +35,5 @@ END
 imports=$(grep -rhoE '^(import )?[[:space:]]*"[a-z0-9/]+"$' --include='*.go' "$out" | tr -d '"' | sed -E 's/^import//' | tr -d '[:blank:]' | sort -u)
 module=$(cd "$out" && find . -name '*.go' -not -path './std/*' | sed -E 's|^\./|go/|; s|/[^/]*$||' | sort -u)
 cd "$here"
-go run . "$out" $(comm -23 <(echo "$imports") <(echo "$module"))
+mapfile -t stubs < <(comm -23 <(echo "$imports") <(echo "$module"))
+go run . packages "$out" "${stubs[@]}"

@@ -1,3 +1,0 @@
-module std_stubs
-
-go 1.19

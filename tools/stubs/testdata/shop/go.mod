@@ -1,0 +1,5 @@
+module example.com/shop
+
+go 1.17
+
+require example.org/errs v1.0.0
