@@ -7,3 +7,4 @@ pub mod MeetLemmas
 pub mod ToldLemmas
 pub mod NeverLemmas
 pub mod WrapLemmas
+pub use Rattle.own_functions.proofs.NameLemmas as FunctionNames

@@ -8,10 +8,10 @@ use Rattle.typed_marks.specs.declared.item.Item.{Item}
 use Rattle.typed_marks.specs.Meanings.{Meaning}
 use Rattle.unit_read.specs.Units.{Unit}
 use Rattle.package_faces.specs.Faces.{Face}
-use Rattle.vet_never.specs.Listed.{listed_in}
-use Rattle.vet_never.specs.Never.{Around, bodies_in, IsAround, spelling, kinds, IsNeverText}
-use Rattle.vet_suite.specs.Suite.{FactsBy}
-use Rattle.action_graph.specs.Judging.Judged.{Accepts}
+use Rattle.known_callees.specs.Listed.{listed_in}
+use Rattle.known_callees.specs.Never.{Around, bodies_in, IsAround, spelling, kinds, IsNeverText}
+use Rattle.gv_driver.specs.Suite.{FactsBy}
+use Rattle.gv_driver.specs.Judging.Judged.{Accepts}
 use Rattle.gv_driver.specs.declared.tree.PackageTexts.{PackageTexts}
 use Rattle.gv_driver.specs.Facts.{HasFacts}
 use Rattle.gv_driver.specs.Trees.{IsTree}

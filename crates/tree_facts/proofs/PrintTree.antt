@@ -5,14 +5,14 @@ use Rattle.fact_codec.specs.Kinds.{wraps_spelling}
 use Rattle.handed_facts.specs.Handed.{Named, entry}
 use Rattle.least.specs.Least.{IsClosed, IsLeast, IsMonotone}
 use Rattle.least.specs.Tables.{Member, member}
-use Rattle.own_functions.proofs.NameLemmas.{both_true, same_number}
+use Rattle.known_callees.proofs.FunctionNames.{both_true, same_number}
 use Rattle.typed_marks.specs.declared.item.Item.{Item}
 use Rattle.typed_marks.specs.Meanings.{Meaning}
 use Rattle.unit_read.specs.Units.{Unit}
 use Rattle.package_faces.specs.Faces.{Face}
-use Rattle.vet_printf.specs.Wraps.{number_of, kinds_of, IsWrapsText}
-use Rattle.vet_suite.specs.Suite.{FactsBy}
-use Rattle.action_graph.specs.Judging.Judged.{Accepts}
+use Rattle.known_callees.specs.Wraps.{number_of, kinds_of, IsWrapsText}
+use Rattle.gv_driver.specs.Suite.{FactsBy}
+use Rattle.gv_driver.specs.Judging.Judged.{Accepts}
 use Rattle.gv_driver.specs.declared.tree.PackageTexts.{PackageTexts}
 use Rattle.gv_driver.specs.Facts.{HasFacts}
 use Rattle.gv_driver.specs.Trees.{IsTree}

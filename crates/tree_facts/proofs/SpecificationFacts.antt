@@ -4,13 +4,13 @@ use Rattle.std.specs.Str.{bytes_eq}
 use Rattle.fact_codec.specs.declared.wraps.WrapKind.{WrapKind}
 use Rattle.least.specs.Least.{IsClosed}
 use Rattle.least.specs.Tables.{Member, member}
-use Rattle.own_functions.proofs.NameLemmas.{both_true, bytes_same, same_bytes, same_number}
-use Rattle.own_functions.specs.Functions.{declared_at}
+use Rattle.known_callees.proofs.FunctionNames.{both_true, bytes_same, same_bytes, same_number}
+use Rattle.known_callees.specs.Functions.{declared_at}
 use Rattle.typed_marks.specs.declared.item.Item.{Item}
 use Rattle.typed_marks.specs.Meanings.{Meaning}
 use Rattle.unit_read.specs.Units.{Unit}
-use Rattle.vet_printf.specs.Forwards.{Forwards, listed_in}
-use Rattle.vet_printf.specs.Wraps.{number_of}
+use Rattle.known_callees.specs.Forwards.{Forwards, listed_in}
+use Rattle.known_callees.specs.Wraps.{number_of}
 use Rattle.gv_driver.specs.declared.tree.PackageTexts.{PackageTexts}
 use Rattle.known_callees.proofs.Words.{no_some}
 use Rattle.tree_facts.specs.Accepted.{IsAccepted}

@@ -3,7 +3,7 @@ use Rattle.std.proofs.Common.{◌≡◌, ℕ, Bool, true, List, Option, Some, No
 use Rattle.std.specs.List.{Contains}
 use Rattle.handed_facts.specs.Handed.{Named}
 use Rattle.least.specs.Tables.{Member}
-use Rattle.own_functions.proofs.NameLemmas.{mapped_there, place_there}
+use Rattle.known_callees.proofs.FunctionNames.{mapped_there, place_there}
 use Rattle.go_tree.specs.Lexeme.{place_of}
 use Rattle.typed_marks.specs.declared.item.Item.{Item}
 use Rattle.typed_marks.specs.Meanings.{Meaning}
@@ -11,11 +11,11 @@ use Rattle.unit_read.specs.Imports.{paths_of}
 use Rattle.unit_read.specs.Units.{Unit}
 use Rattle.package_faces.specs.Faces.{Face}
 use Rattle.package_faces.specs.Declaring.{path_of}
-use Rattle.vet_suite.specs.Suite.{FactsBy}
-use Rattle.check_pkg.specs.Packages.{Package}
-use Rattle.action_graph.specs.Analyzing.{Analyzes, IsAnalyzed}
-use Rattle.action_graph.specs.Judging.{Env, IsPackageOf}
-use Rattle.action_graph.specs.Judging.Judged.{Accepts}
+use Rattle.gv_driver.specs.Suite.{FactsBy}
+use Rattle.gv_driver.specs.Packages.{Package}
+use Rattle.gv_driver.specs.Analyzing.{Analyzes, IsAnalyzed}
+use Rattle.gv_driver.specs.Judging.{Env, IsPackageOf}
+use Rattle.gv_driver.specs.Judging.Judged.{Accepts}
 use Rattle.gv_driver.specs.declared.tree.PackageTexts.{PackageTexts}
 use Rattle.gv_driver.specs.Facts.{AreBeside, Gives, HasFacts}
 use Rattle.gv_driver.specs.Facts.HasFacts.{facts_over}

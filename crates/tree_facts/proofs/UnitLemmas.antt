@@ -7,11 +7,11 @@ use Rattle.typed_marks.specs.Meanings.{Meaning}
 use Rattle.unit_read.specs.Units.{Unit}
 use Rattle.elaborate.specs.Walks.{item_rule}
 use Rattle.type_answers.specs.Answering.{says_of}
-use Rattle.go_rules.specs.Stages.{rule}
-use Rattle.check_pkg.specs.Packages.{Package, IsUnit}
-use Rattle.check_pkg.proofs.OneUnit.{the_unit}
-use Rattle.action_graph.specs.Judging.{Env, IsPackageOf}
-use Rattle.action_graph.proofs.OneFinding.{one-package, package-spelled}
+use Rattle.gv_driver.specs.Stages.{rule}
+use Rattle.gv_driver.specs.Packages.{Package, IsUnit}
+use Rattle.gv_driver.proofs.OneUnit.{the_unit}
+use Rattle.gv_driver.specs.Judging.{Env, IsPackageOf}
+use Rattle.gv_driver.proofs.OneFinding.{one-package, package-spelled}
 use Rattle.gv_driver.specs.declared.tree.PackageTexts.{PackageTexts}
 use Rattle.gv_driver.specs.Trees.{IsTree}
 use Rattle.gv_driver.proofs.WholeLaws.{one-env, same-number, same_pack}

@@ -6,7 +6,7 @@ use Rattle.go_tree.specs.Lexeme.{place_of}
 use Rattle.handed_facts.specs.Handed.{Named, path_in, entry, entries_of}
 use Rattle.least.specs.Least.{IsClosed, IsLeast, IsMonotone, IsWithin}
 use Rattle.least.specs.Tables.{Member, member}
-use Rattle.own_functions.proofs.NameLemmas.{both_true, mapped_there, place_none, place_there}
+use Rattle.known_callees.proofs.FunctionNames.{both_true, mapped_there, place_none, place_there}
 use Rattle.typed_marks.specs.declared.item.Item.{Item}
 use Rattle.typed_marks.specs.Meanings.{Meaning}
 use Rattle.unit_read.specs.Units.{Unit}

@@ -6,12 +6,12 @@ use Rattle.typed_marks.specs.declared.item.Item.{Item}
 use Rattle.typed_marks.specs.Meanings.{Meaning}
 use Rattle.type_answers.specs.Answering.{says_of}
 use Rattle.elaborate.specs.Walks.{item_rule}
-use Rattle.go_rules.specs.Stages.{rule}
+use Rattle.gv_driver.specs.Stages.{rule}
 use Rattle.unit_read.specs.Units.{Unit}
 use Rattle.package_faces.specs.Faces.{Face}
-use Rattle.check_pkg.specs.Packages.{Package, IsUnit}
-use Rattle.action_graph.specs.Judging.{Env, IsPackageOf}
-use Rattle.action_graph.specs.Judging.Judged.{Accepts}
+use Rattle.gv_driver.specs.Packages.{Package, IsUnit}
+use Rattle.gv_driver.specs.Judging.{Env, IsPackageOf}
+use Rattle.gv_driver.specs.Judging.Judged.{Accepts}
 use Rattle.gv_driver.specs.declared.tree.PackageTexts.{PackageTexts}
 use Rattle.gv_driver.specs.Facts.{HasFacts}
 use Rattle.gv_driver.specs.Whole.{Checked, HasEnv}

@@ -7,8 +7,8 @@ use Rattle.handed_facts.specs.Handed.{Named, Facts}
 use Rattle.least.specs.Least.{IsClosed, IsLeast}
 use Rattle.least.specs.Tables.{Member, member}
 use Rattle.never_returns.specs.Admits.{Admits}
-use Rattle.vet_never.specs.Listed.{listed_in}
-use Rattle.vet_never.specs.Never.{Around, bodies_in, IsAround, spelling, fact_name}
+use Rattle.known_callees.specs.Listed.{listed_in}
+use Rattle.known_callees.specs.Never.{Around, bodies_in, IsAround, spelling, fact_name}
 use Rattle.typed_marks.specs.declared.item.Item.{Item}
 use Rattle.typed_marks.specs.Meanings.{Meaning}
 use Rattle.unit_read.specs.Units.{Unit}

@@ -7,10 +7,10 @@ use Rattle.fact_codec.specs.Texts.{AreFacts}
 use Rattle.handed_facts.specs.Handed.{Named, Facts}
 use Rattle.least.specs.Least.{IsClosed, IsLeast}
 use Rattle.least.specs.Tables.{Member, member}
-use Rattle.own_functions.specs.Functions.{declared_at}
-use Rattle.vet_printf.specs.Forwards.{Forwards, listed_in}
-use Rattle.vet_printf.specs.Wrappers.{Admits}
-use Rattle.vet_printf.specs.Wraps.{number_of, HasFact}
+use Rattle.known_callees.specs.Functions.{declared_at}
+use Rattle.known_callees.specs.Forwards.{Forwards, listed_in}
+use Rattle.known_callees.specs.Wrappers.{Admits}
+use Rattle.known_callees.specs.Wraps.{number_of, HasFact}
 use Rattle.typed_marks.specs.declared.item.Item.{Item}
 use Rattle.typed_marks.specs.Meanings.{Meaning}
 use Rattle.unit_read.specs.Units.{Unit}

@@ -1,6 +1,6 @@
 //! Laws of facts over a tree. Their bodies are empty: the contracts are the laws.
 ghost use Rattle.std.specs.Prelude.{◌≡◌, ℕ, Bool, Some, true, List, slice_get};
-ghost use Rattle.action_graph.specs.Judging.Judged.{Accepts};
+ghost use Rattle.gv_driver.specs.Judging.Judged.{Accepts};
 ghost use Rattle.fact_codec.specs.declared.wraps.WrapKind.{WrapKind as AWrapKind};
 ghost use Rattle.gv_driver.specs.declared.tree.PackageTexts.{PackageTexts};
 ghost use Rattle.gv_driver.specs.Facts.{HasFacts};
