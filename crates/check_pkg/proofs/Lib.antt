@@ -15,6 +15,7 @@ pub mod LateLemmas
 pub mod BodyLemmas
 pub mod PackageLemmas
 pub mod TypedLaws
+pub mod ElsewhereLemmas
 pub mod ReadLemmas
 pub mod StandLemmas
 pub mod Uniqueness

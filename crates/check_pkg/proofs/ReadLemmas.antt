@@ -26,6 +26,7 @@ use Rattle.unit_rows.proofs.CyclicLemmas.{marks_cyclic}
 use Rattle.unit_rows.proofs.ListLemmas.{got}
 use Rattle.unit_rows.proofs.ReadLemmas.{none_past}
 use Rattle.std.proofs.lemmas.Option.{slice_get_within, slice_get_past}
+use Rattle.check_pkg.specs.Elsewhere.{struct_elsewhere}
 use Rattle.check_pkg.specs.Packages.{AreNeeds}
 use Rattle.check_pkg.specs.Readings.{IsUnitOf}
 
@@ -68,11 +69,11 @@ module _ (w : World) (trees : List FileTree) (rows : List (Vec (Option NodeRef))
 
 -- ---- needs
 
-abbrev order_of : (uses : List (NodeRef × Object)) (trees : List FileTree) (order : List Needed) (owners : List (Vec (Option NodeRef))) → AreNeedsOf uses trees order owners → IsOrderOf uses trees order
-order_of uses trees order owners of = record { rows = of.rows; names = of.names; world = of.world; «is» = of.is; ordered = of.ordered }
+abbrev order_of : (uses : List (NodeRef × Object)) (trees : List FileTree) (elsewhere : NodeRef → Bool) (order : List Needed) (owners : List (Vec (Option NodeRef))) → AreNeedsOf uses trees elsewhere order owners → IsOrderOf uses trees elsewhere order
+order_of uses trees elsewhere order owners of = record { rows = of.rows; names = of.names; world = of.world; «is» = of.is; ordered = of.ordered }
 
 -- the names that an order of need marks are those that need themselves
-are_needs : (u : Unit) (order : List Needed) (owners : List (Vec (Option NodeRef))) → AreNeedsOf u.uses u.trees order owners → ((at : NodeRef) → u.cyclic at ≡ is_cyclic u.trees order at)
+are_needs : (u : Unit) (order : List Needed) (owners : List (Vec (Option NodeRef))) → AreNeedsOf u.uses u.trees (struct_elsewhere u) order owners → ((at : NodeRef) → u.cyclic at ≡ is_cyclic u.trees order at)
     → ((at : NodeRef) → u.owner at ≡ cell owners at) → AreNeeds u
 are_needs u order owners of flags own = record {
   rows = of.rows;
@@ -85,11 +86,11 @@ are_needs u order owners of flags own = record {
   unowned = λ at none. own at ∙ unowned_row of.names u.trees owners of.owned at (slice_get owners at.file) refl none;
 } where
   marks_of : (at : NodeRef) (node : Node) → slice_get (nodes_of (slice_get u.trees at.file)) at.node ≡ Some node → IsTrue (is_cyclic u.trees order at) ↔ (IsNamed (declared u.trees of.rows) at × Leads (NeedsOf of.world) at at)
-  marks_of at node there = marks_cyclic u.uses u.trees order (order_of u.uses u.trees order owners of) at node there
+  marks_of at node there = marks_cyclic u.uses u.trees (struct_elsewhere u) order (order_of u.uses u.trees (struct_elsewhere u) order owners of) at node there
 
 pub is_unit_of : (path : List ℕ) (texts : List (List ℕ)) (trees : List FileTree) (uses : List (NodeRef × Object)) (env : List Face) (bare u : Unit) (before after later redeclared cyclic circular : List (Vec Bool)) (order : List Needed)
     (owners : List (Vec (Option NodeRef))) → bare ≡ package_unit path texts trees uses env before after later owners → u ≡ with_flags bare redeclared cyclic circular → AreAgain bare (flag redeclared)
-    → AreNeedsOf uses trees order owners → ((at : NodeRef) → flag cyclic at ≡ is_cyclic trees order at) → AreCircular bare (flag circular) → IsUnitOf path texts trees uses env u
+    → AreNeedsOf uses trees (struct_elsewhere bare) order owners → ((at : NodeRef) → flag cyclic at ≡ is_cyclic trees order at) → AreCircular bare (flag circular) → IsUnitOf path texts trees uses env u
 is_unit_of path texts trees uses env bare u before after later redeclared cyclic circular order owners bare_is u_is again of needs turn =
     subst (λ (x : Unit). IsUnitOf path texts trees uses env x) (sym (u_is ∙ ap (λ (x : Unit). with_flags x redeclared cyclic circular) bare_is)) record {
       path = refl;
@@ -98,6 +99,20 @@ is_unit_of path texts trees uses env bare u before after later redeclared cyclic
       uses = refl;
       env = refl;
       redeclared = (let here = subst (λ (x : Unit). AreAgain x (flag redeclared)) bare_is again in record { rows = here.rows; names = here.names; each = here.each });
-      needs = are_needs (package_unit path texts trees uses env redeclared cyclic circular owners) order owners of needs (λ at. refl);
+      needs = are_needs (package_unit path texts trees uses env redeclared cyclic circular owners) order owners (subst (λ (x : Unit). AreNeedsOf uses trees (struct_elsewhere x) order owners) bare_is of) needs (λ at. refl);
       circular = (let turned = subst (λ (x : Unit). AreCircular x (flag circular)) bare_is turn in record { each = turned.each; others = turned.others });
     }
+
+-- ---- a package that was read without flags
+
+pub seen_needs : (seen : Unit) (trees : List FileTree) (uses : List (NodeRef × Object)) (elsewhere : NodeRef → Bool) (order slice : List Needed) (owners : List (Vec (Option NodeRef))) → seen.trees ≡ trees → seen.uses ≡ uses
+    → elsewhere ≡ struct_elsewhere seen → slice ≡ order → AreNeedsOf uses trees elsewhere order owners → AreNeedsOf seen.uses seen.trees (struct_elsewhere seen) slice owners
+seen_needs seen trees uses elsewhere order slice owners trees_are uses_are flags listed needs =
+    subst (λ (list : List Needed). AreNeedsOf seen.uses seen.trees (struct_elsewhere seen) list owners) (sym listed)
+    (subst (λ (f : NodeRef → Bool). AreNeedsOf seen.uses seen.trees f order owners) flags
+    (subst (λ (us : List (NodeRef × Object)). AreNeedsOf us seen.trees elsewhere order owners) (sym uses_are)
+    (subst (λ (ts : List FileTree). AreNeedsOf uses ts elsewhere order owners) (sym trees_are) needs)))
+
+pub seen_of : (seen u : Unit) (path : List ℕ) (texts : List (List ℕ)) (trees : List FileTree) (uses : List (NodeRef × Object)) (env : List Face) → seen ≡ package_unit path texts trees uses env [] [] [] []
+    → IsUnitOf seen.path seen.texts seen.trees seen.uses seen.env u → IsUnitOf path texts trees uses env u
+seen_of seen u path texts trees uses env is of = subst (λ (x : Unit). IsUnitOf x.path x.texts x.trees x.uses x.env u) is of

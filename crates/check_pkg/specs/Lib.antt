@@ -1,3 +1,4 @@
+pub mod Elsewhere
 pub mod Packages
 pub mod Refusals
 pub mod Faults

@@ -20,6 +20,7 @@ use Rattle.bind.specs.Sources.{Sources, AreFiles}
 use Rattle.unit_read.specs.Units.{Unit, node_at}
 use Rattle.unit_rows.specs.Circular.{AreCircular}
 use Rattle.unit_blocks.specs.Blocks.{AreAgain}
+use Rattle.check_pkg.specs.Elsewhere.{struct_elsewhere}
 
 -- Its path, its files in order of their paths, the path and the bytes of each, and their trees.
 pub record Package : Type 0 where
@@ -59,7 +60,7 @@ pub record AreNeeds (u : Unit) : Type 0 where
   pub rows : List (Vec (Option NodeRef))
   pub names : World
   pub world : World
-  pub «is» : IsPackage u.uses u.trees rows names world
+  pub «is» : IsPackage u.uses u.trees (struct_elsewhere u) rows names world
   pub each : (at : NodeRef) (node : Node) → node_at u at ≡ Some node → IsTrue (u.cyclic at) ↔ (IsNamed (declared u.trees rows) at × Leads (NeedsOf world) at at)
   pub others : (at : NodeRef) → node_at u at ≡ None → u.cyclic at ≡ false
   pub owned : (at : NodeRef) (node : Node) → node_at u at ≡ Some node → IsOwnerAt names at (u.owner at)

@@ -246,7 +246,7 @@ fn judge_read<R: Rules>(
     ensures is { IfOk result (IsOutcomeBy R.rule path.now (texts_of sources.now) trees.now uses (faces_in env.now)) }
     ensures types { IfOk result (HasTypes (terms_in table)) }
 {
-    let Reading { subject, first } = read(alloc, path, sources, trees, &uses, env)?;
+    let Reading { subject, first } = read(alloc, path, sources, trees, &uses, env, &table)?;
     let judged = judge_unit(alloc, rules, &subject, table, &first)?;
     let flags = flags_of(subject);
     Ok(outcome_of(judged, uses, flags))

@@ -4,6 +4,7 @@
 
 mod ahead;
 mod block;
+mod elsewhere;
 mod exports;
 mod faults;
 mod gaps;

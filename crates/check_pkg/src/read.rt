@@ -1,24 +1,32 @@
 //! How a package is read, with its flags.
-ghost use Rattle.std.specs.Prelude.{◌≡◌, ◌≤◌, ◌^◌, IfOk, length};
+ghost use Rattle.std.specs.Prelude.{◌≡◌, ◌≤◌, ◌^◌, [], IfOk, length};
+ghost use Rattle.face_table.specs.Fitting.{given};
 ghost use Rattle.go_tree.specs.Bindings.{AreInOrder};
 ghost use Rattle.unit_read.specs.Environments.{IsEnvironment, faces_in};
 ghost use Rattle.unit_read.specs.Index.{texts_of};
 ghost use Rattle.unit_read.specs.Subjects.{unit_of, IsRead};
 ghost use Rattle.package_objects.specs.Declares.{AreSmall};
 ghost use Rattle.package_needs.specs.Worlds.{AreNeedsOf};
+ghost use Rattle.type_model.specs.Tables.{terms_in, declarations_in};
+ghost use Rattle.type_model.specs.declared.term.TypeName.{TypeName as AName};
+ghost use Rattle.typed_tree.specs.Basics.{HasBasics};
 ghost use Rattle.unit_blocks.specs.Blocks.{HaveForests};
+ghost use Rattle.unit_rows.specs.Drafts.{package_unit};
+ghost use Rattle.check_pkg.specs.Elsewhere.{struct_elsewhere};
 ghost use Rattle.check_pkg.specs.Readings.{IsUnitOf};
 
 use crate::ahead::stretches;
+use crate::elsewhere::struct_rows;
 use elaborate::Stretch;
 use go_tree::{Bindings, FileTree, NodeRef};
 use gv_base::NoMemory;
 use object_order::Needed;
 use package_needs::{Needs, needs_of};
 use std::alloc::Global;
+use type_model::TypeTable;
 use unit_blocks::block_rows;
 use unit_read::{Environment, Subject};
-use unit_rows::{circular_rows, cyclic_rows, read_unit, with_flags};
+use unit_rows::{circular_rows, cyclic_rows, read_unit, with_flags, with_owners};
 
 /// A package that has been read, and its declarations in the order in which their nodes are marked.
 #[derive(Drop)]
@@ -27,30 +35,48 @@ pub struct Reading<'a> {
     pub first: Vec<Stretch>,
 }
 
-/// Reads a package: with which of its names are declared before in their block, which need themselves, which lead back to themselves, and
-/// whose methods it declares.
+/// A package that was read without flags: with which of its names are declared before in their block, which need themselves, which lead
+/// back to themselves, and whose methods it declares.
 fn subject_of<'a>(
+    alloc: Global,
+    seen: Subject<'a>,
+    order: &[Needed],
+    owners: Vec<Vec<Option<NodeRef>>>,
+) -> Result<Subject<'a>, NoMemory>
+    requires seen { IsRead seen }
+    requires forests { HaveForests seen.trees.now }
+    requires small { AreSmall seen.trees.now }
+    requires few { length seen.trees.now ≤ 2 ^ 32 }
+    requires needs { AreNeedsOf seen.uses.now seen.trees.now (struct_elsewhere (unit_of seen)) order.now owners.items }
+    ensures read { IfOk result (λ u. IsRead u) }
+    ensures of { IfOk result (λ u. IsUnitOf seen.entry.path.now (texts_of seen.entry.texts.now) seen.entry.trees.now seen.entry.uses.now (faces_in seen.entry.env.now) (unit_of u)) }
+    ensures env { IfOk result (λ u. u.env.now ≡ seen.entry.env.now) }
+{
+    let cyclic = cyclic_rows(alloc, seen.trees, order)?;
+    let bare = with_owners(alloc, seen, owners)?;
+    let redeclared = block_rows(alloc, &bare)?;
+    let circular = circular_rows(alloc, &bare)?;
+    Ok(with_flags(bare, redeclared, cyclic, circular))
+}
+
+/// Reads a package, without flags.
+fn seen_unit<'a>(
     alloc: Global,
     path: &'a [u8],
     texts: &'a [&'a [u8]],
     trees: &'a [FileTree],
     uses: &'a Bindings,
     env: &'a Environment<'a>,
-    order: &[Needed],
-    owners: Vec<Vec<Option<NodeRef>>>,
 ) -> Result<Subject<'a>, NoMemory>
-    requires forests { HaveForests trees.now }
     requires small { AreSmall trees.now }
     requires few { length trees.now ≤ 2 ^ 32 }
     requires uses { AreInOrder uses.now }
     requires env { IsEnvironment env.now }
-    requires needs { AreNeedsOf uses.now trees.now order.now owners.items }
     ensures read { IfOk result (λ u. IsRead u) }
-    ensures of { IfOk result (λ u. IsUnitOf path.now (texts_of texts.now) trees.now uses.now (faces_in env.now) (unit_of u)) }
+    ensures of { IfOk result (λ u. unit_of u ≡ package_unit path.now (texts_of texts.now) trees.now uses.now (faces_in env.now) [] [] [] []) }
     ensures env { IfOk result (λ u. u.env.now ≡ env.now) }
 {
-    let cyclic = cyclic_rows(alloc, trees, order)?;
-    let bare = read_unit(
+    let seen = read_unit(
         alloc,
         path,
         texts,
@@ -60,14 +86,12 @@ fn subject_of<'a>(
         Vec::new(alloc),
         Vec::new(alloc),
         Vec::new(alloc),
-        owners,
+        Vec::new(alloc),
     )?;
-    let redeclared = block_rows(alloc, &bare)?;
-    let circular = circular_rows(alloc, &bare)?;
-    Ok(with_flags(bare, redeclared, cyclic, circular))
+    Ok(seen)
 }
 
-/// Reads a package, with its declarations in an order of need.
+/// Reads a package, with its declarations in an order of need. Which types of other packages are structs is seen over the table.
 pub fn read<'a>(
     alloc: Global,
     path: &'a [u8],
@@ -75,19 +99,25 @@ pub fn read<'a>(
     trees: &'a [FileTree],
     uses: &'a Bindings,
     env: &'a Environment<'a>,
+    table: &TypeTable,
 ) -> Result<Reading<'a>, NoMemory>
     requires forests { HaveForests trees.now }
     requires small { AreSmall trees.now }
     requires few { length trees.now ≤ 2 ^ 32 }
     requires uses { AreInOrder uses.now }
     requires env { IsEnvironment env.now }
+    requires basics { HasBasics table.now }
+    requires types { env.now.types.now ≡ terms_in table.now }
+    requires base { (name : AName) → declarations_in table.now name ≡ given path.now (faces_in env.now) name }
     ensures read { IfOk result (λ r. IsRead r.subject) }
     ensures of { IfOk result (λ r. IsUnitOf path.now (texts_of texts.now) trees.now uses.now (faces_in env.now) (unit_of r.subject)) }
     ensures env { IfOk result (λ r. r.subject.env.now ≡ env.now) }
 {
-    let needs = needs_of(alloc, uses, trees)?;
+    let seen = seen_unit(alloc, path, texts, trees, uses, env)?;
+    let elsewhere = struct_rows(alloc, &seen, table)?;
+    let needs = needs_of(alloc, uses, trees, &elsewhere)?;
     let Needs { order, owners } = needs;
-    let subject = subject_of(alloc, path, texts, trees, uses, env, &order, owners)?;
+    let subject = subject_of(alloc, seen, &order, owners)?;
     let first = stretches(alloc, &subject, &order)?;
     Ok(Reading { subject, first })
 }

@@ -27,7 +27,7 @@ fn objects_in(
         return Ok(None);
     }
     let bindings = bind(alloc, trees, sources, &[])?;
-    let mut objects = needs_order(alloc, &bindings, trees)?;
+    let mut objects = needs_order(alloc, &bindings, trees, &Vec::new(alloc))?;
     objects.sort_by_key(|needed| (needed.object.file, needed.object.node))?;
     Ok(Some(objects))
 }

@@ -1,5 +1,5 @@
 -- What is needed is the same by two descriptions of one package.
-use Rattle.std.proofs.Common.{◌≡◌, ◌↔◌, ℕ, IsTrue, List, [], ◌∷◌, slice_get, Option, Some, None, refl, sym, ap, ◌∙◌, subst, inl, inr}
+use Rattle.std.proofs.Common.{◌≡◌, ◌↔◌, ℕ, IsTrue, Bool, List, [], ◌∷◌, slice_get, Option, Some, None, refl, sym, ap, ◌∙◌, subst, inl, inr}
 use Rattle.go_tree.specs.Spells.{Among}
 use Rattle.go_tree.specs.declared.bindings.Object.{Object}
 use Rattle.go_tree.specs.declared.tree.FileTree.{FileTree}
@@ -99,22 +99,22 @@ needs {w} {v} c {o} {u} (by_steps same turn) = by_steps same (leads (StepsTo w) 
 
 -- ---- two descriptions of one package
 
-one_mention : (by : World) (up_to : NodeRef → Option NodeRef) (at : NodeRef) (a b : Option NodeRef) → IsMentioned by up_to at a → IsMentioned by up_to at b → a ≡ b
-one_mention by up_to at a b (inl (key, none)) (inl (other, none_b)) = none ∙ sym none_b
-one_mention by up_to at a b (inl (key, none)) (inr (lacks, is)) = absurd (lacks key)
-one_mention by up_to at a b (inr (lacks, is)) (inl (key, none)) = absurd (lacks key)
-one_mention by up_to at a b (inr (lacks, is)) (inr (other, is_b)) = is ∙ sym is_b
+one_mention : (by : World) (elsewhere : NodeRef → Bool) (up_to : NodeRef → Option NodeRef) (at : NodeRef) (a b : Option NodeRef) → IsMentioned by elsewhere up_to at a → IsMentioned by elsewhere up_to at b → a ≡ b
+one_mention by elsewhere up_to at a b (inl (key, none)) (inl (other, none_b)) = none ∙ sym none_b
+one_mention by elsewhere up_to at a b (inl (key, none)) (inr (lacks, is)) = absurd (lacks key)
+one_mention by elsewhere up_to at a b (inr (lacks, is)) (inl (key, none)) = absurd (lacks key)
+one_mention by elsewhere up_to at a b (inr (lacks, is)) (inr (other, is_b)) = is ∙ sym is_b
 
-same_meant : (w_names w v : World) (up_to : NodeRef → Option NodeRef) → AreMentions w_names up_to w.meant → AreMentions w_names up_to v.meant → (at : NodeRef) → w.meant at ≡ v.meant at
-same_meant w_names w v up_to one two at = from (w_names.node at) refl where
+same_meant : (w_names w v : World) (elsewhere : NodeRef → Bool) (up_to : NodeRef → Option NodeRef) → AreMentions w_names elsewhere up_to w.meant → AreMentions w_names elsewhere up_to v.meant → (at : NodeRef) → w.meant at ≡ v.meant at
+same_meant w_names w v elsewhere up_to one two at = from (w_names.node at) refl where
   from : (o : Option Node) → w_names.node at ≡ o → w.meant at ≡ v.meant at
   from None none = one.outside at none ∙ sym (two.outside at none)
-  from (Some n) some = one_mention w_names up_to at (w.meant at) (v.meant at) (one.node at n some) (two.node at n some)
+  from (Some n) some = one_mention w_names elsewhere up_to at (w.meant at) (v.meant at) (one.node at n some) (two.node at n some)
 
-pub carries : (uses : List (NodeRef × Object)) (trees : List FileTree) (rows : List (Vec (Option NodeRef))) (w_names w v : World) → IsPackage uses trees rows w_names w → IsPackage uses trees rows w_names v → Carries w v
-carries uses trees rows w_names w v one two = record {
+pub carries : (uses : List (NodeRef × Object)) (trees : List FileTree) (elsewhere : NodeRef → Bool) (rows : List (Vec (Option NodeRef))) (w_names w v : World) → IsPackage uses trees elsewhere rows w_names w → IsPackage uses trees elsewhere rows w_names v → Carries w v
+carries uses trees elsewhere rows w_names w v one two = record {
   node = λ at. ap (λ (g : NodeRef → Option Node). g at) (one.same_nodes ∙ sym two.same_nodes);
-  meant = same_meant w_names w v (up trees) one.mentions two.mentions;
+  meant = same_meant w_names w v elsewhere (up trees) one.mentions two.mentions;
   entry = λ at. ap (λ (g : NodeRef → Option Entry). g at) (one.same_entries ∙ sym two.same_entries);
   kin = λ t m among. (two.methods t m).1 ((one.methods t m).0 among);
 }

@@ -15,7 +15,7 @@ use Rattle.object_order.specs.Spots.{World, place}
 use Rattle.package_needs.specs.declared.literal.Held.{Held}
 use Rattle.package_needs.specs.Follow.{kind_at, Ends, there, on, IsEnd}
 use Rattle.package_needs.specs.Links.{cell}
-use Rattle.package_needs.specs.Keys.{is_part_of, above_in, above, up, is_value, is_struct, is_part_at, held_in, held, written_in, written, inner_of, elided, IsInner, Literal, own, inner, IsKey, IsMentioned, IsInnerOf, IsLiteral, AreLiterals}
+use Rattle.package_needs.specs.Keys.{is_part_of, above_in, above, up, is_value, is_struct_at, is_part_at, held_in, held, written_in, written, inner_of, elided, IsInner, Literal, own, inner, IsKey, IsMentioned, IsInnerOf, IsLiteral, AreLiterals}
 use Rattle.package_needs.proofs.FollowLemmas.{step_back, stop_back}
 use Rattle.gv_base.proofs.Lists.{get_set_other, get_set_same, same_some}
 
@@ -217,11 +217,11 @@ typed_more w trees file count left n types new o left_is was is now = subst (λ 
 false_true : {P : Type 0} → false ≡ true → P
 false_true e = absurd (cc)
 
-pub key_some : (w : World) (up_to : NodeRef → Option NodeRef) (at of : NodeRef) (h : Held) (o e : Option NodeRef) (b : Bool) → held w up_to at ≡ Some h → h.key ≡ true → IsLiteral w up_to h.braces o → o ≡ Some of
-    → IsEnd w true of e → b ≡ option_map_or (λ x. is_struct (kind_at w x)) e false → (b ≡ true) ↔ IsKey w up_to at
-key_some w up_to at of h o e b held_is key literal o_is ends b_is = (forth e refl, back) where
-  forth : (d : Option NodeRef) → e ≡ d → b ≡ true → IsKey w up_to at
-  forth None none t = false_true (sym (b_is ∙ ap (λ x. option_map_or (λ x. is_struct (kind_at w x)) x false) none) ∙ t)
+pub key_some : (w : World) (elsewhere : NodeRef → Bool) (up_to : NodeRef → Option NodeRef) (at of : NodeRef) (h : Held) (o e : Option NodeRef) (b : Bool) → held w up_to at ≡ Some h → h.key ≡ true → IsLiteral w up_to h.braces o → o ≡ Some of
+    → IsEnd w true of e → b ≡ option_map_or (λ x. is_struct_at w elsewhere x) e false → (b ≡ true) ↔ IsKey w elsewhere up_to at
+key_some w elsewhere up_to at of h o e b held_is key literal o_is ends b_is = (forth e refl, back) where
+  forth : (d : Option NodeRef) → e ≡ d → b ≡ true → IsKey w elsewhere up_to at
+  forth None none t = false_true (sym (b_is ∙ ap (λ x. option_map_or (λ x. is_struct_at w elsewhere x) x false) none) ∙ t)
   forth (Some d) some t = record {
     held_by = h;
     of = of;
@@ -230,26 +230,26 @@ key_some w up_to at of h o e b held_is key literal o_is ends b_is = (forth e ref
     key = key;
     literal = (literal of).0 o_is;
     ends = (ends d).0 some;
-    struct = sym (ap (λ x. option_map_or (λ x. is_struct (kind_at w x)) x false) some) ∙ (sym b_is ∙ t);
+    struct = sym (ap (λ x. option_map_or (λ x. is_struct_at w elsewhere x) x false) some) ∙ (sym b_is ∙ t);
   }
 
-  back : IsKey w up_to at → b ≡ true
+  back : IsKey w elsewhere up_to at → b ≡ true
   back d =
       let h_is : d.held_by ≡ h = same_some (held w up_to at) d.held_by h d.«is» held_is in
       let of_is : d.of ≡ of = same_some o d.of of ((literal d.of).1 (subst (λ (x : Held). Literal w up_to x.braces d.of) h_is d.literal)) o_is in
-      b_is ∙ (ap (λ x. option_map_or (λ x. is_struct (kind_at w x)) x false) ((ends d.end).1 (subst (λ (x : NodeRef). Ends w true x d.end) of_is d.ends)) ∙ d.struct)
+      b_is ∙ (ap (λ x. option_map_or (λ x. is_struct_at w elsewhere x) x false) ((ends d.end).1 (subst (λ (x : NodeRef). Ends w true x d.end) of_is d.ends)) ∙ d.struct)
 
-pub key_unheld : (w : World) (up_to : NodeRef → Option NodeRef) (at : NodeRef) → held w up_to at ≡ None → (false ≡ true) ↔ IsKey w up_to at
-key_unheld w up_to at none = (false_true, λ d. absent (held w up_to at) d.held_by none d.«is»)
+pub key_unheld : (w : World) (elsewhere : NodeRef → Bool) (up_to : NodeRef → Option NodeRef) (at : NodeRef) → held w up_to at ≡ None → (false ≡ true) ↔ IsKey w elsewhere up_to at
+key_unheld w elsewhere up_to at none = (false_true, λ d. absent (held w up_to at) d.held_by none d.«is»)
 
-pub key_element : (w : World) (up_to : NodeRef → Option NodeRef) (at : NodeRef) (h : Held) → held w up_to at ≡ Some h → h.key ≡ false → (false ≡ true) ↔ IsKey w up_to at
-key_element w up_to at h held_is element = (false_true, λ d. sym element ∙ (ap (λ (x : Held). x.key) (same_some (held w up_to at) h d.held_by held_is d.«is») ∙ d.key))
+pub key_element : (w : World) (elsewhere : NodeRef → Bool) (up_to : NodeRef → Option NodeRef) (at : NodeRef) (h : Held) → held w up_to at ≡ Some h → h.key ≡ false → (false ≡ true) ↔ IsKey w elsewhere up_to at
+key_element w elsewhere up_to at h held_is element = (false_true, λ d. sym element ∙ (ap (λ (x : Held). x.key) (same_some (held w up_to at) h d.held_by held_is d.«is») ∙ d.key))
 
-pub key_unknown : (w : World) (up_to : NodeRef → Option NodeRef) (at : NodeRef) (h : Held) (o : Option NodeRef) → held w up_to at ≡ Some h → IsLiteral w up_to h.braces o → o ≡ None → (false ≡ true) ↔ IsKey w up_to at
-key_unknown w up_to at h o held_is literal none = (false_true, λ d. absent o d.of none ((literal d.of).1 (subst (λ (x : Held). Literal w up_to x.braces d.of) (same_some (held w up_to at) d.held_by h d.«is» held_is) d.literal)))
+pub key_unknown : (w : World) (elsewhere : NodeRef → Bool) (up_to : NodeRef → Option NodeRef) (at : NodeRef) (h : Held) (o : Option NodeRef) → held w up_to at ≡ Some h → IsLiteral w up_to h.braces o → o ≡ None → (false ≡ true) ↔ IsKey w elsewhere up_to at
+key_unknown w elsewhere up_to at h o held_is literal none = (false_true, λ d. absent o d.of none ((literal d.of).1 (subst (λ (x : Held). Literal w up_to x.braces d.of) (same_some (held w up_to at) d.held_by h d.«is» held_is) d.literal)))
 
-pub mentions_key : (w : World) (up_to : NodeRef → Option NodeRef) (at : NodeRef) (b : Bool) → (b ≡ true) ↔ IsKey w up_to at → b ≡ true → IsMentioned w up_to at None
-mentions_key w up_to at b key is = inl (key.0 is, refl)
+pub mentions_key : (w : World) (elsewhere : NodeRef → Bool) (up_to : NodeRef → Option NodeRef) (at : NodeRef) (b : Bool) → (b ≡ true) ↔ IsKey w elsewhere up_to at → b ≡ true → IsMentioned w elsewhere up_to at None
+mentions_key w elsewhere up_to at b key is = inl (key.0 is, refl)
 
-pub mentions_denoted : (w : World) (up_to : NodeRef → Option NodeRef) (at : NodeRef) (b : Bool) (o : Option NodeRef) → (b ≡ true) ↔ IsKey w up_to at → b ≡ false → o ≡ w.meant at → IsMentioned w up_to at o
-mentions_denoted w up_to at b o key is o_is = inr (λ d. false_true (sym is ∙ key.1 d), o_is)
+pub mentions_denoted : (w : World) (elsewhere : NodeRef → Bool) (up_to : NodeRef → Option NodeRef) (at : NodeRef) (b : Bool) (o : Option NodeRef) → (b ≡ true) ↔ IsKey w elsewhere up_to at → b ≡ false → o ≡ w.meant at → IsMentioned w elsewhere up_to at o
+mentions_denoted w elsewhere up_to at b o key is o_is = inr (λ d. false_true (sym is ∙ key.1 d), o_is)

@@ -1,5 +1,5 @@
 -- What nodes mention, file by file.
-use Rattle.std.proofs.Common.{◌≡◌, ℕ, ◌+◌, ◌<◌, ◌⊎◌, List, [], ◌∷◌, ◌++◌, length, slice_get, Option, Some, None, option_and_then, refl, sym, ap, ◌∙◌, subst, inl, inr, arith}
+use Rattle.std.proofs.Common.{◌≡◌, ℕ, ◌+◌, ◌<◌, ◌⊎◌, Bool, List, [], ◌∷◌, ◌++◌, length, slice_get, Option, Some, None, option_and_then, refl, sym, ap, ◌∙◌, subst, inl, inr, arith}
 use Rattle.std.specs.Option.{option_map_or}
 use Rattle.std.specs.Global.{Vec}
 use Rattle.std.proofs.lemmas.List.{length-append}
@@ -64,15 +64,15 @@ absent o x p q = absurd (cc)
 abbrev in_row : NodeRef → Option (Vec (Option NodeRef)) → Option NodeRef
 in_row at o = option_and_then (λ (row : Vec (Option NodeRef)). option_and_then itself (slice_get row.items at.node)) o
 
-pub rows_all : (w : World) (trees : List FileTree) (rows : List (Vec (Option NodeRef))) (k : ℕ) → ((at : NodeRef) → w.node at ≡ node_in trees at) → length trees ≡ k → Rows (IsMentioned w (up trees)) trees rows k → AreMentions w (up trees) (meant_in rows)
-rows_all w trees rows k is end was = record {
+pub rows_all : (w : World) (elsewhere : NodeRef → Bool) (trees : List FileTree) (rows : List (Vec (Option NodeRef))) (k : ℕ) → ((at : NodeRef) → w.node at ≡ node_in trees at) → length trees ≡ k → Rows (IsMentioned w elsewhere (up trees)) trees rows k → AreMentions w elsewhere (up trees) (meant_in rows)
+rows_all w elsewhere trees rows k is end was = record {
   node = λ at n n_at. there at n (sym (is at) ∙ n_at);
   outside = λ at none. missing at (sym (is at) ∙ none);
 } where
   in_tree : (at : NodeRef) (tree : FileTree) → slice_get trees at.file ≡ Some tree → node_in trees at ≡ slice_get tree.nodes at.node
   in_tree at tree tree_at = ap (λ (o : Option FileTree). option_and_then (λ (t : FileTree). slice_get t.nodes at.node) o) tree_at
 
-  there : (at : NodeRef) (n : Node) → node_in trees at ≡ Some n → IsMentioned w (up trees) at (meant_in rows at)
+  there : (at : NodeRef) (n : Node) → node_in trees at ≡ Some n → IsMentioned w elsewhere (up trees) at (meant_in rows at)
   there at n n_at = elim (cases_of (slice_get trees at.file)) [
     | inl none ↦ absent (node_in trees at) n (ap (λ (o : Option FileTree). option_and_then (λ (t : FileTree). slice_get t.nodes at.node) o) none) n_at
     | inr (tree, tree_at) ↦ (
@@ -81,7 +81,7 @@ rows_all w trees rows k is end was = record {
         let same : other ≡ tree = same_some (slice_get trees at.file) other tree other_at tree_at in
         let low : at.node < length tree.nodes = slice_get_within tree.nodes at.node n (sym (in_tree at tree tree_at) ∙ n_at) in
         let (o, o_at) = got row.items at.node (let s = fits.size in let e = ap (λ (x : FileTree). length x.nodes) same in omega (arith, s, e, low)) in
-        subst (λ (x : Option NodeRef). IsMentioned w (up trees) at x) (sym (ap (λ x. in_row at x) row_at ∙ ap (λ x. option_and_then itself x) o_at)) (fits.each at.node o o_at))
+        subst (λ (x : Option NodeRef). IsMentioned w elsewhere (up trees) at x) (sym (ap (λ x. in_row at x) row_at ∙ ap (λ x. option_and_then itself x) o_at)) (fits.each at.node o o_at))
   ]
 
   missing : (at : NodeRef) → node_in trees at ≡ None → meant_in rows at ≡ None

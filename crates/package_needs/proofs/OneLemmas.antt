@@ -1,5 +1,5 @@
 -- Two descriptions of one package say the same.
-use Rattle.std.proofs.Common.{◌≡◌, ◌↔◌, ◌⊎◌, ℕ, zero, suc, ◌<◌, ◌≤◌, IsTrue, List, [], ◌∷◌, length, slice_get, Option, Some, None, option_and_then, Contains, refl, sym, ap, ◌∙◌, subst, inl, inr, arith}
+use Rattle.std.proofs.Common.{◌≡◌, ◌↔◌, ◌⊎◌, ℕ, zero, suc, ◌<◌, ◌≤◌, IsTrue, Bool, List, [], ◌∷◌, length, slice_get, Option, Some, None, option_and_then, Contains, refl, sym, ap, ◌∙◌, subst, inl, inr, arith}
 use Rattle.std.specs.Global.{Vec}
 use Rattle.std.specs.Option.{option_map_or}
 use Rattle.std.proofs.Math.Path.{fun_ext}
@@ -148,7 +148,7 @@ one_world w v node meant entry kin =
     ∙ (ap (λ (f : NodeRef → Option Entry). world_with v.node v.meant f w.kin) entry
     ∙ ap (λ (f : NodeRef → List NodeRef). world_with v.node v.meant v.entry f) kin))
 
-module _ (uses : List Use) (trees : List FileTree) (ordered : AreInOrder uses) (a b : Rows) (names other : World) (w v : World) (p : IsPackage uses trees a names w) (q : IsPackage uses trees b other v) where
+module _ (uses : List Use) (trees : List FileTree) (elsewhere : NodeRef → Bool) (ordered : AreInOrder uses) (a b : Rows) (names other : World) (w v : World) (p : IsPackage uses trees elsewhere a names w) (q : IsPackage uses trees elsewhere b other v) where
   rows_say : (f : ℕ) → uses_of a f ≡ uses_of b f
   rows_say = one_row uses trees a b ordered p.denoted q.denoted
 
@@ -161,7 +161,7 @@ module _ (uses : List Use) (trees : List FileTree) (ordered : AreInOrder uses) (
       (fun_ext (λ at. p.bare at ∙ sym (q.bare at)))
 
   -- the second description by the rows and the names of the first
-  second : IsPackage uses trees a names v
+  second : IsPackage uses trees elsewhere a names v
   second = record {
     denoted = p.denoted;
     nodes = p.nodes;
@@ -170,15 +170,15 @@ module _ (uses : List Use) (trees : List FileTree) (ordered : AreInOrder uses) (
     bare = p.bare;
     same_nodes = q.same_nodes ∙ ap (λ (x : World). x.node) (sym same_names);
     same_entries = q.same_entries ∙ ap (λ (x : World). x.entry) (sym same_names);
-    mentions = subst (λ (x : World). AreMentions x (up trees) v.meant) (sym same_names) q.mentions;
+    mentions = subst (λ (x : World). AreMentions x elsewhere (up trees) v.meant) (sym same_names) q.mentions;
     methods = subst (λ (x : World). AreMethods x v.kin) (sym same_names) q.methods;
   }
 
   pub leads_on : (x y : NodeRef) → Leads (NeedsOf w) x y → Leads (NeedsOf v) x y
-  leads_on x y step = leads (NeedsOf w) (NeedsOf v) (λ c d n. needs (carries uses trees a names w v p second) n) x y step
+  leads_on x y step = leads (NeedsOf w) (NeedsOf v) (λ c d n. needs (carries uses trees elsewhere a names w v p second) n) x y step
 
   pub leads_back : (x y : NodeRef) → Leads (NeedsOf v) x y → Leads (NeedsOf w) x y
-  leads_back x y step = leads (NeedsOf v) (NeedsOf w) (λ c d n. needs (carries uses trees a names v w second p) n) x y step
+  leads_back x y step = leads (NeedsOf v) (NeedsOf w) (λ c d n. needs (carries uses trees elsewhere a names v w second p) n) x y step
 
   -- a node declares a method of one type
   pub same_owner : (at : NodeRef) (x y : Option NodeRef) → IsOwnerAt names at x → IsOwnerAt other at y → x ≡ y

@@ -1,5 +1,5 @@
 -- What is known of a package.
-use Rattle.std.proofs.Common.{◌≡◌, ℕ, List, [], slice_get, Option, Some, None, option_and_then, refl, sym, ap, ◌∙◌, subst}
+use Rattle.std.proofs.Common.{◌≡◌, ℕ, Bool, List, [], slice_get, Option, Some, None, option_and_then, refl, sym, ap, ◌∙◌, subst}
 use Rattle.std.specs.HashMap.{HashMap}
 use Rattle.std.specs.Option.{option_map_or}
 use Rattle.go_tree.specs.declared.tree.NodeRef.{NodeRef}
@@ -41,11 +41,11 @@ entries_are entries numbers named = record {
 abbrev pub world_by : {S : Type 0} → List FileTree → List (Vec (Option NodeRef)) → List Entry → HashMap (ℕ × ℕ) ℕ S → List (Vec NodeRef) → World
 world_by trees meant entries numbers groups = record { node = node_in trees; meant = meant_in meant; entry = entry_in entries numbers; kin = kin_in groups numbers }
 
-pub order_is : {S : Type 0} (uses : List (NodeRef × Object)) (trees : List FileTree) (rows first second third meant : List (Vec (Option NodeRef))) (entries : List Entry) (numbers : HashMap (ℕ × ℕ) ℕ S)
+pub order_is : {S : Type 0} (uses : List (NodeRef × Object)) (trees : List FileTree) (elsewhere : NodeRef → Bool) (rows first second third meant : List (Vec (Option NodeRef))) (entries : List Entry) (numbers : HashMap (ℕ × ℕ) ℕ S)
     (blank groups : List (Vec NodeRef)) (order : List Needed) → blank ≡ [] → AreDenoted uses trees rows → first ≡ rows → second ≡ rows → third ≡ meant → entries ≡ declared trees first → AreNamed entries numbers
-    → AreMethods (world_by trees second entries numbers blank) (kin_in groups numbers) → AreMentions (world_by trees second entries numbers blank) (up trees) (meant_in meant)
-    → IsNeedOrder (NeedsOf (world_by trees third entries numbers groups)) (IsNamed entries) order → IsOrderOf uses trees order
-order_is uses trees rows first second third meant entries numbers blank groups order none denoted one two three are named methods mentions ordered = record {
+    → AreMethods (world_by trees second entries numbers blank) (kin_in groups numbers) → AreMentions (world_by trees second entries numbers blank) elsewhere (up trees) (meant_in meant)
+    → IsNeedOrder (NeedsOf (world_by trees third entries numbers groups)) (IsNamed entries) order → IsOrderOf uses trees elsewhere order
+order_is uses trees elsewhere rows first second third meant entries numbers blank groups order none denoted one two three are named methods mentions ordered = record {
   rows = rows;
   names = world_by trees second entries numbers blank;
   world = world_by trees third entries numbers groups;
@@ -57,7 +57,7 @@ order_is uses trees rows first second third meant entries numbers blank groups o
     bare = bare;
     same_nodes = refl;
     same_entries = refl;
-    mentions = subst (λ (r : List (Vec (Option NodeRef))). AreMentions (world_by trees second entries numbers blank) (up trees) (meant_in r)) (sym three) mentions;
+    mentions = subst (λ (r : List (Vec (Option NodeRef))). AreMentions (world_by trees second entries numbers blank) elsewhere (up trees) (meant_in r)) (sym three) mentions;
     methods = methods;
   };
   ordered = subst (λ (es : List Entry). IsNeedOrder (NeedsOf (world_by trees third entries numbers groups)) (IsNamed es) order) declared_is ordered;
@@ -72,11 +72,11 @@ order_is uses trees rows first second third meant entries numbers blank groups o
   bare : (at : NodeRef) → kin_in blank numbers at ≡ []
   bare at = ap (λ (groups : List (Vec NodeRef)). kin_in groups numbers at) none ∙ by_number (number_in numbers (at.file, at.node))
 
-pub needs_are : {S : Type 0} (uses : List (NodeRef × Object)) (trees : List FileTree) (rows first second third meant : List (Vec (Option NodeRef))) (entries : List Entry) (numbers : HashMap (ℕ × ℕ) ℕ S)
+pub needs_are : {S : Type 0} (uses : List (NodeRef × Object)) (trees : List FileTree) (elsewhere : NodeRef → Bool) (rows first second third meant : List (Vec (Option NodeRef))) (entries : List Entry) (numbers : HashMap (ℕ × ℕ) ℕ S)
     (blank groups : List (Vec NodeRef)) (order : List Needed) (owners : List (Vec (Option NodeRef))) → blank ≡ [] → AreDenoted uses trees rows → first ≡ rows → second ≡ rows → third ≡ meant → entries ≡ declared trees first
-    → AreNamed entries numbers → AreMethods (world_by trees second entries numbers blank) (kin_in groups numbers) → AreMentions (world_by trees second entries numbers blank) (up trees) (meant_in meant)
-    → IsNeedOrder (NeedsOf (world_by trees third entries numbers groups)) (IsNamed entries) order → AreOwners (world_by trees second entries numbers blank) trees owners → AreNeedsOf uses trees order owners
+    → AreNamed entries numbers → AreMethods (world_by trees second entries numbers blank) (kin_in groups numbers) → AreMentions (world_by trees second entries numbers blank) elsewhere (up trees) (meant_in meant)
+    → IsNeedOrder (NeedsOf (world_by trees third entries numbers groups)) (IsNamed entries) order → AreOwners (world_by trees second entries numbers blank) trees owners → AreNeedsOf uses trees elsewhere order owners
 unfolding order_is
-needs_are uses trees rows first second third meant entries numbers blank groups order owners none denoted one two three are named methods mentions ordered owned =
-    let whole : IsOrderOf uses trees order = order_is uses trees rows first second third meant entries numbers blank groups order none denoted one two three are named methods mentions ordered in
+needs_are uses trees elsewhere rows first second third meant entries numbers blank groups order owners none denoted one two three are named methods mentions ordered owned =
+    let whole : IsOrderOf uses trees elsewhere order = order_is uses trees elsewhere rows first second third meant entries numbers blank groups order none denoted one two three are named methods mentions ordered in
     record { rows = rows; names = world_by trees second entries numbers blank; world = world_by trees third entries numbers groups; «is» = whole.«is»; ordered = whole.ordered; owned = owned }

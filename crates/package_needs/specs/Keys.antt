@@ -1,9 +1,10 @@
 -- Field keys (Go 1.17, "Composite literals"): a key in a literal of a struct type is a field's name, in other literals an expression. Within a
 -- literal of an array, slice or map type, elements and keys that are literals may leave out their type, and the & of a pointer to it.
--- A type of another package isn't known here, so that what stands before a colon in a literal of such a type is an expression.
-use Rattle.std.specs.Prelude.{◌≡◌, ◌↔◌, ◌⊎◌, ◌≤◌, ℕ, zero, suc, ◌==◌, ◌&&◌, ltb, nat_eq, Bool, true, false, if◌then◌else◌, List, length, Option, Some, None, slice_get, unwrap_or, option_map, option_and_then}
+-- Which types of other packages are structs is said from outside: of the nodes at which a type ends, those that name one are flagged.
+use Rattle.std.specs.Prelude.{◌≡◌, ◌↔◌, ◌⊎◌, ◌≤◌, ℕ, zero, suc, ◌==◌, ◌&&◌, ◌||◌, ltb, nat_eq, Bool, true, false, if◌then◌else◌, List, length, Option, Some, None, slice_get, slice_index_or, unwrap_or, option_map, option_and_then}
 use Rattle.std.specs.List.{list_any}
 use Rattle.std.specs.Option.{option_map_or}
+use Rattle.std.specs.Global.{Vec}
 use Rattle.go_tree.specs.declared.tree.FileTree.{FileTree}
 use Rattle.go_tree.specs.declared.tree.Node.{Node}
 use Rattle.go_tree.specs.declared.tree.NodeKind.{NodeKind}
@@ -46,6 +47,14 @@ is_composite _ = false
 abbrev pub is_struct : NodeKind → Bool
 is_struct k.StructType = true
 is_struct _ = false
+
+-- what a table of flags, a row for each file, has for a node
+abbrev pub flagged : List (Vec Bool) → NodeRef → Bool
+flagged rows at = option_map_or (λ (row : Vec Bool). slice_index_or row.items at.node false) (slice_get rows at.file) false
+
+-- a type ends here at a struct: one that is written, or one that another package declares
+abbrev pub is_struct_at : World → (NodeRef → Bool) → NodeRef → Bool
+is_struct_at w elsewhere at = is_struct (kind_at w at) || elsewhere at
 
 -- ---- literals
 
@@ -101,7 +110,7 @@ pub data Literal (w : World) (up : NodeRef → Option NodeRef) : NodeRef → Nod
   inner : {at of t : NodeRef} (h : Held) → written w up at ≡ None → held w up at ≡ Some h → Literal w up h.braces of → IsInner w h.key of t → Literal w up at t
 
 -- the node stands before a colon in a literal of a struct type
-pub record IsKey (w : World) (up : NodeRef → Option NodeRef) (at : NodeRef) : Type 0 where
+pub record IsKey (w : World) (elsewhere : NodeRef → Bool) (up : NodeRef → Option NodeRef) (at : NodeRef) : Type 0 where
   pub held_by : Held
   pub of : NodeRef
   pub end : NodeRef
@@ -109,15 +118,15 @@ pub record IsKey (w : World) (up : NodeRef → Option NodeRef) (at : NodeRef) : 
   pub key : held_by.key ≡ true
   pub literal : Literal w up held_by.braces of
   pub ends : Ends w true of end
-  pub struct : is_struct (kind_at w end) ≡ true
+  pub struct : is_struct_at w elsewhere end ≡ true
 
 -- a key mentions nothing, another node what it denotes
-abbrev pub IsMentioned : World → (NodeRef → Option NodeRef) → NodeRef → Option NodeRef → Type 0
-IsMentioned w up at o = (IsKey w up at × (o ≡ None)) ⊎ ((IsKey w up at → ⊥) × (o ≡ w.meant at))
+abbrev pub IsMentioned : World → (NodeRef → Bool) → (NodeRef → Option NodeRef) → NodeRef → Option NodeRef → Type 0
+IsMentioned w elsewhere up at o = (IsKey w elsewhere up at × (o ≡ None)) ⊎ ((IsKey w elsewhere up at → ⊥) × (o ≡ w.meant at))
 
 -- what each node mentions
-pub record AreMentions (w : World) (up : NodeRef → Option NodeRef) (meant : NodeRef → Option NodeRef) : Type 0 where
-  pub node : (at : NodeRef) (n : Node) → w.node at ≡ Some n → IsMentioned w up at (meant at)
+pub record AreMentions (w : World) (elsewhere : NodeRef → Bool) (up : NodeRef → Option NodeRef) (meant : NodeRef → Option NodeRef) : Type 0 where
+  pub node : (at : NodeRef) (n : Node) → w.node at ≡ Some n → IsMentioned w elsewhere up at (meant at)
   pub outside : (at : NodeRef) → w.node at ≡ None → meant at ≡ None
 
 -- ---- what the code says
@@ -150,5 +159,5 @@ pub record IsRowBy (says : NodeRef → Option NodeRef → Type 0) (file : ℕ) (
   pub each : (n : ℕ) (o : Option NodeRef) → slice_get row n ≡ Some o → says (place file n) o
 
 -- what the first few nodes of a file mention
-abbrev pub IsMentionRow : World → (NodeRef → Option NodeRef) → ℕ → List (Option NodeRef) → ℕ → Type 0
-IsMentionRow w up file row end = IsRowBy (IsMentioned w up) file row end
+abbrev pub IsMentionRow : World → (NodeRef → Bool) → (NodeRef → Option NodeRef) → ℕ → List (Option NodeRef) → ℕ → Type 0
+IsMentionRow w elsewhere up file row end = IsRowBy (IsMentioned w elsewhere up) file row end

@@ -1,5 +1,5 @@
 -- What is known of a package, from its trees and from what its uses denote, and an order of need of its objects.
-use Rattle.std.specs.Prelude.{◌≡◌, ◌≤◌, ℕ, List, [], length, Option, Some, None, slice_get, option_and_then, ◌↔◌, IsTrue}
+use Rattle.std.specs.Prelude.{◌≡◌, ◌≤◌, ℕ, List, [], length, Option, Some, None, slice_get, option_and_then, ◌↔◌, Bool, IsTrue}
 use Rattle.std.specs.Global.{Vec}
 use Rattle.go_tree.specs.Bindings.{Has}
 use Rattle.go_tree.specs.declared.bindings.Object.{Object}
@@ -47,8 +47,8 @@ pub record AreEntries (entries : List Entry) (entry : NodeRef → Option Entry) 
   pub «is» : (at : NodeRef) (e : Entry) → entry at ≡ Some e → IsFirstOf entries at e
 
 -- What is known of a package: its nodes, what they mention, its declarations, and the methods of its types. In `names` a node
--- mentions what it denotes, and types have no methods yet: by it types are followed.
-pub record IsPackage (uses : List (NodeRef × Object)) (trees : List FileTree) (rows : List (Vec (Option NodeRef))) (names w : World) : Type 0 where
+-- mentions what it denotes, and types have no methods yet: by it types are followed. `elsewhere` flags what names a struct type of another package.
+pub record IsPackage (uses : List (NodeRef × Object)) (trees : List FileTree) (elsewhere : NodeRef → Bool) (rows : List (Vec (Option NodeRef))) (names w : World) : Type 0 where
   pub denoted : AreDenoted uses trees rows
   pub nodes : names.node ≡ node_in trees
   pub denotes : names.meant ≡ meant_in rows
@@ -56,15 +56,15 @@ pub record IsPackage (uses : List (NodeRef × Object)) (trees : List FileTree) (
   pub bare : (at : NodeRef) → names.kin at ≡ []
   pub same_nodes : w.node ≡ names.node
   pub same_entries : w.entry ≡ names.entry
-  pub mentions : AreMentions names (up trees) w.meant
+  pub mentions : AreMentions names elsewhere (up trees) w.meant
   pub methods : AreMethods names w.kin
 
 -- The objects that the trees declare, in an order of need.
-pub record IsOrderOf (uses : List (NodeRef × Object)) (trees : List FileTree) (order : List Needed) : Type 0 where
+pub record IsOrderOf (uses : List (NodeRef × Object)) (trees : List FileTree) (elsewhere : NodeRef → Bool) (order : List Needed) : Type 0 where
   pub rows : List (Vec (Option NodeRef))
   pub names : World
   pub world : World
-  pub «is» : IsPackage uses trees rows names world
+  pub «is» : IsPackage uses trees elsewhere rows names world
   pub ordered : IsNeedOrder (NeedsOf world) (IsNamed (declared trees rows)) order
 
 -- for each node of each file the type of which it declares a method
@@ -74,11 +74,11 @@ pub record AreOwners (w : World) (trees : List FileTree) (rows : List (Vec (Opti
       → (tree : FileTree) × (slice_get trees f ≡ Some tree) × IsRowBy (IsOwnerAt w) f row.items (length tree.nodes)
 
 -- The objects that the trees declare, in an order of need, and the types of their methods.
-pub record AreNeedsOf (uses : List (NodeRef × Object)) (trees : List FileTree) (order : List Needed) (owners : List (Vec (Option NodeRef))) : Type 0 where
+pub record AreNeedsOf (uses : List (NodeRef × Object)) (trees : List FileTree) (elsewhere : NodeRef → Bool) (order : List Needed) (owners : List (Vec (Option NodeRef))) : Type 0 where
   pub rows : List (Vec (Option NodeRef))
   pub names : World
   pub world : World
-  pub «is» : IsPackage uses trees rows names world
+  pub «is» : IsPackage uses trees elsewhere rows names world
   pub ordered : IsNeedOrder (NeedsOf world) (IsNamed (declared trees rows)) order
   pub owned : AreOwners names trees owners
 

@@ -1,5 +1,5 @@
 //! What follows from the definitions alone.
-ghost use Rattle.std.specs.Prelude.{List, Option};
+ghost use Rattle.std.specs.Prelude.{Bool, List, Option};
 ghost use Rattle.std.specs.Global.{Vec};
 ghost use Rattle.go_tree.specs.Bindings.{AreInOrder};
 ghost use Rattle.go_tree.specs.declared.bindings.Object.{Object};
@@ -15,5 +15,5 @@ ghost use Rattle.package_needs.specs.Worlds.{IsPackage, MarkTheSame};
 
 /// Two orders of need of one package mark the same objects, whatever descriptions of it they go by.
 pub fn orders_mark_the_same()
-    ensures { (uses : List (NodeRef × Object)) → (trees : List FileTree) → AreInOrder uses → (a b : List (Vec (Option NodeRef))) → (names other w v : World) → (one two : List Needed) → IsPackage uses trees a names w → IsPackage uses trees b other v → IsNeedOrder (NeedsOf w) (IsNamed (declared trees a)) one → IsNeedOrder (NeedsOf v) (IsNamed (declared trees b)) two → MarkTheSame one two }
+    ensures { (uses : List (NodeRef × Object)) → (trees : List FileTree) → (elsewhere : NodeRef → Bool) → AreInOrder uses → (a b : List (Vec (Option NodeRef))) → (names other w v : World) → (one two : List Needed) → IsPackage uses trees elsewhere a names w → IsPackage uses trees elsewhere b other v → IsNeedOrder (NeedsOf w) (IsNamed (declared trees a)) one → IsNeedOrder (NeedsOf v) (IsNamed (declared trees b)) two → MarkTheSame one two }
 {}

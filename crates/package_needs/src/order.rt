@@ -1,6 +1,7 @@
 //! The order of need of a package's objects.
 ghost use Rattle.std.specs.Prelude.{◌≤◌, ◌^◌, length, IfOk};
 ghost use Rattle.package_objects.specs.Declares.{AreSmall};
+ghost use Rattle.package_needs.specs.Keys.{flagged};
 ghost use Rattle.package_needs.specs.Worlds.{IsOrderOf, AreNeedsOf};
 
 use crate::denoted::denoted;
@@ -25,11 +26,17 @@ pub struct Needs {
     pub owners: Vec<Vec<Option<NodeRef>>>,
 }
 
-/// What the declarations of a package's files need, and whose its methods are. `b` has what the uses in the files denote.
-pub fn needs_of(alloc: Global, b: &Bindings, files: &[FileTree]) -> Result<Needs, NoMemory>
+/// What the declarations of a package's files need, and whose its methods are. `b` has what the uses in the files denote, and
+/// `elsewhere` flags the nodes that name struct types of other packages.
+pub fn needs_of(
+    alloc: Global,
+    b: &Bindings,
+    files: &[FileTree],
+    elsewhere: &Vec<Vec<bool>>,
+) -> Result<Needs, NoMemory>
     requires small { AreSmall files.now }
     requires few { length files.now ≤ 2 ^ 32 }
-    ensures { IfOk result (λ needs. AreNeedsOf b.now files.now needs.order.items needs.owners.items) }
+    ensures { IfOk result (λ needs. AreNeedsOf b.now files.now (flagged elsewhere.now.items) needs.order.items needs.owners.items) }
 {
     let rows = denoted(alloc, b, files)?;
     let entries = entries_of(alloc, files, &rows)?;
@@ -47,7 +54,7 @@ pub fn needs_of(alloc: Global, b: &Bindings, files: &[FileTree]) -> Result<Needs
     };
     let groups = groups_of(alloc, &names, &tables)?;
     let owners = owners_of(alloc, &names, &tables, files)?;
-    let meant = mentions_of(alloc, &names, &tables.far)?;
+    let meant = mentions_of(alloc, &names, elsewhere, &tables.far)?;
     let View {
         entries,
         numbers,
@@ -65,11 +72,16 @@ pub fn needs_of(alloc: Global, b: &Bindings, files: &[FileTree]) -> Result<Needs
 }
 
 /// The order of need alone.
-pub fn needs_order(alloc: Global, b: &Bindings, files: &[FileTree]) -> Result<Vec<Needed>, NoMemory>
+pub fn needs_order(
+    alloc: Global,
+    b: &Bindings,
+    files: &[FileTree],
+    elsewhere: &Vec<Vec<bool>>,
+) -> Result<Vec<Needed>, NoMemory>
     requires small { AreSmall files.now }
     requires few { length files.now ≤ 2 ^ 32 }
-    ensures ordered { IfOk result (λ order. IsOrderOf b.now files.now order.items) }
+    ensures ordered { IfOk result (λ order. IsOrderOf b.now files.now (flagged elsewhere.now.items) order.items) }
 {
-    let needs = needs_of(alloc, b, files)?;
+    let needs = needs_of(alloc, b, files, elsewhere)?;
     Ok(needs.order)
 }

@@ -1,9 +1,10 @@
-//! What is read of a package: nodes, what they denote, declarations.
-ghost use Rattle.std.specs.Prelude.{◌≡◌, ◌==◌, slice_get, option_and_then, option_map};
+//! What is read of a package: nodes, what they denote, declarations, flags.
+ghost use Rattle.std.specs.Prelude.{◌≡◌, ◌==◌, false, slice_get, slice_index_or, option_and_then, option_map};
 ghost use Rattle.std.specs.Option.{option_copied};
 ghost use Rattle.object_order.specs.Spots.{place};
 ghost use Rattle.object_order.specs.Views.{number_in, entry_in, itself, meant_in, world_of};
 ghost use Rattle.package_needs.specs.Follow.{kind_at as kind_in, part_in};
+ghost use Rattle.package_needs.specs.Keys.{flagged};
 
 use go_tree::{Node, NodeKind, NodeRef, node_in};
 use object_order::{Entry, View};
@@ -112,5 +113,30 @@ pub fn denoted_at(view: &View, at: NodeRef) -> Option<NodeRef>
     match row_at(view.meant, at.file) {
         Some(row) => cell_of(row, at.node),
         None => None,
+    }
+}
+
+fn flags_at(rows: &Vec<Vec<bool>>, file: u32) -> Option<&Vec<bool>>
+    ensures { option_copied result ≡ slice_get rows.now.items file }
+{
+    rows.get(file as usize)
+}
+
+fn flag_in(row: &Vec<bool>, node: u32) -> bool
+    ensures { result ≡ slice_index_or row.now.items node false }
+{
+    match row.get(node as usize) {
+        Some(flag) => *flag,
+        None => false,
+    }
+}
+
+/// What a table of flags has for a node.
+pub fn flag_of(rows: &Vec<Vec<bool>>, at: NodeRef) -> bool
+    ensures { result ≡ flagged rows.now.items at }
+{
+    match flags_at(rows, at.file) {
+        Some(row) => flag_in(row, at.node),
+        None => false,
     }
 }

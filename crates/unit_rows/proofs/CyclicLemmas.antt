@@ -69,8 +69,8 @@ marks order at m =
     let r = gather_has (nth_cyclic order) (length order) m.number 0 at low there in
     among_there at (all_cyclic order) r.0 r.1
 
-pub marks_cyclic : (uses : List (NodeRef × Object)) (trees : List FileTree) (order : List Needed) → MarksCyclic uses trees order
-marks_cyclic uses trees order of at node there = (
+pub marks_cyclic : (uses : List (NodeRef × Object)) (trees : List FileTree) (elsewhere : NodeRef → Bool) (order : List Needed) → MarksCyclic uses trees elsewhere order
+marks_cyclic uses trees elsewhere order of at node there = (
   λ is.
       let m = marked order at (sym listed ∙ is) in
       let loops = (of.ordered.cyclic m.number m.item m.there).0 m.cyclic in (

@@ -28,8 +28,8 @@ all_cyclic order = gather (nth_cyclic order) (length order)
 abbrev pub is_cyclic : List FileTree → List Needed → NodeRef → Bool
 is_cyclic trees order at = is_listed trees (all_cyclic order) at
 
--- In an order of need of these trees the marked names are those that are declared and whose needs lead back to them.
-abbrev pub MarksCyclic : List (NodeRef × Object) → List FileTree → List Needed → Type 0
-MarksCyclic uses trees order =
-    (of : IsOrderOf uses trees order) (at : NodeRef) (node : Node) → slice_get (nodes_of (slice_get trees at.file)) at.node ≡ Some node
+-- In an order of need of these trees, whatever is said of struct types of other packages, the marked names are those that are declared and whose needs lead back to them.
+abbrev pub MarksCyclic : List (NodeRef × Object) → List FileTree → (NodeRef → Bool) → List Needed → Type 0
+MarksCyclic uses trees elsewhere order =
+    (of : IsOrderOf uses trees elsewhere order) (at : NodeRef) (node : Node) → slice_get (nodes_of (slice_get trees at.file)) at.node ≡ Some node
     → IsTrue (is_cyclic trees order at) ↔ (IsNamed (declared trees of.rows) at × Leads (NeedsOf of.world) at at)

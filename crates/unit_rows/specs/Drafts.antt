@@ -23,6 +23,11 @@ abbrev pub with_flags : Unit → List (Vec Bool) → List (Vec Bool) → List (V
 with_flags u redeclared cyclic circular =
     record { path = u.path; texts = u.texts; trees = u.trees; uses = u.uses; env = u.env; redeclared = flag redeclared; cyclic = flag cyclic; circular = flag circular; owner = u.owner }
 
+-- the package with these types of methods
+abbrev pub with_owners : Unit → List (Vec (Option NodeRef)) → Unit
+with_owners u owners =
+    record { path = u.path; texts = u.texts; trees = u.trees; uses = u.uses; env = u.env; redeclared = u.redeclared; cyclic = u.cyclic; circular = u.circular; owner = cell owners }
+
 -- the rows of places are made
 abbrev pub IsPlaced : Subject → Type 0
 IsPlaced s = (at : NodeRef) → cell s.places.items at ≡ place_at (unit_of s) at

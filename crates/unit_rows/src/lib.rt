@@ -26,4 +26,4 @@ pub use cyclic::cyclic_rows;
 pub use flags::listed_rows;
 pub use laws::marked_names_need_themselves;
 pub use package_block::{named_again, package_names, redeclared, redeclared_rows};
-pub use reader::{read_unit, with_flags};
+pub use reader::{read_unit, with_flags, with_owners};

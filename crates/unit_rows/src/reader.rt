@@ -4,7 +4,7 @@ ghost use Rattle.go_tree.specs.Bindings.{AreInOrder};
 ghost use Rattle.unit_read.specs.Environments.{IsEnvironment, faces_in};
 ghost use Rattle.unit_read.specs.Index.{texts_of};
 ghost use Rattle.unit_read.specs.Subjects.{unit_of, IsRead};
-ghost use Rattle.unit_rows.specs.Drafts.{package_unit, with_flags};
+ghost use Rattle.unit_rows.specs.Drafts.{package_unit, with_flags, with_owners};
 ghost use Rattle.package_objects.specs.Declares.{AreSmall};
 
 use crate::copies::copy_rows;
@@ -109,4 +109,26 @@ pub fn with_flags<'a>(
     s.cyclic = cyclic;
     s.circular = circular;
     s
+}
+
+/// The same package with the types of which its nodes declare methods.
+pub fn with_owners<'a>(
+    alloc: Global,
+    s: Subject<'a>,
+    owners: Vec<Vec<Option<NodeRef>>>,
+) -> Result<Subject<'a>, NoMemory>
+    requires read { IsRead s }
+    requires small { AreSmall s.trees.now }
+    requires few { length s.trees.now ≤ 2 ^ 32 }
+    ensures read { IfOk result (λ r. IsRead r) }
+    ensures of { IfOk result (λ r. unit_of r ≡ with_owners (unit_of s.entry) owners.items) }
+    ensures env { IfOk result (λ r. r.env.now ≡ s.entry.env.now) }
+{
+    let mut s = s;
+    s.owners = owners;
+    let methods = method_rows(alloc, &s)?;
+    s.groups = methods.groups;
+    s.kin = methods.kin;
+    s.repeated = methods.repeated;
+    Ok(s)
 }

@@ -5,14 +5,19 @@ use Rattle.unit_read.specs.Units.{Unit}
 use Rattle.unit_read.specs.Environments.{faces_in}
 use Rattle.unit_read.specs.Index.{texts_of}
 use Rattle.unit_read.specs.Subjects.{unit_of}
+use Rattle.package_needs.specs.Worlds.{AreNeedsOf}
+use Rattle.check_pkg.specs.Elsewhere.{struct_elsewhere}
 use Rattle.check_pkg.proofs.ReadLemmas.{is_unit_of}
 use Rattle.check_pkg.proofs.read.subject_of.Goals as goal
 
+-- the owners change nothing of what names struct types of other packages
 pub returns-clause-of : goal.returns-clause-of
 returns-clause-of c =
-    is_unit_of c.args.path.now (texts_of c.args.texts.now) c.args.trees.now c.args.uses.now (faces_in c.args.env.now) (unit_of c.in_ok-bare.bare) (unit_of c.with_flags.result) _ _ _
-    c.in_ok-redeclared.redeclared.items c.in_ok-cyclic.cyclic.items c.in_ok-circular.circular.items c.args.order.now c.args.owners.items c.in_ok-bare.ensures.of c.with_flags.ensures.of c.in_ok-redeclared.ensures
-    c.requires.needs c.in_ok-cyclic.ensures c.in_ok-circular.ensures
+    is_unit_of c.args.seen.path.now (texts_of c.args.seen.texts.now) c.args.seen.trees.now c.args.seen.uses.now (faces_in c.args.seen.env.now) (unit_of c.in_ok-bare.bare) (unit_of c.with_flags.result)
+    c.args.seen.redeclared.items c.args.seen.cyclic.items c.args.seen.circular.items c.in_ok-redeclared.redeclared.items c.in_ok-cyclic.cyclic.items c.in_ok-circular.circular.items c.args.order.now c.args.owners.items
+    c.in_ok-bare.ensures.of c.with_flags.ensures.of c.in_ok-redeclared.ensures
+    (subst (λ (u : Unit). AreNeedsOf c.args.seen.uses.now c.args.seen.trees.now (struct_elsewhere u) c.args.order.now c.args.owners.items) (sym c.in_ok-bare.ensures.of) c.requires.needs)
+    c.in_ok-cyclic.ensures c.in_ok-circular.ensures
 
 pub block_rows-requires-clause-forests : goal.block_rows-requires-clause-forests
 block_rows-requires-clause-forests c = subst (λ (trees : List FileTree). HaveForests trees) (sym (ap (λ (u : Unit). u.trees) c.in_ok-bare.ensures.of)) c.requires.forests

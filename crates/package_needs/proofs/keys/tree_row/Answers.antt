@@ -1,7 +1,7 @@
 use Rattle.std.proofs.Common.{◌≡◌, ◌≤◌, ◌^◌, ap, length, subst, sym, ℕ, List}
 use Rattle.go_tree.specs.declared.tree.Node.{Node}
 use Rattle.object_order.specs.Views.{world_of}
-use Rattle.package_needs.specs.Keys.{up, IsMentionRow}
+use Rattle.package_needs.specs.Keys.{up, flagged, IsMentionRow}
 use Rattle.package_needs.proofs.MentionLemmas.{above_from, count_from}
 use Rattle.package_needs.proofs.keys.tree_row.Goals as goal
 
@@ -25,4 +25,4 @@ mention_row-requires c = record {
 }
 
 pub returns : goal.returns
-returns c = subst (λ (n : ℕ). IsMentionRow (world_of c.args.view.now) (up c.args.view.now.trees.now) c.args.file c.in_ok-row.row.items n) (ap length c.as_slice-nodes.ensures) c.in_ok-row.ensures
+returns c = subst (λ (n : ℕ). IsMentionRow (world_of c.args.view.now) (flagged c.args.elsewhere.now.items) (up c.args.view.now.trees.now) c.args.file c.in_ok-row.row.items n) (ap length c.as_slice-nodes.ensures) c.in_ok-row.ensures

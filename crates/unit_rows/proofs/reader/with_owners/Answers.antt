@@ -1,0 +1,21 @@
+use Rattle.unit_rows.proofs.reader.with_owners.Goals as goal
+
+pub returns-clause-read : goal.returns-clause-read
+returns-clause-read c =
+    let r = c.requires.read in
+    record {
+      blocks = r.blocks;
+      objects = r.objects;
+      places = r.places;
+      specs = r.specs;
+      env = r.env;
+      leads = r.leads;
+      types = r.types;
+      locals = r.locals;
+      inside = r.inside;
+      repeats = r.repeats;
+      methods = c.in_ok-methods.ensures.methods;
+      repeated = c.in_ok-methods.ensures.repeated;
+      copies = r.copies;
+      named = r.named;
+    }
