@@ -1,4 +1,4 @@
-ghost use Rattle.std.specs.Prelude.{◌≡◌, ◌+◌, ◌<◌, ◌≤◌, ℕ, IfOk, length, Some, slice_get};
+ghost use Rattle.std.specs.Prelude.{◌≡◌, ◌+◌, ◌<◌, ◌≤◌, ◌^◌, ℕ, IfOk, length, Some, slice_get};
 
 use gv_base::NoMemory;
 use std::alloc::Global;
@@ -90,9 +90,13 @@ fn comes_to(word: &AtomicU64, least: u64) -> bool {
 impl Step<Worker, Job, Doubled> for Doubling {
     ghost lawful = { λ s number job. job.number ≡ number };
 
-    ghost right = { λ s job d. d.value ≡ job.number + job.number };
+    ghost spent = { λ s job costs. costs 0 ≤ 1 };
 
-    ghost count = { λ w. w.done };
+    ghost right = { λ s job costs d. (costs 0 ≡ 1) × (d.value ≡ job.number + job.number) };
+
+    ghost can = { λ jobs w. w.done + jobs < 2 ^ 63 };
+
+    ghost count = { λ i w. w.done };
 
     ghost rest = { λ w. w.given };
 

@@ -1,7 +1,7 @@
 -- A wave at its end.
 use Rattle.std.proofs.Common.{◌≡◌, ℕ, zero, suc, ◌+◌, ◌*◌, ◌^◌, ◌<◌, ◌≤◌, List, [], ◌∷◌, ◌++◌, length, sym, refl, ap, ◌∙◌, ⊎_elim, arith, mul-le-mul_right}
 use Rattle.std.proofs.lemmas.List.Recursion.{is_sum_by}
-use Rattle.std.specs.Prelude.{Result, Ok, Err, IfOk, IsOk, OnOk, ◌⊎◌, sum_by}
+use Rattle.std.specs.Prelude.{Option, Result, Ok, Err, IfOk, IsOk, OnOk, ◌⊎◌, sum_by}
 use Rattle.std.specs.Global.{Vec}
 use mathlib.Core.Logic.{dite}
 use native.Mathlib.Decide.{dec_le}
@@ -11,13 +11,14 @@ use Rattle.wave_run.specs.Numbers.{total, below, AreBelow}
 use Rattle.wave_run.specs.Views.{hand}
 use Rattle.wave_run.specs.Passes.{view}
 use Rattle.wave_run.specs.Dealing.{Closes}
-use Rattle.wave_run.specs.Waves.{AreAnswered}
+use Rattle.wave_run.specs.Waves.{AreAnswered, AreSpent, Costs, cost_in}
 use Rattle.wave_run.specs.Turns.{within, beyond, tickets, blanks, weight_of, Answers}
 use Rattle.wave_run.specs.Places.{AreByNumber}
 use Rattle.wave_run.specs.Forks.{IsForked}
-use Rattle.wave_run.proofs.Sums.{below_ones, lengths}
+use Rattle.wave_run.proofs.Sums.{below_ones}
 use Rattle.wave_run.proofs.Working.{within_yes, within_no, beyond_no, beyond_yes}
-use Rattle.wave_run.proofs.Placing.{answered}
+use Rattle.wave_run.proofs.Placing.{only, below_none, below_once}
+use Rattle.wave_run.proofs.Spending.{AreOnce, once_each, costs_of, costs_sum, are_spent, told_weight, are_answered}
 use Rattle.wave_run.proofs.Forking.{not_ok}
 
 within_small : (n t : ℕ) (f : ℕ → ℕ) → t ≤ n → below (within n f) t ≡ below f t
@@ -54,8 +55,21 @@ all_drawn n t workers taken h some ends = ⊎_elim
     (λ (b : n < tickets n taken). absurd (omega (arith, tickets_le n t taken h)))
     ends
 
-module _ {J D W E : Type 0} (right : J → D → Type 0) (count rest : W → ℕ) (jobs : List J) (pass after : Pass) (workers now : List W) (result : Result (Vec (ℕ × D)) E) (word : ℕ)
-    (fresh : view pass ≡ hand (length workers) []) (f : IsForked right count rest jobs pass after workers now result) (some : 0 < length workers) (few : length workers ≤ 64) (small : length jobs < 2 ^ 32)
+-- the same in the words of std
+pub is_sum : {W : Type 0} (count : W → ℕ) (l : List W) → total count l ≡ sum_by count l
+is_sum count l = is_sum_by (total count) count refl (λ _ _. refl) l
+
+-- no number is drawn twice
+one_ticket : (n t k : ℕ) → below (within n (only k)) t ≤ 1
+one_ticket n t k = dite (dec_le n t)
+    (λ (l : n ≤ t). omega (arith, within_big n t (only k) l, below_few k n))
+    (λ nl. omega (arith, within_small n t (only k) (omega arith), below_few k t))
+  where
+    below_few : (k m : ℕ) → below (only k) m ≤ 1
+    below_few k m = dite (dec_le m k) (λ (l : m ≤ k). omega (arith, below_none k m l)) (λ nl. omega (arith, below_once k m (omega arith)))
+
+module _ {J D W E : Type 0} (right : J → Costs → D → Type 0) (spent : J → Costs → Type 0) (can : ℕ → W → Type 0) (count : ℕ → W → ℕ) (rest : W → ℕ) (jobs : List J) (pass after : Pass) (workers now : List W) (result : Result (Vec (ℕ × D)) E) (word : ℕ)
+    (fresh : view pass ≡ hand (length workers) []) (f : IsForked right spent can count rest jobs pass after workers now result) (some : 0 < length workers) (few : length workers ≤ 64) (small : length jobs < 2 ^ 32)
     (closes : Closes (view after).drawn word) where
   abbrev n : ℕ
   n = length jobs
@@ -78,17 +92,26 @@ module _ {J D W E : Type 0} (right : J → D → Type 0) (count rest : W → ℕ
       let c = closes.counts in
       let e : word ≡ length (view after).drawn = omega arith in λ h. closes.once u h ∙ ap (below h) e
 
-  pub within_bound : (total count workers ≤ total count now) × (total count now ≤ total count workers + n)
-  within_bound = let r = f.risen in (f.grown, omega (arith, tickets_le n word f.taken numbers))
+  once : AreOnce f.steps
+  once = once_each f.steps (λ k. omega (arith, f.are_steps.numbers (only k), numbers (within n (only k)), one_ticket n word k))
+
+  abbrev pub costs : List (Option Costs)
+  costs = costs_of n f.steps
+
+  pub all_spent : AreSpent spent jobs costs
+  all_spent = are_spent spent jobs f.steps f.are_steps.spent_ones
+
+  pub all_counted : (i : ℕ) → sum_by (count i) now ≡ sum_by (count i) workers + sum_by (cost_in i) costs
+  all_counted i = omega (arith, is_sum (count i) workers, is_sum (count i) now, is_sum (cost_in i) costs, costs_sum spent jobs i f.steps f.are_steps.spent_ones once, f.are_steps.counted i)
 
   abbrev Good : Vec (ℕ × D) → Type 0
-  Good v = Answers right jobs (length workers) f.taken v.items × (total count now ≡ total count workers + length v.items)
+  Good v = Answers right jobs (length workers) f.taken f.steps v.items
 
   word_is : (v : Vec (ℕ × D)) → Good v → word ≡ n + length workers
-  word_is v g = all_drawn n word (length workers) f.taken numbers some g.0.ends
+  word_is v g = all_drawn n word (length workers) f.taken numbers some g.ends
 
   each_once : (v : Vec (ℕ × D)) → Good v → (h : ℕ → ℕ) → total (weight_of h) v.items ≡ below h n
-  each_once v g h = g.0.numbers h ∙ (numbers (within n h) ∙ within_big n word h (let e = word_is v g in omega arith))
+  each_once v g h = told_weight spent jobs right h f.steps v.items g.right_ones ∙ (f.are_steps.numbers h ∙ (numbers (within n h) ∙ within_big n word h (let e = word_is v g in omega arith)))
 
   pub orderly : IfOk result (λ v. (h : ℕ → ℕ) → total (weight_of h) v.items ≡ below h n)
   orderly = go result f.answers
@@ -112,33 +135,13 @@ module _ {J D W E : Type 0} (right : J → D → Type 0) (count rest : W → ℕ
         go (Err e) o = tt
         go (Ok v) o = found_one (λ w g h. closes.once under h ∙ ap (below h) (word_is w g)) o.0
 
-    pub all_counted : OnOk answers (total count now ≡ total count workers + n)
-    all_counted = go answers ordered
-      where
-        go : (r : Result (Vec D) E) → IfOk r (λ v. IsOk result × IfOk result (λ w. AreByNumber w.items n v.items)) → OnOk r (total count now ≡ total count workers + n)
-        go (Err e) o = tt
-        go (Ok v) o = found_one (λ w g. let c = g.1 in omega (arith, lengths w.items, each_once w g (λ _. 1), below_ones n)) o.0
-
-    pub all_answered : IfOk answers (λ v. AreAnswered right jobs v.items)
+    pub all_answered : IfOk answers (λ v. AreAnswered right jobs costs v.items)
     all_answered = go answers ordered
       where
-        both : (v : Vec D) (r : Result (Vec (ℕ × D)) E) → IfOk r Good → IsOk r → IfOk r (λ w. AreByNumber w.items n v.items) → AreAnswered right jobs v.items
+        both : (v : Vec D) (r : Result (Vec (ℕ × D)) E) → IfOk r Good → IsOk r → IfOk r (λ w. AreByNumber w.items n v.items) → AreAnswered right jobs costs v.items
         both v (Err e) a i o = absurd (not_ok i)
-        both v (Ok w) a i o = answered right jobs w.items v.items a.0.right_ones o
+        both v (Ok w) a i o = are_answered spent jobs right f.steps w.items v.items f.are_steps.spent_ones once a.right_ones o
 
-        go : (r : Result (Vec D) E) → IfOk r (λ v. IsOk result × IfOk result (λ w. AreByNumber w.items n v.items)) → IfOk r (λ v. AreAnswered right jobs v.items)
+        go : (r : Result (Vec D) E) → IfOk r (λ v. IsOk result × IfOk result (λ w. AreByNumber w.items n v.items)) → IfOk r (λ v. AreAnswered right jobs costs v.items)
         go (Err e) o = tt
         go (Ok v) o = both v result f.answers o.0 o.1
-
--- the same in the words of std
-module _ {W : Type 0} (count : W → ℕ) where
-  is_sum : (l : List W) → total count l ≡ sum_by count l
-  is_sum l = is_sum_by (total count) count refl (λ _ _. refl) l
-
-  pub summed_within : (workers now : List W) (n : ℕ) → (total count workers ≤ total count now) × (total count now ≤ total count workers + n)
-      → (sum_by count workers ≤ sum_by count now) × (sum_by count now ≤ sum_by count workers + n)
-  summed_within workers now n h = let a = h.0 in let b = h.1 in (omega (arith, is_sum workers, is_sum now), omega (arith, is_sum workers, is_sum now))
-
-  pub summed_at : {A E : Type 0} (workers now : List W) (n : ℕ) (r : Result A E) → OnOk r (total count now ≡ total count workers + n) → OnOk r (sum_by count now ≡ sum_by count workers + n)
-  summed_at workers now n (Err e) h = tt
-  summed_at workers now n (Ok v) h = omega (arith, is_sum workers, is_sum now, h)

@@ -3,7 +3,9 @@ mod Keeps
 mod Working
 mod Forking
 mod Placing
+mod Spending
 mod Finishing
+mod Crews
 mod BoardLaws
 mod ScheduleLaws
 mod ScheduleFacts

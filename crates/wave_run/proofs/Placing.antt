@@ -5,8 +5,8 @@ use Rattle.std.specs.Prelude.{Option, Some, None, ◌⊎◌, slice_get}
 use mathlib.Core.Logic.{dite}
 use native.Mathlib.Decide.{ℕ_discrete, dec_le}
 use Rattle.wave_run.specs.Numbers.{total, below, Among}
-use Rattle.wave_run.specs.Waves.{AreAnswered, IsOneAnswer}
-use Rattle.wave_run.specs.Turns.{beyond, weight_of, IsAnswer, AreAnswers}
+use Rattle.wave_run.specs.Waves.{AreAnswered, Costs, IsOneAnswer}
+use Rattle.wave_run.specs.Turns.{beyond, weight_of}
 use Rattle.wave_run.specs.Places.{AreByNumber, AreFull, ArePlaced, ArePlacing}
 use Rattle.wave_run.proofs.Working.{beyond_no, beyond_yes}
 
@@ -54,19 +54,19 @@ module _ {A : Type 0} where
   got_set (x ∷ xs) (suc i) zero a b e = inr ((λ h. omega arith), e)
   got_set (x ∷ xs) (suc i) (suc j) a b e = ⊎_elim (λ t. inl (ap suc t.0, t.1)) (λ t. let n = t.0 in inr ((λ h. n (omega arith)), t.1)) (got_set xs i j a b e)
 
-  got_here : (l : List A) (i : ℕ) (a : A) → i < length l → slice_get (set l i a) i ≡ Some a
+  pub got_here : (l : List A) (i : ℕ) (a : A) → i < length l → slice_get (set l i a) i ≡ Some a
   got_here [] i a h = absurd (omega arith)
   got_here (x ∷ xs) zero a h = refl
   got_here (x ∷ xs) (suc i) a h = got_here xs i a (omega arith)
 
-  got_else : (l : List A) (i j : ℕ) (a : A) → j ≢ i → slice_get (set l i a) j ≡ slice_get l j
+  pub got_else : (l : List A) (i j : ℕ) (a : A) → j ≢ i → slice_get (set l i a) j ≡ slice_get l j
   got_else [] i j a n = refl
   got_else (x ∷ xs) zero zero a n = absurd (n refl)
   got_else (x ∷ xs) zero (suc j) a n = refl
   got_else (x ∷ xs) (suc i) zero a n = refl
   got_else (x ∷ xs) (suc i) (suc j) a n = got_else xs i j a (λ e. n (ap suc e))
 
-  got_none : (n k : ℕ) (a : A) → slice_get (replicate n None) k ≡ Some (Some a) → ⊥
+  pub got_none : (n k : ℕ) (a : A) → slice_get (replicate n None) k ≡ Some (Some a) → ⊥
   got_none zero k a e = some_none (Some a) (sym e)
   got_none (suc n) zero a e = some_none a (sym (some_same None (Some a) e))
   got_none (suc n) (suc k) a e = got_none n k a e
@@ -95,7 +95,7 @@ module _ {A : Type 0} where
   among_last x (y ∷ ys) = inr (among_last x ys)
 
 module _ {D : Type 0} where
-  among_weight : (f : ℕ → ℕ) (a : ℕ × D) (l : List (ℕ × D)) → Among a l → f a.0 ≤ total (weight_of f) l
+  pub among_weight : (f : ℕ → ℕ) (a : ℕ × D) (l : List (ℕ × D)) → Among a l → f a.0 ≤ total (weight_of f) l
   among_weight f a [] m = absurd m
   among_weight f a (x ∷ xs) m = ⊎_elim (λ (e : a ≡ x). omega (arith, ap (weight_of f) e)) (λ (n : Among a xs). omega (arith, among_weight f a xs n)) m
 
@@ -167,30 +167,23 @@ module _ {D : Type 0} where
     each = λ k d at. p.right k d (ap (λ (l : List (Option D)). slice_get l k) (sym e) ∙ got_map answers k d at);
   }
 
-  pub answered : {J : Type 0} (right : J → D → Type 0) (jobs : List J) (found : List (ℕ × D)) (answers : List D) → AreAnswers right jobs found → AreByNumber found (length jobs) answers → AreAnswered right jobs answers
-  answered {J} right jobs found answers a b = record {
-    size = b.size;
-    each = λ k job d at got.
-        let one : IsAnswer right jobs (k, d) = among_answer found (k, d) a (b.each k d got) in
-        subst (λ (j : J). right j d) (some_same one.0 job (sym one.1 ∙ at)) one.2;
-  }
-    where
-      among_answer : (l : List (ℕ × D)) (x : ℕ × D) → AreAnswers right jobs l → Among x l → IsAnswer right jobs x
-      among_answer [] x every m = absurd m
-      among_answer (y ∷ ys) x every m = ⊎_elim (λ (e : x ≡ y). subst (λ (z : ℕ × D). IsAnswer right jobs z) (sym e) every.0) (λ (n : Among x ys). among_answer ys x every.1 n) m
-
 -- where each job has one right answer, all answers are one list
-pub same_answers : {J D : Type 0} (right : J → D → Type 0) → IsOneAnswer right → (jobs : List J) (a b : List D) → AreAnswered right jobs a → AreAnswered right jobs b → a ≡ b
-same_answers right one [] [] [] p q = refl
-same_answers right one [] [] (y ∷ ys) p q = absurd (omega (arith, q.size))
-same_answers right one [] (x ∷ xs) b p q = absurd (omega (arith, p.size))
-same_answers right one (j ∷ js) [] b p q = absurd (omega (arith, p.size))
-same_answers right one (j ∷ js) (x ∷ xs) [] p q = absurd (omega (arith, q.size))
-same_answers right one (j ∷ js) (x ∷ xs) (y ∷ ys) p q =
-    let here : x ≡ y = one j x y (p.each 0 j x refl refl) (q.each 0 j y refl refl) in
-    let p' : AreAnswered right js xs = record { size = omega (arith, p.size); each = λ k. p.each (suc k) } in
-    let q' : AreAnswered right js ys = record { size = omega (arith, q.size); each = λ k. q.each (suc k) } in
-    ap₂ ◌∷◌ here (same_answers right one js xs ys p' q')
+pub same_answers : {J D : Type 0} (right : J → Costs → D → Type 0) → IsOneAnswer right → (jobs : List J) (b c : List (Option Costs)) (d e : List D) → AreAnswered right jobs b d → AreAnswered right jobs c e → d ≡ e
+same_answers {J} {D} right one jobs b c d e p q = go jobs d e p.size q.size (λ k j x at got. let t = p.each k j x at got in (t.0, t.2)) (λ k j x at got. let t = q.each k j x at got in (t.0, t.2))
+  where
+    Each : List J → List D → Type 0
+    Each js xs = (k : ℕ) (j : J) (x : D) → slice_get js k ≡ Some j → slice_get xs k ≡ Some x → (c : Costs) × right j c x
+
+    go : (js : List J) (xs ys : List D) → length xs ≡ length js → length ys ≡ length js → Each js xs → Each js ys → xs ≡ ys
+    go [] [] [] s t u v = refl
+    go [] [] (y ∷ ys) s t u v = absurd (omega (arith, t))
+    go [] (x ∷ xs) ys s t u v = absurd (omega (arith, s))
+    go (j ∷ js) [] ys s t u v = absurd (omega (arith, s))
+    go (j ∷ js) (x ∷ xs) [] s t u v = absurd (omega (arith, t))
+    go (j ∷ js) (x ∷ xs) (y ∷ ys) s t u v =
+        let a = u 0 j x refl refl in
+        let b = v 0 j y refl refl in
+        ap₂ ◌∷◌ (one j a.0 b.0 x y a.1 b.1) (go js xs ys (omega (arith, s)) (omega (arith, t)) (λ k. u (suc k)) (λ k. v (suc k)))
 
 full_none : {D : Type 0} (answers : List D) (more : List (Option D)) → AreFull (map Some answers ++ None ∷ more) → ⊥
 full_none [] more full = let r = full 0 (omega arith) in some_none r.0 (sym (some_same None (Some r.0) r.1))

@@ -1,10 +1,10 @@
 //! What follows from the definitions alone. The bodies are empty: each contract is a law.
-ghost use Rattle.std.specs.Prelude.{◌≡◌, ◌<◌, ◌≤◌, ◌^◌, ◌%◌, ◌∷◌, [], ℕ, List, length, map, slice_index};
+ghost use Rattle.std.specs.Prelude.{◌≡◌, ◌<◌, ◌≤◌, ◌^◌, ◌%◌, ◌∷◌, [], ℕ, List, Option, length, map, slice_index, sum_by};
 ghost use Rattle.atomic_table.specs.Table.{State};
 ghost use Rattle.wave_run.specs.declared.view.View.{View};
 ghost use Rattle.wave_run.specs.Numbers.{AreBelow, Among, below, times};
 ghost use Rattle.wave_run.specs.Dealing.{IsDealt, IsInOneView, draws};
-ghost use Rattle.wave_run.specs.Waves.{AreAnswered, IsOneAnswer};
+ghost use Rattle.wave_run.specs.Waves.{AreAnswered, Costs, IsOneAnswer, cost_in};
 ghost use Rattle.wave_run.specs.Schedules.{Core, Event, Runs, IsStart, IsComplete, all_drawn, all_noted, views_of};
 
 use crate::step::Step;
@@ -37,5 +37,10 @@ pub fn schedules_are_dealt()
 /// Where each job has at most one right answer, the answers of a wave are one list, however many workers there were and
 /// whatever they did.
 pub fn one_list_of_answers<W, J, D, S: Step<W, J, D>>()
-    ensures { (step : S) (jobs : List J) (a b : List D) → IsOneAnswer (S.right step) → AreAnswered (S.right step) jobs a → AreAnswered (S.right step) jobs b → a ≡ b }
+    ensures { (step : S) (jobs : List J) (b c : List (Option Costs)) (d e : List D) → IsOneAnswer (S.right step) → AreAnswered (S.right step) jobs b d → AreAnswered (S.right step) jobs c e → d ≡ e }
+{}
+
+/// Where each job takes one of a count, a wave with answers takes as many as there are jobs.
+pub fn each_job_counts_once<W, J, D, S: Step<W, J, D>>()
+    ensures { (step : S) (jobs : List J) (costs : List (Option Costs)) (answers : List D) (i : ℕ) → ((job : J) (c : Costs) (d : D) → S.right step job c d → c i ≡ 1) → AreAnswered (S.right step) jobs costs answers → sum_by (cost_in i) costs ≡ length jobs }
 {}

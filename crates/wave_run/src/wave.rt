@@ -1,11 +1,11 @@
 //! Each job of a wave, done once by one of the workers.
-ghost use Rattle.std.specs.Prelude.{◌≡◌, ◌<◌, ◌≤◌, ◌+◌, ◌-◌, ◌*◌, ◌^◌, ◌++◌, ◌∷◌, [], ℕ, List, IfOk, OnOk, OnErr, MatchOption, MatchResult, length, map, slice_get, sum_by, IsOk, Some};
+ghost use Rattle.std.specs.Prelude.{◌≡◌, ◌<◌, ◌≤◌, ◌+◌, ◌^◌, ◌++◌, ◌∷◌, [], ℕ, List, Option, IfOk, OnOk, length, map, sum_by, IsOk};
 ghost use Rattle.std.specs.Thread.{IsSync, IsSend};
 ghost use Rattle.wave_run.specs.Numbers.{AreBelow};
 ghost use Rattle.wave_run.specs.Views.{hand};
 ghost use Rattle.wave_run.specs.Passes.{IsPassOf, IsSamePass, view, parts_of, jobs_of};
-ghost use Rattle.wave_run.specs.Waves.{AreLawful, AreAnswered};
-ghost use Rattle.wave_run.specs.Turns.{Draws, Answers, IsAnswer, tickets};
+ghost use Rattle.wave_run.specs.Waves.{AllCan, AreLawful, AreAnswered, AreServed, AreSpent, Costs, cost_in};
+ghost use Rattle.wave_run.specs.Turns.{HasTurned, HasWorked};
 ghost use Rattle.wave_run.specs.Forks.{MayFork, IsForked};
 
 use crate::board::{Board, Pass};
@@ -27,14 +27,10 @@ fn turn<W, J, D, S: Step<W, J, D>>(
     requires board { jobs_of board.now ≡ length jobs.now.items }
     requires pass { IsPassOf board.now pass.old }
     requires lawful { AreLawful (S.lawful step.now) jobs.now.items }
-    requires room { S.count worker.old < 2 ^ 63 }
+    requires can { (n : ℕ) × S.can (n + 1) worker.old }
     ensures of { IsSamePass pass.old pass.new }
     ensures rest { S.rest worker.new ≡ S.rest worker.old }
-    ensures drawn { (n : ℕ) × (view pass.new ≡ hand (view pass.old).parts ((view pass.old).drawn ++ n ∷ [])) × MatchResult result
-        (λ found. MatchOption found
-        ((length jobs.now.items ≤ n) × (S.count worker.new ≡ S.count worker.old))
-        (λ a. (a.0 ≡ n) × (n < length jobs.now.items) × IsAnswer (S.right step.now) jobs.now.items a × (S.count worker.new ≡ S.count worker.old + 1)))
-        (λ _. (n < length jobs.now.items) × (S.count worker.new ≡ S.count worker.old)) }
+    ensures drawn { (n : ℕ) × (view pass.new ≡ hand (view pass.old).parts ((view pass.old).drawn ++ n ∷ [])) × HasTurned (S.right step.now) (S.spent step.now) S.can S.count jobs.now.items n worker.old worker.new result }
 {
     match board.draw(pass) {
         None => Ok(None),
@@ -59,13 +55,10 @@ fn work<W, J, D: Drop, S: Step<W, J, D>>(
     requires board { jobs_of board.now ≡ length jobs.now.items }
     requires pass { IsPassOf board.now pass.old }
     requires lawful { AreLawful (S.lawful step.now) jobs.now.items }
-    requires room { S.count worker.old + length jobs.now.items < 2 ^ 63 }
+    requires can { S.can (length jobs.now.items + 1) worker.old }
     ensures of { IsSamePass pass.old pass.new }
     ensures rest { S.rest worker.new ≡ S.rest worker.old }
-    ensures grown { S.count worker.old ≤ S.count worker.new }
-    ensures worked { (taken : List ℕ) × Draws (length jobs.now.items) 1 (view pass.old) (view pass.new) taken
-        × (S.count worker.new ≤ S.count worker.old + tickets (length jobs.now.items) taken)
-        × IfOk result (λ v. Answers (S.right step.now) jobs.now.items 1 taken v.items × (S.count worker.new ≡ S.count worker.old + length v.items)) }
+    ensures worked { HasWorked (S.right step.now) (S.spent step.now) S.can S.count jobs.now.items (view pass.old) (view pass.new) worker.old worker.new result }
 {
     let mut found = Vec::new(alloc);
     for _turn in 0..board.jobs() as u64 + 1 {
@@ -101,8 +94,8 @@ fn fork<W: Send, J: Sync, D: Send + Drop, S: Step<W, J, D> + Sync, R: Threads + 
     pass: &mut Pass,
     workers: &mut [W],
 ) -> Result<Vec<(u32, D)>, NoMemory>
-    requires { MayFork (S.lawful step.now) S.count board.now jobs.now.items pass.old workers.old }
-    ensures { IsForked (S.right step.now) S.count S.rest jobs.now.items pass.old pass.new workers.old workers.new result }
+    requires { MayFork (S.lawful step.now) S.can board.now jobs.now.items pass.old workers.old }
+    ensures { IsForked (S.right step.now) (S.spent step.now) S.can S.count S.rest jobs.now.items pass.old pass.new workers.old workers.new result }
 {
     if workers.len() == 1 {
         return work(alloc, step, board, jobs, pass, &mut workers[0]);
@@ -111,8 +104,8 @@ fn fork<W: Send, J: Sync, D: Send + Drop, S: Step<W, J, D> + Sync, R: Threads + 
     let mut other = board.split_off(pass, half as u32);
     let (left, right) = workers.split_at_mut(workers.len() - half);
     let each = |pass: &mut Pass, part: &mut [W]| -> Result<Vec<(u32, D)>, NoMemory>
-        requires { IsSync R.row × IsSync S.row × IsSync J.row × IsSend W.row × IsSend D.row × MayFork (S.lawful step.now) S.count board.now jobs.now.items pass.now part.now }
-        ensures { IsForked (S.right step.entry.now) S.count S.rest jobs.entry.now.items pass.entry.now pass.exit.now part.entry.now part.exit.now result }
+        requires { IsSync R.row × IsSync S.row × IsSync J.row × IsSend W.row × IsSend D.row × MayFork (S.lawful step.now) S.can board.now jobs.now.items pass.now part.now }
+        ensures { IsForked (S.right step.entry.now) (S.spent step.entry.now) S.can S.count S.rest jobs.entry.now.items pass.entry.now pass.exit.now part.entry.now part.exit.now result }
     { fork(rt, alloc, step, board, jobs, pass, part) };
     let (a, b) = both(rt, &each, pass, left, &mut other, right);
     board.absorb(pass, other);
@@ -138,7 +131,7 @@ pub fn run_wave<W: Send, J: Sync, D: Send + Drop, S: Step<W, J, D> + Sync, R: Th
     requires workers { (0 < length workers.old) × (length workers.old ≤ 64) }
     requires few { length jobs.now.items < 2 ^ 32 }
     requires lawful { AreLawful (S.lawful step.now) jobs.now.items }
-    requires room { (k : ℕ) (worker : W) → slice_get workers.old k ≡ Some worker → S.count worker ≤ 2 ^ 63 - 2 ^ 32 }
+    requires room { AllCan S.can (length jobs.now.items + 1) workers.old }
     requires board { (jobs_of board.now ≡ length jobs.now.items) × (parts_of board.now ≡ length workers.old) }
     requires pass { IsPassOf board.now pass × (view pass ≡ hand (length workers.old) []) }
     // The pass comes back with all parts.
@@ -147,10 +140,10 @@ pub fn run_wave<W: Send, J: Sync, D: Send + Drop, S: Step<W, J, D> + Sync, R: Th
     ensures once { AreBelow (length (view result.0).drawn) (view result.0).drawn }
     // With answers these are the jobs' numbers, and one number more for each worker.
     ensures drawn { OnOk result.1 (AreBelow (length jobs.now.items + length workers.old) (view result.0).drawn) }
-    ensures answers { IfOk result.1 (λ v. AreAnswered (S.right step.now) jobs.now.items v.items) }
-    ensures counted { OnOk result.1 (sum_by S.count workers.new ≡ sum_by S.count workers.old + length jobs.now.items) }
-    // At NoMemory too the counts have risen by at most the number of jobs.
-    ensures bound { (sum_by S.count workers.old ≤ sum_by S.count workers.new) × (sum_by S.count workers.new ≤ sum_by S.count workers.old + length jobs.now.items) }
+    // Each job was begun at most once, and the counts rose by what the begun ones took, also at NoMemory. With answers all were.
+    ensures counted { (costs : List (Option Costs)) × AreSpent (S.spent step.now) jobs.now.items costs × ((i : ℕ) → sum_by (S.count i) workers.new ≡ sum_by (S.count i) workers.old + sum_by (cost_in i) costs) × IfOk result.1 (λ v. AreAnswered (S.right step.now) jobs.now.items costs v.items) }
+    // Each worker has done at most that many jobs and one, has lost no count, and can do all others still.
+    ensures served { AreServed S.can S.count (length jobs.now.items + 1) workers.old workers.new }
     ensures rest { map S.rest workers.new ≡ map S.rest workers.old }
 {
     let mut pass = pass;
