@@ -13,3 +13,4 @@ pub mod NodeLemmas
 mod ReadyLemmas
 pub mod RunLaws
 pub mod OutcomeLaws
+pub use Rattle.check_pkg.proofs.OneUnit

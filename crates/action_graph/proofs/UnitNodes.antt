@@ -13,9 +13,9 @@ use Rattle.go_scan.proofs.TokenLaws.{tokens_lie}
 use Rattle.parse_file.specs.Verdict.{IsParsed}
 use Rattle.package_objects.specs.Declares.{part}
 use Rattle.unit_read.specs.Units.{Unit, text_in, nodes_at, nodes_of, token_at}
-use Rattle.vet_words.specs.Diagnosing.{start_of, end_of}
-use Rattle.vet_words.specs.Forms.{is_plain_call}
-use Rattle.vet_simple.specs.Assigning.{is_assign}
+use Rattle.vet_suite.specs.Diagnosing.{start_of, end_of}
+use Rattle.vet_suite.specs.Forms.{is_plain_call}
+use Rattle.vet_suite.specs.Assigning.{is_assign}
 use Rattle.vet_suite.specs.Standing.{NodesStand}
 use Rattle.action_graph.specs.Judging.{AreParsed}
 use Rattle.action_graph.proofs.NodeTokens.{is_statements}

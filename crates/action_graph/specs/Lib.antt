@@ -7,3 +7,8 @@ pub mod Judging
 pub mod Analyzing
 pub mod Outcomes
 pub mod Standing
+pub use Rattle.check_pkg.specs.Faults
+pub use Rattle.check_pkg.specs.Packages
+pub use Rattle.go_rules.specs.Stages
+pub use Rattle.vet_suite.specs.Free
+pub use Rattle.vet_suite.specs.Suite

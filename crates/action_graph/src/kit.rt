@@ -3,6 +3,7 @@ ghost use Rattle.std.specs.Prelude.{◌≡◌, ◌+◌, ◌<◌, ◌^◌, ℕ, E
 ghost use Rattle.action_graph.specs.Judging.{IfAccepted, IsLawful, IsOutcome, IsStuck, load_text};
 ghost use Rattle.action_graph.specs.Analyzing.{AreGivenOnce, AreRunOutcomes};
 
+use crate::trees::Trees;
 use gv_base::{Bytes, NoMemory, Row, Text};
 
 /// All that the load of a package reads.
@@ -109,8 +110,12 @@ pub trait Kit {
         ensures loads { loads self.new ≡ loads self.old }
         ensures runs { runs self.new ≡ runs self.old };
 
-    /// Loads a package. What comes of it is by the input alone, whatever the kit keeps.
-    fn load(&mut self, input: &LoadInput) -> Result<Load<Self::Loaded>, Unloaded>
+    /// Loads a package. What comes of it is by the input alone, whatever the kit keeps and whichever of its files were parsed before.
+    fn load(
+        &mut self,
+        input: &LoadInput,
+        trees: Option<Trees>,
+    ) -> Result<Load<Self::Loaded>, Unloaded>
         requires loads { loads self.old < 2 ^ 63 }
         requires holds { holds self.old }
         ensures holds { holds self.new }

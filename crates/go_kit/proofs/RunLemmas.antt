@@ -4,7 +4,7 @@ use Rattle.std.proofs.Math.Path.{fun_ext}
 use Rattle.std.proofs.lemmas.List.{length_push}
 use Rattle.std.proofs.lemmas.Option.{same_Some, slice_get-get_or, slice_get_within}
 use Rattle.gv_base.proofs.Lists.{push_cases}
-use Rattle.go_rules.specs.Stages.{rule}
+use Rattle.action_graph.specs.Stages.{rule}
 use Rattle.go_tree.specs.Bindings.{AreInOrder}
 use Rattle.go_tree.specs.declared.tree.FileTree.{FileTree}
 use Rattle.package_faces.specs.Faces.{Face}
@@ -24,8 +24,8 @@ use Rattle.check_pkg.specs.Typings.{IsOneAnnotation, IsTyped, marks_of, unit_by}
 use Rattle.check_pkg.proofs.OneUnit.{the_unit}
 use Rattle.check_pkg.proofs.TypedLaws.{typed_scene, typed_unit}
 use Rattle.handed_facts.specs.Handed.{ArePathsApart}
-use Rattle.vet_suite.specs.Free.{path_of, AreGiven}
-use Rattle.vet_suite.specs.Suite.{FactsBy, FoundBy}
+use Rattle.action_graph.specs.Free.{path_of, AreGiven}
+use Rattle.action_graph.specs.Suite.{FactsBy, FoundBy}
 use Rattle.action_graph.specs.declared.kit.LoadInput.{LoadInput}
 use Rattle.action_graph.specs.declared.kit.RunOf.{RunOf}
 use Rattle.action_graph.specs.declared.kit.RunOutcome.{RunOutcome}

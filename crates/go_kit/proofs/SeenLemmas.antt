@@ -10,7 +10,7 @@ use Rattle.face_table.proofs.FitLemmas.{declared_plain}
 use Rattle.go_tree.specs.Lexeme.{place_of}
 use Rattle.go_tree.specs.Names.{spelled_at}
 use Rattle.go_tree.specs.declared.tree.FileTree.{FileTree}
-use Rattle.go_rules.specs.Stages.{rule}
+use Rattle.action_graph.specs.Stages.{rule}
 use Rattle.package_faces.specs.Faces.{ObjectOut, DefinedOut, Face}
 use Rattle.package_faces.specs.Interfaces.{AreObjectsIn}
 use Rattle.package_faces.specs.Reaching.{own_name, IsExportOf}

@@ -1,6 +1,6 @@
 -- A package as it is loaded, and what an analyzer finds of it.
 use Rattle.std.specs.Prelude.{◌≡◌, ℕ, ◌<◌, ◌^◌, List, [], length, map, Option, Some, None, slice_get}
-use Rattle.go_rules.specs.Stages.{rule}
+use Rattle.action_graph.specs.Stages.{rule}
 use Rattle.go_tree.specs.declared.tree.FileTree.{FileTree}
 use Rattle.package_faces.specs.declared.interface.Interface.{Interface}
 use Rattle.package_faces.specs.Interfaces.{faces_of, AreInterfacesIn}
@@ -18,7 +18,7 @@ use Rattle.check_pkg.specs.Packages.{Package, package_of}
 use Rattle.check_pkg.specs.Typings.{unit_by}
 use Rattle.analysis_core.specs.declared.diagnostic.Diagnostic.{Diagnostic}
 use Rattle.analysis_core.specs.Findings.{AreFindings}
-use Rattle.vet_suite.specs.Suite.{FactsBy, FoundBy}
+use Rattle.action_graph.specs.Suite.{FactsBy, FoundBy}
 use Rattle.action_graph.specs.declared.kit.Load.{Load}
 use Rattle.action_graph.specs.declared.kit.Load.TheVariants.{Accepted, Refused}
 use Rattle.action_graph.specs.declared.kit.LoadInput.{LoadInput}

@@ -10,15 +10,15 @@ ghost use Rattle.unit_read.specs.Subjects.{unit_of};
 ghost use Rattle.check_pkg.specs.Packages.{known_of};
 ghost use Rattle.check_pkg.specs.Typings.{marks_of};
 ghost use Rattle.findings.specs.Passes.{IsPass};
-ghost use Rattle.vet_suite.specs.Free.{path_of, AreGiven};
-ghost use Rattle.vet_suite.specs.Suite.{FactsBy, FoundBy};
+ghost use Rattle.action_graph.specs.Free.{path_of, AreGiven};
+ghost use Rattle.action_graph.specs.Suite.{FactsBy, FoundBy};
 ghost use Rattle.action_graph.specs.declared.kit.RunOf.{RunOf as OneRun};
 ghost use Rattle.action_graph.specs.Analyzing.{AreGivenOnce, AreRunOutcomes};
 ghost use Rattle.action_graph.specs.Judging.{text_of};
 ghost use Rattle.go_kit.specs.Loading.{AreOutcomesIn, IsLoadOf, IsOutcomeIn, faces_over, unit_loaded};
 
 use crate::loaded::Loaded;
-use action_graph::{LoadInput, RunOf, RunOutcome};
+use action_graph::{Found, LoadInput, RunOf, RunOutcome, fixes_are_own, run_analyzer as run};
 use analysis_core::write_findings;
 use check_pkg::{known, texts};
 use findings::Pass;
@@ -26,7 +26,6 @@ use gv_base::{Bytes, NoMemory, Text};
 use std::alloc::Global;
 use typed_marks::State;
 use unit_read::{Environment, Subject};
-use vet_suite::{Found, fixes_are_own, run};
 
 /// What the analyzer of a run finds of a package that has been read, and its marks; and its facts.
 fn found_in(

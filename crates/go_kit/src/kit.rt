@@ -11,7 +11,7 @@ use crate::kept::Kept;
 use crate::loaded::Loaded;
 use crate::loading::load_package;
 use crate::storing::{chosen, released, stored};
-use action_graph::{Kit, Load, LoadInput, RunOf, RunOutcome, Unloaded};
+use action_graph::{Kit, Load, LoadInput, RunOf, RunOutcome, Trees, Unloaded};
 use gv_base::NoMemory;
 use std::alloc::Global;
 
@@ -79,7 +79,7 @@ impl Kit for GoKit {
         self.kept = None;
     }
 
-    fn load(&mut self, input: &LoadInput) -> Result<Load<Loaded>, Unloaded>
+    fn load(&mut self, input: &LoadInput, trees: Option<Trees>) -> Result<Load<Loaded>, Unloaded>
         requires loads { self.old.loads < 2 ^ 63 }
         requires holds { IsStore self.old.kept }
         ensures holds { IsStore self.new.kept }
@@ -94,7 +94,7 @@ impl Kit for GoKit {
         ensures runs { self.new.runs ≡ self.old.runs }
     {
         let (before, aside) = chosen(self.kept.take(), input.env.as_slice());
-        let (load, after) = load_package(self.alloc, before, input)?;
+        let (load, after) = load_package(self.alloc, before, input, trees)?;
         self.kept = stored(aside, after);
         self.loads += 1;
         Ok(load)

@@ -2,6 +2,7 @@
 #![tactic(auto)]
 
 mod analyzing;
+mod crew;
 mod env;
 mod kept;
 mod kit;
@@ -13,6 +14,8 @@ mod read;
 mod storing;
 mod tell;
 
+pub use action_graph::{Kit, Load, LoadInput, RunOf, RunOutcome, Trees, Unloaded};
+pub use crew::new_kits;
 pub use kit::GoKit;
 pub use laws::one_loaded;
 pub use loaded::Loaded;

@@ -16,7 +16,7 @@ use crate::loaded::{Loaded, loaded_of};
 use crate::read::read_files;
 use crate::storing::{begun, kept_after};
 use crate::tell::{judge, marks_text};
-use action_graph::{Load, LoadInput, Unloaded};
+use action_graph::{Load, LoadInput, Trees, Unloaded};
 use check_pkg::Typed;
 use face_table::declare_faces;
 use go_tree::FileTree;
@@ -133,11 +133,12 @@ fn load_trees(
     }
 }
 
-/// What comes of a package, over what is kept.
+/// What comes of a package, over what is kept. Files that were parsed before aren't parsed again.
 pub(crate) fn load_package(
     alloc: Global,
     kept: Option<Kept>,
     input: &LoadInput,
+    parsed: Option<Trees>,
 ) -> Result<(Load<Loaded>, Option<Kept>), Unloaded>
     requires { IsStore kept }
     ensures of { IfOk result (λ r. IfAccepted r.0 (λ l. IsLoadOf l input.now)) }
@@ -152,7 +153,7 @@ pub(crate) fn load_package(
         let marks = marks_text(alloc, &[])?;
         return Ok((Load::Refused { marks }, kept));
     }
-    let read = read_files(alloc, files)?;
+    let read = read_files(alloc, files, parsed)?;
     match read {
         Some(trees) => {
             let begun = begun(alloc, kept)?;

@@ -3,7 +3,7 @@ ghost use Rattle.std.specs.Prelude.{◌≡◌, ◌<◌, ◌^◌, ℕ, List, true
 ghost use Rattle.bind.specs.Answers.{AreSpelled, AreSmall};
 ghost use Rattle.export_text.specs.Faces.{IsFace};
 ghost use Rattle.face_table.specs.Fitting.{given};
-ghost use Rattle.go_rules.specs.Stages.{rule};
+ghost use Rattle.action_graph.specs.Stages.{rule};
 ghost use Rattle.package_faces.specs.Faces.{Face};
 ghost use Rattle.package_faces.specs.Interfaces.{face_of, faces_of, AreInterfacesIn, IsInterfaceIn};
 ghost use Rattle.type_model.specs.declared.term.TypeName.{TypeName as AName};
@@ -18,10 +18,9 @@ ghost use Rattle.go_kit.specs.Loading.{IsAcceptedOf, kept_with};
 ghost use Rattle.go_kit.specs.Reading.{IsSeenOf, Stands, TellsOf};
 
 use crate::loaded::table_in;
-use action_graph::{Load, MarkLine, Unloaded, write_marks};
+use action_graph::{GoRules, Load, MarkLine, Unloaded, write_marks};
 use check_pkg::{Checked, Fault, Outcome, Refusal, Typed, check, limit_number};
 use export_text::{gather, mentions, write};
-use go_rules::GoRules;
 use go_tree::{FileTree, token_text};
 use gv_base::{Bytes, NoMemory, Place, Row, Text};
 use gv_bytes::Unread;

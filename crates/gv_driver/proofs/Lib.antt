@@ -10,7 +10,6 @@ mod ReachLaws
 mod CacheLaws
 mod TableLaws
 mod StepLaws
-mod OrderLaws
 mod MissingLaws
 pub mod AnalyzerLaws
 mod RunNodeLaws
@@ -32,7 +31,13 @@ mod ReportLaws
 pub mod RunLaws
 pub mod OnceLaws
 mod PerformLaws
+mod WaveLaws
+mod WaveSums
+mod ChosenLaws
+pub mod GrownLaws
 mod ExistingLoads
 mod ExistingFacts
 pub mod ExistenceLaws
 mod BelowLaws
+pub use Rattle.action_graph.proofs.OneFinding
+pub use Rattle.action_graph.proofs.OneUnit

@@ -51,6 +51,15 @@ module _ {L : Type 0} (is_of : L → LoadInput → Type 0) (keeps : L → Type 0
         (t.0, e ∙ t.1);
   }
 
+  -- the trees for the load were taken out
+  pub taken-loading : (o p : Loading L) → p.loaded ≡ o.loaded → p.tried ≡ o.tried → IsLoading is_of keeps input o → IsLoading is_of keeps input p
+  taken-loading o p e f is = record {
+    held = λ l h. is.held l (sym e ∙ h);
+    there = λ tried lawful accepting.
+        let t = is.there (sym f ∙ tried) lawful accepting in
+        (t.0, e ∙ t.1);
+  }
+
   -- nothing was loaded
   pub none-loading : (o : Loading L) → o.loaded ≡ None → o.tried ≡ false → IsLoading is_of keeps input o
   none-loading o e f = record {

@@ -183,15 +183,13 @@ module _ (tree : List PackageTexts) (only : ℕ) (before : List Entry) (table : 
         short = made.runs.short;
       }
 
-  pub performs-made : (n : Node) (next : List (Option Node)) (count now : Tally) → IsMade given before load numbers n → Takes given before load numbers n count now → next ≡ set table p (Some n)
-      → Performs tree only before p table next count now
-  performs-made n next count now made takes put = record {
-    node = n;
-    is = put;
+  pub performs-made : (n : Node) (count now : Tally) → IsMade given before load numbers n → Takes given before load numbers n count now → Performs tree only before p n count now
+  performs-made n count now made takes = record {
     looked = made-looked n made;
     right = made-right n made;
     loads = takes.loads;
     runs = λ honest. takes.runs honest (lawful-of honest) (all-named honest);
+    bound = takes.bound;
     most =
         let a : now.runs ≤ count.runs + length numbers = takes.most in
         let b : length numbers ≤ 15 = analyzers-few only pack.stub in

@@ -19,6 +19,7 @@ use Rattle.gv_driver.specs.Trees.{IsTree}
 use Rattle.gv_driver.specs.Whole.{IsEnv, Checked, Reaches}
 use Rattle.gv_driver.specs.Whole.Reaches.{at_once, onward}
 use Rattle.gv_driver.specs.Caches.{IsHonest}
+use Rattle.gv_driver.specs.Waves.{IsOwnRow}
 use Rattle.gv_driver.specs.Rows.{merged, of_paths, path_in, reach_in, with_each}
 use Rattle.gv_driver.specs.Loads.{IsExport, IsLoadOf}
 use Rattle.gv_driver.specs.Tables.{AreGood, AreRight, AreRows, IsGood, IsReady, IsRightNode, IsRowOf, IsTable, accepted_in, answer_text, export_in, export_part, load_from, pair_at}
@@ -205,11 +206,11 @@ text-of (Accepted export) i v e tells =
     subst (λ (x : Face). IsFaceText x export) same t.2
 text-of (Refused marks) i v e tells = (let t = tells_refused v marks tells in let wrong : Accepts i ≡ Refuses t.0 = sym e ∙ t.1 in absurd cc)
 
--- the rows after p's node is put, whose row is made of what its text mentions
-pub rows-set : {only : ℕ} (tree : List PackageTexts) (before : List Entry) (table : List (Option Node)) (p : ℕ) (pack : PackageTexts) (node : Node) → IsTree tree → IsTable tree only before table → AreRows tree before table
+-- the row of a ready package, which is made of what its text mentions
+pub own-row : {only : ℕ} (tree : List PackageTexts) (before : List Entry) (table : List (Option Node)) (p : ℕ) (pack : PackageTexts) (node : Node) → IsTree tree → IsTable tree only before table → AreRows tree before table
     → slice_get tree p ≡ Some pack → IsReady tree table p → (IsHonest before → IsRightNode tree only p node)
-    → IsRowOf tree table (merged table pack.imports) (export_part node.answer) node.reach → AreRows tree before (set table p (Some node))
-rows-set tree before table p pack node formed is rows at ready right made = record { good = good; reached = reached }
+    → IsRowOf tree table (merged table pack.imports) (export_part node.answer) node.reach → IsOwnRow tree before table p node
+own-row tree before table p pack node formed is rows at ready right made = record { good = own-good; reached = own-reached }
   where
     accepted : AreGood table pack.imports
     accepted = subst (λ (x : PackageTexts). AreGood table x.imports) (same_pack tree p ready.pack pack ready.at at) ready.accepted
@@ -219,12 +220,6 @@ rows-set tree before table p pack node formed is rows at ready right made = reco
         let numbers = of_paths tree made.paths (merged table pack.imports) in
         let all : AreGood table numbers = λ q c. good-merged tree before table pack.imports rows accepted q (of-paths tree made.paths (merged table pack.imports) q c).0 in
         subst (λ (l : List ℕ). AreGood table l) (sym made.is) (good-merged tree before table numbers rows all)
-
-    good : (q : ℕ) (n : Node) → slice_get (set table p (Some node)) q ≡ Some (Some n) → AreGood (set table p (Some node)) n.reach
-    good q n h r c = good-kept table p r node ready.waits (elim (get-set_cases table p q (Some node) (Some n) h) [
-      | inl e ↦ own-good r (subst (λ (x : Node). Contains x.reach r) (sym (same_Some node n e.1)) c)
-      | inr was ↦ rows.good q n was r c
-    ])
 
     own-reached : IsHonest before → (f : Face) → Checked tree p (Accepts f) → (r : ℕ) → Contains node.reach r ↔ Reaches tree r f
     own-reached honest f ok r =
@@ -237,10 +232,25 @@ rows-set tree before table p pack node formed is rows at ready right made = reco
           λ reaches. subst (λ (l : List ℕ). Contains l r) (sym made.is) (row-has tree before table honest (is.right honest) rows formed p pack at accepted f ok made.paths are r reaches),
         )
 
+-- the rows after p's node is put
+pub rows-put : (tree : List PackageTexts) (before : List Entry) (table : List (Option Node)) (p : ℕ) (node : Node) → slice_get table p ≡ Some None → AreRows tree before table → IsOwnRow tree before table p node
+    → AreRows tree before (set table p (Some node))
+rows-put tree before table p node waits rows own = record { good = good; reached = reached }
+  where
+    good : (q : ℕ) (n : Node) → slice_get (set table p (Some node)) q ≡ Some (Some n) → AreGood (set table p (Some node)) n.reach
+    good q n h r c = good-kept table p r node waits (elim (get-set_cases table p q (Some node) (Some n) h) [
+      | inl e ↦ own.good r (subst (λ (x : Node). Contains x.reach r) (sym (same_Some node n e.1)) c)
+      | inr was ↦ rows.good q n was r c
+    ])
+
     reached : IsHonest before → (q : ℕ) (n : Node) (f : Face) → slice_get (set table p (Some node)) q ≡ Some (Some n) → Checked tree q (Accepts f) → (r : ℕ) → Contains n.reach r ↔ Reaches tree r f
     reached honest q n f h ok r = elim (get-set_cases table p q (Some node) (Some n) h) [
       | inl e ↦
           let mine : Checked tree p (Accepts f) = subst (λ (x : ℕ). Checked tree x (Accepts f)) e.0 ok in
-          subst (λ (x : Node). Contains x.reach r ↔ Reaches tree r f) (same_Some node n e.1) (own-reached honest f mine r)
+          subst (λ (x : Node). Contains x.reach r ↔ Reaches tree r f) (same_Some node n e.1) (own.reached honest f mine r)
       | inr was ↦ rows.reached honest q n f was ok r
     ]
+
+-- it stays while another node is put
+pub own-kept : (tree : List PackageTexts) (before : List Entry) (table : List (Option Node)) (q p : ℕ) (m n : Node) → slice_get table q ≡ Some None → IsOwnRow tree before table p n → IsOwnRow tree before (set table q (Some m)) p n
+own-kept tree before table q p m n waits own = record { good = λ r c. good-kept table q r m waits (own.good r c); reached = own.reached }

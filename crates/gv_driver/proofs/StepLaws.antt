@@ -14,7 +14,7 @@ use Rattle.gv_driver.specs.Analyzers.{analyzers_of}
 use Rattle.gv_driver.specs.Trees.{Imports}
 use Rattle.gv_driver.specs.Caches.{IsHonest}
 use Rattle.gv_driver.specs.Tables.{AreLookedUp, AreShort, IsRightNode, AreRight, AreRows, IsLookedUp, IsTable, IsReady, executed, executed_runs, loads_in, number_in, runs_in, runs_of_node, waiting, weight}
-use Rattle.gv_driver.specs.Runs.{Breaks, Goes, Performs, Stops}
+use Rattle.gv_driver.specs.Runs.{Goes, Stops}
 use Rattle.gv_driver.specs.Tallies.{Tally}
 use Rattle.gv_driver.proofs.AnalyzerLaws.{analyzers-few}
 use Rattle.gv_driver.proofs.MissingLaws.{one-le, take-le}
@@ -30,13 +30,13 @@ sum-set f table p n h none =
     let s : sum_by f (set table p (Some n)) + f (get_or table p None) ≡ sum_by f table + f (Some n) = sum_by-set f table p (Some n) None within in
     omega (arith, g, s, none)
 
-executed-set : (table : List (Option Node)) (p : ℕ) (n : Node) → slice_get table p ≡ Some None → executed (set table p (Some n)) ≡ executed table + loads_in (Some n)
+pub executed-set : (table : List (Option Node)) (p : ℕ) (n : Node) → slice_get table p ≡ Some None → executed (set table p (Some n)) ≡ executed table + loads_in (Some n)
 executed-set table p n h = sum-set loads_in table p n h refl
 
-runs-set : (table : List (Option Node)) (p : ℕ) (n : Node) → slice_get table p ≡ Some None → executed_runs (set table p (Some n)) ≡ executed_runs table + runs_in (Some n)
+pub runs-set : (table : List (Option Node)) (p : ℕ) (n : Node) → slice_get table p ≡ Some None → executed_runs (set table p (Some n)) ≡ executed_runs table + runs_in (Some n)
 runs-set table p n h = sum-set runs_in table p n h refl
 
-waiting-set : (table : List (Option Node)) (p : ℕ) (n : Node) → slice_get table p ≡ Some None → waiting (set table p (Some n)) + 1 ≡ waiting table
+pub waiting-set : (table : List (Option Node)) (p : ℕ) (n : Node) → slice_get table p ≡ Some None → waiting (set table p (Some n)) + 1 ≡ waiting table
 waiting-set table p n h =
     let within : p < length table = slice_get_within table p None h in
     let e : get_or table p None ≡ None = get_or_from_slice_get table p None None h in
@@ -44,7 +44,7 @@ waiting-set table p n h =
     let s : waiting (set table p (Some n)) + weight (get_or table p None) ≡ waiting table + 0 = sum_by-set weight table p (Some n) None within in
     omega (arith, f, s)
 
-loads-le : (n : Node) → loads_in (Some n) ≤ 1
+pub loads-le : (n : Node) → loads_in (Some n) ≤ 1
 loads-le n = one-le _
 
 imports-in : (tree : List PackageTexts) (p q : ℕ) (pack : PackageTexts) → slice_get tree p ≡ Some pack → Imports tree p q → Contains pack.imports q
@@ -59,14 +59,14 @@ right-set tree only table p n is right = record {
   ];
 }
 
-looked-set : (tree : List PackageTexts) (only : ℕ) (before : List Entry) (table : List (Option Node)) (p : ℕ) (n : Node) → AreLookedUp tree only before table → IsLookedUp tree only before p n
+pub looked-set : (tree : List PackageTexts) (only : ℕ) (before : List Entry) (table : List (Option Node)) (p : ℕ) (n : Node) → AreLookedUp tree only before table → IsLookedUp tree only before p n
     → AreLookedUp tree only before (set table p (Some n))
 looked-set tree only before table p n is looked q m h = elim (get-set_cases table p q (Some n) (Some m) h) [
   | inl e ↦ subst (λ (x : ℕ). IsLookedUp tree only before x m) (sym e.0) (subst (λ (x : Node). IsLookedUp tree only before p x) (same_Some n m e.1) looked)
   | inr was ↦ is q m was
 ]
 
-table-set : (tree : List PackageTexts) (only : ℕ) (before : List Entry) (table : List (Option Node)) (p : ℕ) (n : Node) → IsTable tree only before table → IsReady tree table p
+pub table-set : (tree : List PackageTexts) (only : ℕ) (before : List Entry) (table : List (Option Node)) (p : ℕ) (n : Node) → IsTable tree only before table → IsReady tree table p
     → IsLookedUp tree only before p n → (IsHonest before → IsRightNode tree only p n) → IsTable tree only before (set table p (Some n))
 table-set tree only before table p n is ready looked right = record {
   size = length-set table p (Some n) ∙ is.size;
@@ -80,26 +80,6 @@ table-set tree only before table p n is ready looked right = record {
 
 pub goes-refl : (tree : List PackageTexts) (only : ℕ) (before : List Entry) (table : List (Option Node)) (count : Tally) → IsTable tree only before table → Goes tree only before table table count count
 goes-refl tree only before table count is = record { right = is; loads = refl; runs = λ honest. refl; room = omega arith; most = omega arith }
-
--- p's node is put
-pub goes-performs : (tree : List PackageTexts) (only : ℕ) (before : List Entry) (table next : List (Option Node)) (count now : Tally) (p : ℕ)
-    → IsTable tree only before table → IsReady tree table p → Performs tree only before p table next count now → Goes tree only before table next count now
-goes-performs tree only before table next count now p is ready does =
-    let waits = ready.waits in
-    let node = does.node in
-    let e : executed (set table p (Some node)) ≡ executed table + loads_in (Some node) = executed-set table p node waits in
-    let r : executed_runs (set table p (Some node)) ≡ executed_runs table + runs_in (Some node) = runs-set table p node waits in
-    let w : waiting (set table p (Some node)) + 1 ≡ waiting table = waiting-set table p node waits in
-    let le : loads_in (Some node) ≤ 1 = loads-le node in
-    let loads : now.loads ≡ count.loads + loads_in (Some node) = does.loads in
-    let most : now.runs ≤ count.runs + 15 = does.most in
-    rw does.is (record {
-      right = table-set tree only before table p node is ready does.looked does.right;
-      loads = omega (arith, e, loads);
-      runs = λ honest. (let x : now.runs ≡ count.runs + runs_in (Some node) = does.runs honest in omega (arith, r, x));
-      room = omega (arith, w, le, loads);
-      most = omega (arith, w, most);
-    })
 
 pub goes-on : (tree : List PackageTexts) (only : ℕ) (before : List Entry) (first table next : List (Option Node)) (begun count now : Tally) → Goes tree only before first table begun count → Goes tree only before table next count now
     → Goes tree only before first next begun now
@@ -122,29 +102,6 @@ goes-on tree only before first table next begun count now a b =
     }
 
 -- ---- cut off
-
--- p's nodes were begun
-pub stops-breaks : (tree : List PackageTexts) (only : ℕ) (before : List Entry) (table : List (Option Node)) (count now : Tally) (p : ℕ)
-    → IsTable tree only before table → IsReady tree table p → Breaks tree only before p count now → Stops tree only before table count now
-stops-breaks tree only before table count now p is ready does =
-    let waits = ready.waits in
-    let node = does.node in
-    let e : executed (set table p (Some node)) ≡ executed table + loads_in (Some node) = executed-set table p node waits in
-    let r : executed_runs (set table p (Some node)) ≡ executed_runs table + runs_in (Some node) = runs-set table p node waits in
-    let w : waiting (set table p (Some node)) + 1 ≡ waiting table = waiting-set table p node waits in
-    let le : loads_in (Some node) ≤ 1 = loads-le node in
-    let loads : now.loads ≤ count.loads + loads_in (Some node) = does.loads in
-    let runs : now.runs ≤ count.runs + runs_in (Some node) = does.runs in
-    let most : now.runs ≤ count.runs + 15 = does.most in
-    record {
-      broken = set table p (Some node);
-      size = length-set table p (Some node) ∙ is.size;
-      looked = looked-set tree only before table p node is.looked does.looked;
-      loads = omega (arith, e, loads);
-      runs = λ honest. omega (arith, r, runs);
-      room = omega (arith, w, le, loads);
-      most = omega (arith, w, most);
-    }
 
 -- nothing was begun
 pub stops-none : (tree : List PackageTexts) (only : ℕ) (before : List Entry) (table : List (Option Node)) (count : Tally) → IsTable tree only before table → Stops tree only before table count count

@@ -5,7 +5,7 @@ use Rattle.export_text.specs.Mentions.{IsMentioned}
 use Rattle.package_faces.specs.Declaring.{first_named, path_of}
 use Rattle.package_faces.specs.Faces.{Face}
 use Rattle.action_graph.specs.Nodes.{Named}
-use Rattle.check_pkg.specs.Packages.{Package}
+use Rattle.action_graph.specs.Packages.{Package}
 use Rattle.action_graph.specs.Judging.{Judged, Env, ImportsPath, IsPackageOf, Judges}
 use Rattle.action_graph.specs.Judging.Judged.{Accepts}
 use Rattle.gv_driver.specs.declared.tree.PackageTexts.{PackageTexts}

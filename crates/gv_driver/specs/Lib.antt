@@ -16,3 +16,13 @@ pub mod Opening
 pub mod Entries
 pub mod Facts
 pub mod Given
+pub mod Waves
+pub use Rattle.action_graph.specs.Analyzing
+pub use Rattle.action_graph.specs.Faults
+pub use Rattle.action_graph.specs.Judging
+pub use Rattle.action_graph.specs.Nodes
+pub use Rattle.action_graph.specs.Packages
+pub use Rattle.action_graph.specs.Stages
+pub use Rattle.action_graph.specs.Standing as NodesStanding
+pub use Rattle.action_graph.specs.Suite
+pub use Rattle.action_graph.specs.declared.marks.MarkLine

@@ -1,7 +1,6 @@
 -- How a run goes on, and what it has done at its end.
-use Rattle.std.specs.Prelude.{◌≡◌, ℕ, ◌+◌, ◌*◌, ◌≤◌, ◌<◌, Option, Some, None, List, [], ◌∷◌, ◌++◌, map, drop, length, slice_get, slice_set, sum_by, true, false}
+use Rattle.std.specs.Prelude.{◌≡◌, ℕ, ◌+◌, ◌*◌, ◌≤◌, ◌<◌, Option, Some, None, List, [], ◌∷◌, ◌++◌, map, drop, length, slice_get, sum_by, true, false}
 use Rattle.std.specs.List.{Contains}
-use Rattle.need_order.specs.declared.needed.Needed.{Needed}
 use Rattle.fact_cache.specs.declared.texts.Input.{Input}
 use Rattle.fact_cache.specs.declared.list.Entry.{Entry}
 use Rattle.action_graph.specs.Judging.{Env, IsStuckOver}
@@ -11,18 +10,17 @@ use Rattle.gv_driver.specs.declared.reply.Judgement.{Judgement}
 use Rattle.gv_driver.specs.Whole.{HasEnv}
 use Rattle.gv_driver.specs.Loads.{IsPlan, all_inputs}
 use Rattle.gv_driver.specs.Caches.{IsHonest, IsRight, IsCacheAfter, IsPartKept, missing_of, is_cached, input_of, loads_of, runs_of}
-use Rattle.gv_driver.specs.Tables.{AreLookedUp, IsTable, IsReady, IsLookedUp, IsRightNode, loads_in, runs_in, waiting, executed, executed_runs}
+use Rattle.gv_driver.specs.Tables.{AreLookedUp, IsTable, IsLookedUp, IsRightNode, loads_in, runs_in, waiting, executed, executed_runs}
 use Rattle.gv_driver.specs.Tallies.{Tally}
 use Rattle.gv_driver.specs.Reports.{IsFactReport, IsReport, IsRunReport}
 
--- p's node is put into the table
-pub record Performs (tree : List PackageTexts) (only : ℕ) (before : List Entry) (p : ℕ) (table next : List (Option Node)) (count now : Tally) : Type 0 where
-  pub node : Node
-  pub is : next ≡ slice_set table p (Some node)
+-- p's node is made
+pub record Performs (tree : List PackageTexts) (only : ℕ) (before : List Entry) (p : ℕ) (node : Node) (count now : Tally) : Type 0 where
   pub looked : IsLookedUp tree only before p node
   pub right : IsHonest before → IsRightNode tree only p node
   pub loads : now.loads ≡ count.loads + loads_in (Some node)
   pub runs : IsHonest before → now.runs ≡ count.runs + runs_in (Some node)
+  pub bound : now.runs ≤ count.runs + runs_in (Some node)
   pub most : now.runs ≤ count.runs + 15
 
 -- p's nodes were begun: no more was executed than what such a node takes, whose inputs are those of the first of p's nodes
@@ -32,15 +30,6 @@ pub record Breaks (tree : List PackageTexts) (only : ℕ) (before : List Entry) 
   pub loads : now.loads ≤ count.loads + loads_in (Some node)
   pub runs : now.runs ≤ count.runs + runs_in (Some node)
   pub most : now.runs ≤ count.runs + 15
-
--- p was looked at: its node was put in if it was ready, and nothing else changed.
-pub data Looks (tree : List PackageTexts) (p : ℕ) (table next : List (Option Node)) : Type 0 where
-  passes : (IsReady tree table p → ⊥) → next ≡ table → Looks tree p table next
-  puts : (node : Node) → IsReady tree table p → next ≡ slice_set table p (Some node) → Looks tree p table next
-
--- of the first so many of an order none is ready
-abbrev pub ArePassed : List PackageTexts → List Needed → ℕ → List (Option Node) → Type 0
-ArePassed tree order end table = (k : ℕ) (e : Needed) → k < end → slice_get order k ≡ Some e → IsReady tree table e.vertex → ⊥
 
 -- From one table to a later one: the counts rose by what the later one took.
 pub record Goes (tree : List PackageTexts) (only : ℕ) (before : List Entry) (table next : List (Option Node)) (count now : Tally) : Type 0 where

@@ -5,7 +5,7 @@ ghost use Rattle.gv_driver.specs.Trees.{IsTree};
 ghost use Rattle.gv_driver.specs.Caches.{IsHonest};
 ghost use Rattle.gv_driver.specs.Runs.{IsCutOff, MeetsCircle, Ran};
 ghost use Rattle.gv_driver.specs.Standing.{AreFoundIn, AreVerdictsIn};
-ghost use Rattle.gv_driver.specs.Tallies.{tally};
+ghost use Rattle.gv_driver.specs.Tallies.{AreGrown, tally};
 
 use crate::counts::counts;
 use crate::diagnosed::findings;
@@ -14,12 +14,13 @@ use crate::keep::{entries_of, keep};
 use crate::node::Node;
 use crate::reply::Judgement;
 use crate::report::verdicts;
-use crate::step::run_all;
 use crate::tree::PackageTexts;
-use action_graph::{Kit, Unloaded, findings_stand};
+use crate::wave::run_all;
+use action_graph::{Kit, PackageTrees, Unloaded, findings_stand};
 use fact_cache::Cache;
 use gv_base::{NoMemory, Row};
 use std::alloc::Global;
+use std::thread::Threads;
 
 fn none_done(alloc: Global, count: usize) -> Result<Vec<Option<Node>>, NoMemory>
     ensures { IfOk result (λ table. table.items ≡ replicate count None) }
@@ -33,29 +34,35 @@ fn none_done(alloc: Global, count: usize) -> Result<Vec<Option<Node>>, NoMemory>
 }
 
 /// What comes of a tree. No entry is dropped; the clauses say what holds once the oldest are.
-fn run_with<K: Kit>(
+fn run_with<K: Kit + Send, R: Threads + Sync>(
+    rt: &R,
     alloc: Global,
     tree: &[PackageTexts],
+    trees: &PackageTrees,
     only: u16,
     cache: &mut Cache,
-    kit: &mut K,
+    kits: &mut [K],
 ) -> Result<Judgement, Unloaded>
+where
+    K::Loaded: Send,
     requires tree { IsTree tree.now }
     requires few { length tree.now < 2 ^ 28 }
-    requires loads { K.loads kit.old ≤ 2 ^ 62 }
-    requires runs { K.runs kit.old ≤ 2 ^ 62 }
-    ensures loads { K.loads kit.new ≤ K.loads kit.old + length tree.now }
-    ensures runs { K.runs kit.new ≤ K.runs kit.old + 15 * length tree.now }
+    requires some { 0 < length kits.old }
+    requires loads { (k : ℕ) (kit : K) → slice_get kits.old k ≡ Some kit → K.loads kit ≤ 2 ^ 62 }
+    requires runs { (k : ℕ) (kit : K) → slice_get kits.old k ≡ Some kit → K.runs kit ≤ 2 ^ 62 }
+    ensures loads { sum_by K.loads kits.new ≤ sum_by K.loads kits.old + length tree.now }
+    ensures least { AreGrown K.loads K.runs kits.old kits.new }
+    ensures runs { sum_by K.runs kits.new ≤ sum_by K.runs kits.old + 15 * length tree.now }
     ensures stand { IfOk result (λ reply. AreVerdictsIn tree.now reply.verdicts) }
     ensures found { IfOk result (λ reply. AreFoundIn tree.now reply.found) }
     ensures facts { IfOk result (λ reply. length reply.facts ≡ length tree.now) }
-    ensures ran { IsHonest cache.old → IfOk result (λ reply. Ran tree.now only cache.old (trimmed cache.new) (tally (K.loads kit.old) (K.runs kit.old)) (tally (K.loads kit.new) (K.runs kit.new)) reply) }
-    ensures cut_off { IsHonest cache.old → OnErr result (IsCutOff tree.now only cache.old (trimmed cache.new) (tally (K.loads kit.old) (K.runs kit.old)) (tally (K.loads kit.new) (K.runs kit.new))) }
+    ensures ran { IsHonest cache.old → IfOk result (λ reply. Ran tree.now only cache.old (trimmed cache.new) (tally (sum_by K.loads kits.old) (sum_by K.runs kits.old)) (tally (sum_by K.loads kits.new) (sum_by K.runs kits.new)) reply) }
+    ensures cut_off { IsHonest cache.old → OnErr result (IsCutOff tree.now only cache.old (trimmed cache.new) (tally (sum_by K.loads kits.old) (sum_by K.runs kits.old)) (tally (sum_by K.loads kits.new) (sum_by K.runs kits.new))) }
     ensures circle { result ≡ Err Unloaded.Stuck → MeetsCircle tree.now cache.old }
     ensures honest { IsHonest cache.old → IsHonest cache.new }
 {
     let mut table = none_done(alloc, tree.len())?;
-    run_all(alloc, tree, only, cache, kit, &mut table)?;
+    run_all(rt, alloc, tree, trees, only, cache, kits, &mut table)?;
     let list = verdicts(alloc, tree, &table)?;
     let found = findings(alloc, tree, &table)?;
     findings_stand();
@@ -71,55 +78,33 @@ fn run_with<K: Kit>(
     })
 }
 
-/// The same, and then the oldest entries are dropped until the limits hold, however it ended.
-#[tactic(auto, using(crate::proofs::CacheLaws::honest_trimmed, crate::proofs::CacheLaws::trimmed_is_within))]
-fn run_within<K: Kit>(
-    alloc: Global,
-    tree: &[PackageTexts],
-    only: u16,
-    cache: &mut Cache,
-    kit: &mut K,
-) -> Result<Judgement, Unloaded>
-    requires tree { IsTree tree.now }
-    requires few { length tree.now < 2 ^ 28 }
-    requires loads { K.loads kit.old ≤ 2 ^ 62 }
-    requires runs { K.runs kit.old ≤ 2 ^ 62 }
-    ensures loads { K.loads kit.new ≤ K.loads kit.old + length tree.now }
-    ensures runs { K.runs kit.new ≤ K.runs kit.old + 15 * length tree.now }
-    ensures stand { IfOk result (λ reply. AreVerdictsIn tree.now reply.verdicts) }
-    ensures found { IfOk result (λ reply. AreFoundIn tree.now reply.found) }
-    ensures facts { IfOk result (λ reply. length reply.facts ≡ length tree.now) }
-    ensures ran { IsHonest cache.old → IfOk result (λ reply. Ran tree.now only cache.old cache.new (tally (K.loads kit.old) (K.runs kit.old)) (tally (K.loads kit.new) (K.runs kit.new)) reply) }
-    ensures cut_off { IsHonest cache.old → OnErr result (IsCutOff tree.now only cache.old cache.new (tally (K.loads kit.old) (K.runs kit.old)) (tally (K.loads kit.new) (K.runs kit.new))) }
-    ensures circle { result ≡ Err Unloaded.Stuck → MeetsCircle tree.now cache.old }
-    ensures honest { IsHonest cache.old → IsHonest cache.new }
-    ensures within { is_within cache.new ≡ true }
-{
-    let reply = run_with(alloc, tree, only, cache, kit);
-    cache.trim();
-    reply
-}
-
-/// Judges a tree with the first of the kits, and with what the cache has; what was executed is kept. Over the accepted packages the analyzers
+/// Judges a tree with the kits side by side, and with what the cache has; what was executed is kept. Over the accepted packages the analyzers
 /// run whose bits `only` has: none for a check. It returns
 /// over any cache, after at most one load and fifteen runs for each package, with a verdict for each package whose marks
-/// stand in the package's files, and with diagnostics that do. Where the cache is honest, the verdicts and the findings are
+/// stand in the package's files, and with diagnostics that do; no kit's counts fall. Where the cache is honest, the verdicts and the findings are
 /// those of the sources, exactly the missing nodes are executed and the loads that a missing run needs, and the missing nodes' entries stand
 /// behind the old ones. Where
 /// it answers that rules go in a circle, some package of the tree is stuck. However it
-/// ends, the oldest entries are then dropped until the cache's limits hold.
-pub fn run<K: Kit>(
+/// ends, the oldest entries are then dropped until the cache's limits hold. Trees of files that were parsed before spare their packages' loads the
+/// parse; nothing else depends on them.
+#[tactic(auto, using(crate::proofs::CacheLaws::honest_trimmed, crate::proofs::CacheLaws::trimmed_is_within))]
+pub fn run<K: Kit + Send, R: Threads + Sync>(
+    rt: &R,
     alloc: Global,
     tree: &[PackageTexts],
+    trees: &PackageTrees,
     only: u16,
     cache: &mut Cache,
     kits: &mut [K],
 ) -> Result<Judgement, Unloaded>
+where
+    K::Loaded: Send,
     requires tree { IsTree tree.now }
     requires few { length tree.now < 2 ^ 28 }
     requires some { 0 < length kits.old }
     requires loads { (k : ℕ) (kit : K) → slice_get kits.old k ≡ Some kit → K.loads kit ≤ 2 ^ 62 }
     requires runs { (k : ℕ) (kit : K) → slice_get kits.old k ≡ Some kit → K.runs kit ≤ 2 ^ 62 }
+    ensures least { AreGrown K.loads K.runs kits.old kits.new }
     ensures bound { sum_by K.loads kits.new + sum_by K.runs kits.new ≤ sum_by K.loads kits.old + sum_by K.runs kits.old + 16 * length tree.now }
     ensures stand { IfOk result (λ reply. AreVerdictsIn tree.now reply.verdicts) }
     ensures found { IfOk result (λ reply. AreFoundIn tree.now reply.found) }
@@ -130,6 +115,7 @@ pub fn run<K: Kit>(
     ensures honest { IsHonest cache.old → IsHonest cache.new }
     ensures within { is_within cache.new ≡ true }
 {
-    let reply = run_within(alloc, tree, only, cache, &mut kits[0])?;
-    Ok(reply)
+    let reply = run_with(rt, alloc, tree, trees, only, cache, kits);
+    cache.trim();
+    reply
 }

@@ -8,11 +8,11 @@ mod diagnosed;
 mod driver;
 mod facts;
 mod input;
+mod jobs;
 mod keep;
 mod laws;
 mod loading;
 mod node;
-mod order;
 mod package;
 mod parts;
 mod ready;
@@ -23,7 +23,9 @@ mod runs;
 mod standing;
 mod step;
 mod tree;
+mod wave;
 
+pub use action_graph::{Kit, MarkLine, PackageTrees, ParsedFile, Trees, Unloaded};
 pub use analysis_core::Counts;
 pub use driver::run;
 pub use laws::{

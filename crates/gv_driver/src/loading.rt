@@ -1,5 +1,5 @@
 //! The load of a package, executed at most once.
-ghost use Rattle.std.specs.Prelude.{◌≡◌, ◌+◌, ◌<◌, ◌^◌, ℕ, true, false, Some, None, Err, IfOk, OnOk, OnErr};
+ghost use Rattle.std.specs.Prelude.{◌≡◌, ◌≤◌, ◌+◌, ◌<◌, ◌^◌, ℕ, true, false, Some, None, Err, IfOk, OnOk, OnErr};
 ghost use Rattle.action_graph.specs.Judging.{IsLawful, IsOutcome, IsStuck, load_text};
 ghost use Rattle.gv_driver.specs.Caches.{IsHonest};
 ghost use Rattle.gv_driver.specs.Loads.{load_input};
@@ -12,7 +12,7 @@ use crate::input::{key_of, load_of};
 use crate::node::{Answer, Begun, Loading, Node};
 use crate::parts::{cached, parts_of};
 use crate::tree::PackageTexts;
-use action_graph::{Kit, Load, LoadInput, Unloaded};
+use action_graph::{Kit, Load, LoadInput, Trees, Unloaded};
 use fact_cache::{Cache, Input};
 use std::alloc::Global;
 
@@ -30,6 +30,7 @@ fn opened<L: Drop>(key: Input, load: Load<L>) -> Begun<L>
             loading: Loading {
                 loaded: Some(loaded),
                 tried: true,
+                trees: None,
             },
         },
         Load::Refused { marks } => Begun {
@@ -38,13 +39,14 @@ fn opened<L: Drop>(key: Input, load: Load<L>) -> Begun<L>
             loading: Loading {
                 loaded: None,
                 tried: true,
+                trees: None,
             },
         },
     }
 }
 
 /// What a cache had of a load.
-fn found<L>(answer: Answer) -> Begun<L>
+fn found<L>(answer: Answer, trees: Option<Trees>) -> Begun<L>
     ensures fresh { result.fresh ≡ None }
     ensures answer { result.answer ≡ answer }
     ensures loaded { result.loading.loaded ≡ None }
@@ -56,6 +58,7 @@ fn found<L>(answer: Answer) -> Begun<L>
         loading: Loading {
             loaded: None,
             tried: false,
+            trees,
         },
     }
 }
@@ -68,6 +71,7 @@ fn executed<K: Kit>(
     table: &[Option<Node>],
     env: &[u32],
     pack: &PackageTexts,
+    trees: Option<Trees>,
 ) -> Result<Begun<K::Loaded>, Unloaded>
     requires loads { K.loads kit.old < 2 ^ 63 }
     requires holds { K.holds kit.old }
@@ -83,7 +87,7 @@ fn executed<K: Kit>(
 {
     let key = key_of(alloc, tree, table, env, pack)?;
     let input = load_of(alloc, tree, table, env, pack)?;
-    let load = kit.load(&input)?;
+    let load = kit.load(&input, trees)?;
     Ok(opened(key, load))
 }
 
@@ -96,6 +100,7 @@ pub(crate) fn begun_of<K: Kit>(
     table: &[Option<Node>],
     env: &[u32],
     pack: &PackageTexts,
+    trees: Option<Trees>,
 ) -> Result<Begun<K::Loaded>, Unloaded>
     requires loads { K.loads kit.old < 2 ^ 63 }
     requires holds { K.holds kit.old }
@@ -103,6 +108,7 @@ pub(crate) fn begun_of<K: Kit>(
     ensures opened { IfOk result (λ b. IsOpened K.is_of K.keeps cache.now (load_over tree.now table.now env.now pack.now) b) }
     ensures counts { IfOk result (λ b. K.loads kit.new ≡ K.loads kit.old + digit b.loading.tried) }
     ensures refused { OnErr result (K.loads kit.new ≡ K.loads kit.old) }
+    ensures loads_least { K.loads kit.old ≤ K.loads kit.new }
     ensures runs { K.runs kit.new ≡ K.runs kit.old }
     ensures circle { result ≡ Err Unloaded.Stuck → IsStuck (load_over tree.now table.now env.now pack.now) }
 {
@@ -110,10 +116,10 @@ pub(crate) fn begun_of<K: Kit>(
     match cached(cache, 0, &parts) {
         Some(outcome) => {
             let answer = read_answer(alloc, outcome)?;
-            Ok(found(answer))
+            Ok(found(answer, trees))
         }
         None => {
-            let begun = executed(alloc, tree, kit, table, env, pack)?;
+            let begun = executed(alloc, tree, kit, table, env, pack, trees)?;
             Ok(begun)
         }
     }
@@ -130,6 +136,7 @@ fn loading_of<L: Drop>(load: Load<L>) -> Loading<L>
             Loading {
                 loaded: Some(loaded),
                 tried: true,
+                trees: None,
             }
         }
         Load::Refused { marks } => {
@@ -137,6 +144,7 @@ fn loading_of<L: Drop>(load: Load<L>) -> Loading<L>
             Loading {
                 loaded: None,
                 tried: true,
+                trees: None,
             }
         }
     }
@@ -156,13 +164,14 @@ pub(crate) fn load_once<K: Kit>(
     ensures loads { K.loads kit.new + digit loading.old.tried ≡ K.loads kit.old + digit loading.new.tried }
     ensures tried { OnOk result (loading.new.tried ≡ true) }
     ensures same { OnErr result (loading.new.tried ≡ loading.old.tried) }
+    ensures loads_least { K.loads kit.old ≤ K.loads kit.new }
     ensures runs { K.runs kit.new ≡ K.runs kit.old }
     ensures circle { result ≡ Err Unloaded.Stuck → IsStuck input.now }
 {
     if loading.tried {
         return Ok(());
     }
-    let load = kit.load(input)?;
+    let load = kit.load(input, loading.trees.take())?;
     *loading = loading_of(load);
     Ok(())
 }

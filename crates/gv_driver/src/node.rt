@@ -1,4 +1,5 @@
 //! What is known of a package's nodes in a run.
+use action_graph::Trees;
 use fact_cache::Input;
 use gv_base::{Bytes, Row};
 
@@ -42,6 +43,8 @@ pub struct Loading<L> {
     pub loaded: Option<L>,
     /// Whether the load was executed.
     pub tried: bool,
+    /// Trees of its files for the load, where it wasn't executed.
+    pub trees: Option<Trees>,
 }
 
 /// A package's load, before its runs.

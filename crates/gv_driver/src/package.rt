@@ -17,7 +17,7 @@ use crate::node::{Begun, Node};
 use crate::rows::{merged_row, row_of};
 use crate::runs::runs_for;
 use crate::tree::PackageTexts;
-use action_graph::{Kit, Unloaded};
+use action_graph::{Kit, Trees, Unloaded};
 use fact_cache::Cache;
 use gv_base::Row;
 use std::alloc::Global;
@@ -48,6 +48,8 @@ fn with_runs<K: Kit>(
     requires opened { IsOpened K.is_of K.keeps cache.now (load_over tree.now table.now env.now pack.now) begun }
     requires apart { AllApart (givens tree.now table.now env.now) }
     ensures holds { K.holds kit.new }
+    ensures loads_least { K.loads kit.old ≤ K.loads kit.new }
+    ensures runs_least { K.runs kit.old ≤ K.runs kit.new }
     ensures made { IfOk result (λ n. IsMade (givens tree.now table.now env.now) cache.now (load_over tree.now table.now env.now pack.now) numbers.now n) }
     ensures takes { (count : ℕ) → K.loads kit.old ≡ count + digit begun.loading.tried → IfOk result (λ n. Takes (givens tree.now table.now env.now) cache.now (load_over tree.now table.now env.now pack.now) numbers.now n (tally count (K.runs kit.old)) (tally (K.loads kit.new) (K.runs kit.new))) }
     ensures begun { (count : ℕ) → K.loads kit.old ≡ count + digit begun.loading.tried → OnErr result (IsBegun (givens tree.now table.now env.now) cache.now (load_over tree.now table.now env.now pack.now) numbers.now (tally count (K.runs kit.old)) (tally (K.loads kit.new) (K.runs kit.new))) }
@@ -91,19 +93,22 @@ fn made_of<K: Kit>(
     table: &[Option<Node>],
     env: &[u32],
     pack: &PackageTexts,
+    trees: Option<Trees>,
 ) -> Result<Node, Unloaded>
     requires loads { K.loads kit.old + 2 < 2 ^ 63 }
     requires runs { K.runs kit.old + 15 < 2 ^ 63 }
     requires holds { K.holds kit.old }
     requires apart { AllApart (givens tree.now table.now env.now) }
     ensures holds { K.holds kit.new }
+    ensures loads_least { K.loads kit.old ≤ K.loads kit.new }
+    ensures runs_least { K.runs kit.old ≤ K.runs kit.new }
     ensures made { IfOk result (λ n. IsMade (givens tree.now table.now env.now) cache.now (load_over tree.now table.now env.now pack.now) (analyzers_of only pack.now.stub) n) }
     ensures takes { IfOk result (λ n. Takes (givens tree.now table.now env.now) cache.now (load_over tree.now table.now env.now pack.now) (analyzers_of only pack.now.stub) n (tally (K.loads kit.old) (K.runs kit.old)) (tally (K.loads kit.new) (K.runs kit.new))) }
     ensures begun { OnErr result (IsBegun (givens tree.now table.now env.now) cache.now (load_over tree.now table.now env.now pack.now) (analyzers_of only pack.now.stub) (tally (K.loads kit.old) (K.runs kit.old)) (tally (K.loads kit.new) (K.runs kit.new))) }
     ensures circle { result ≡ Err Unloaded.Stuck → IsStuck (load_over tree.now table.now env.now pack.now) }
 {
     let numbers = analyzers(alloc, only, pack.stub)?;
-    let begun = begun_of(alloc, tree, cache, kit, table, env, pack)?;
+    let begun = begun_of(alloc, tree, cache, kit, table, env, pack, trees)?;
     let node = with_runs(alloc, tree, cache, kit, table, env, pack, &numbers, begun)?;
     Ok(node)
 }
@@ -137,6 +142,7 @@ pub(crate) fn done_of<K: Kit>(
     kit: &mut K,
     table: &[Option<Node>],
     pack: &PackageTexts,
+    trees: Option<Trees>,
 ) -> Result<Node, Unloaded>
     requires tree { IsTree tree.now }
     requires size { length table.now ≡ length tree.now }
@@ -145,6 +151,8 @@ pub(crate) fn done_of<K: Kit>(
     requires runs { K.runs kit.old + 15 < 2 ^ 63 }
     requires holds { K.holds kit.old }
     ensures holds { K.holds kit.new }
+    ensures loads_least { K.loads kit.old ≤ K.loads kit.new }
+    ensures runs_least { K.runs kit.old ≤ K.runs kit.new }
     ensures made { IfOk result (λ n. IsMade (givens_from tree.now table.now pack.now) cache.now (load_from tree.now table.now pack.now) (analyzers_of only pack.now.stub) n) }
     ensures row { IfOk result (λ n. IsRowOf tree.now table.now (merged table.now pack.now.imports) (export_part n.answer) n.reach) }
     ensures takes { IfOk result (λ n. Takes (givens_from tree.now table.now pack.now) cache.now (load_from tree.now table.now pack.now) (analyzers_of only pack.now.stub) n (tally (K.loads kit.old) (K.runs kit.old)) (tally (K.loads kit.new) (K.runs kit.new))) }
@@ -152,7 +160,17 @@ pub(crate) fn done_of<K: Kit>(
     ensures circle { result ≡ Err Unloaded.Stuck → IsStuck (load_from tree.now table.now pack.now) }
 {
     let env = merged_row(alloc, table, pack.imports.as_slice())?;
-    let node = made_of(alloc, tree, only, cache, kit, table, env.as_slice(), pack)?;
+    let node = made_of(
+        alloc,
+        tree,
+        only,
+        cache,
+        kit,
+        table,
+        env.as_slice(),
+        pack,
+        trees,
+    )?;
     let reach = row_of(alloc, tree, table, env.as_slice(), export_of(&node.answer))?;
     Ok(with_row(node, reach))
 }

@@ -219,6 +219,7 @@ fn outcomes_of<K: Kit>(
     ensures loading { IsLoading K.is_of K.keeps load.now loading.new }
     ensures loads { K.loads kit.new + digit loading.old.tried ≡ K.loads kit.old + digit loading.new.tried }
     ensures tried { OnOk result (loading.new.tried ≡ true) }
+    ensures loads_least { K.loads kit.old ≤ K.loads kit.new }
     ensures least { K.runs kit.old ≤ K.runs kit.new }
     ensures runs { K.runs kit.new ≤ K.runs kit.old + length asked.now }
     ensures right { IsLawful load.now → IsAccepting load.now → IfOk result (λ outcomes. HasAnswered load.now asked.now outcomes.items) }
@@ -292,6 +293,7 @@ fn answered<K: Kit>(
     ensures loads { K.loads kit.new + digit loading.old.tried ≡ K.loads kit.old + digit loading.new.tried }
     ensures tried { OnOk result (loading.new.tried ≡ tried_after loading.old.tried asked.now) }
     ensures begun { digit loading.new.tried ≤ digit (tried_after loading.old.tried asked.now) }
+    ensures loads_least { K.loads kit.old ≤ K.loads kit.new }
     ensures least { K.runs kit.old ≤ K.runs kit.new }
     ensures runs { K.runs kit.new ≤ K.runs kit.old + length asked.now }
     ensures filled { OnOk result (IsFilled load.now asked.now nodes.old.items nodes.new.items) }
@@ -345,6 +347,7 @@ pub(crate) fn runs_for<K: Kit>(
     requires apart { AllApart (givens tree.now table.now env.now) }
     ensures holds { K.holds kit.new }
     ensures loading { IsLoading K.is_of K.keeps (load_over tree.now table.now env.now pack.now) loading.new }
+    ensures loads_least { K.loads kit.old ≤ K.loads kit.new }
     ensures least { K.runs kit.old ≤ K.runs kit.new }
     ensures made { IfOk result (λ v. AreRuns (givens tree.now table.now env.now) cache.now (load_over tree.now table.now env.now pack.now) numbers.now v.items) }
     ensures tried { OnOk result (loading.new.tried ≡ spent_by cache.now loading.old.tried (run_keys (givens tree.now table.now env.now) (load_over tree.now table.now env.now pack.now) numbers.now)) }

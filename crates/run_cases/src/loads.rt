@@ -68,7 +68,7 @@ fn loaded(alloc: Global, kit: &mut GoKit, input: &LoadInput) -> Result<Vec<u8>, 
         return unread(alloc);
     }
     kit.clear();
-    match kit.load(input) {
+    match kit.load(input, None) {
         Ok(load) => shown(alloc, &load),
         Err(Unloaded::NoMemory) => Err(NoMemory),
         Err(Unloaded::Stuck) => said(alloc, "circle"),

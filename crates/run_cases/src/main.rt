@@ -12,44 +12,55 @@ mod work;
 use anyhow::{Result, bail};
 use bundles::{cases, is_answered, names};
 use gv_base::NoMemory;
-use std::alloc::Global;
 use std::fs;
+use std::thread::Threads;
 
 /// What the product answers to the input of a case, by its folder and file.
-fn answer(alloc: Global, folder: &str, name: &str, input: &str) -> Result<Vec<u8>, NoMemory> {
+fn answer<R: Threads + Sync + AllocGlobal>(
+    rt: &R,
+    folder: &str,
+    name: &str,
+    input: &str,
+) -> Result<Vec<u8>, NoMemory> {
+    let alloc = rt.alloc();
     match folder {
         "loads" => loads::answer(alloc, name, input),
         "replies" => replies::answer(alloc, name, input),
-        "trees" => trees::answer(alloc, input),
+        "trees" => trees::answer(rt, alloc, input),
         "work" => work::answer(alloc, name, input),
         _ => told::unread(alloc),
     }
 }
 
 /// Runs the cases of a file.
-fn run_file(rt: &HostRuntime, folder: &str, name: &str) -> Result<()> {
+fn run_file<R: Threads + Sync + AllocGlobal>(
+    host: &HostRuntime,
+    rt: &R,
+    folder: &str,
+    name: &str,
+) -> Result<()> {
     let path = format!(in rt.alloc(); "{folder}/{name}")?;
-    let bytes = fs::read(rt, path.as_str())?;
+    let bytes = fs::read(host, path.as_str())?;
     let text = std::str::from_utf8(bytes.as_slice())?;
     let mut count = 0usize;
     let mut met = 0usize;
     for case in cases(rt.alloc(), text)?.as_slice() {
-        let Ok(answer) = answer(rt.alloc(), folder, name, case.input) else {
+        let Ok(answer) = answer(rt, folder, name, case.input) else {
             bail!("no memory");
         };
         count = count.saturating_add(1);
-        if is_answered(rt, path.as_str(), case, &answer)? {
+        if is_answered(host, path.as_str(), case, &answer)? {
             met = met.saturating_add(1);
         }
     }
-    println!(rt; "{path}: cases {count}, answered as expected {met}")?;
+    println!(host; "{path}: cases {count}, answered as expected {met}")?;
     Ok(())
 }
 
 fn main(rt: HostRuntime) -> Result<()> {
     for folder in names(&rt, ".")?.as_slice() {
         for name in names(&rt, folder.as_str())?.as_slice() {
-            run_file(&rt, folder.as_str(), name.as_str())?;
+            run_file(&rt, &rt, folder.as_str(), name.as_str())?;
         }
     }
     Ok(())

@@ -10,8 +10,9 @@ use bundles::bytes_of;
 use fact_cache::Cache;
 use go_kit::GoKit;
 use gv_base::{Files, NoMemory};
-use std::alloc::Global;
 use report_text::text;
+use std::alloc::Global;
+use std::thread::Threads;
 use tree_report::{Heard, nothing_heard, report_on};
 
 /// Puts a file of one of eight paths.
@@ -58,7 +59,8 @@ const CHECK: Options = Options {
 };
 
 /// What is told of a tree, by a new kit.
-fn told(
+fn told<R: Threads + Sync>(
+    rt: &R,
     alloc: Global,
     files: &Files,
     heard: &mut Heard,
@@ -68,7 +70,7 @@ fn told(
     ensures { IsHeard heard.new }
 {
     let mut kits = [GoKit::new(alloc)];
-    match report_on(alloc, files, CHECK, heard, cache, &mut kits) {
+    match report_on(rt, alloc, files, CHECK, heard, cache, &mut kits) {
         Ok(reply) => reply_says(alloc, files, &reply),
         Err(Unloaded::NoMemory) => Err(NoMemory),
         Err(Unloaded::Stuck) => said(alloc, "circle"),
@@ -76,17 +78,21 @@ fn told(
 }
 
 /// What is told of a tree twice, with one cache and what was read the first time.
-fn told_twice(alloc: Global, files: &Files) -> Result<Vec<u8>, NoMemory> {
+fn told_twice<R: Threads + Sync>(
+    rt: &R,
+    alloc: Global,
+    files: &Files,
+) -> Result<Vec<u8>, NoMemory> {
     let mut cache = Cache::new(alloc);
     let mut heard = nothing_heard(alloc);
-    let mut out = told(alloc, files, &mut heard, &mut cache)?;
-    let second = told(alloc, files, &mut heard, &mut cache)?;
+    let mut out = told(rt, alloc, files, &mut heard, &mut cache)?;
+    let second = told(rt, alloc, files, &mut heard, &mut cache)?;
     out.extend_from_slice(&second)?;
     Ok(out)
 }
 
 /// The answer to the input of a case of this file.
-pub fn answer(alloc: Global, input: &str) -> Result<Vec<u8>, NoMemory> {
+pub fn answer<R: Threads + Sync>(rt: &R, alloc: Global, input: &str) -> Result<Vec<u8>, NoMemory> {
     let files = tree_of(alloc, input)?;
-    told_twice(alloc, &files)
+    told_twice(rt, alloc, &files)
 }

@@ -16,7 +16,7 @@ use Rattle.parse_file.specs.Verdict.{IsParsed}
 use Rattle.parse_file.specs.declared.verdict.FileVerdict.{FileVerdict}
 use Rattle.parse_file.specs.declared.verdict.FileVerdict.TheVariants as verdict
 use Rattle.parse_file.proofs.Counts.{tokens_length}
-use Rattle.check_pkg.specs.Packages.{Package as Sources, package_of as sources_of}
+use Rattle.gv_driver.specs.Packages.{Package as Sources, package_of as sources_of}
 use Rattle.import_graph.specs.Sources.{is_source}
 use Rattle.import_graph.specs.declared.pack.Package.{Package}
 use Rattle.import_graph.specs.Packages.{paths_of, is_broken, head_at, is_missing, first_name, clash_in, clashes, counts, lines_in, lines_of, imports_path, missing_at, missing}
@@ -24,7 +24,7 @@ use Rattle.import_graph.proofs.ListLemmas.{any-get, get-any, map-get, get-map}
 use Rattle.import_graph.proofs.OrderLemmas.{keep-filter}
 use Rattle.gv_driver.proofs.Places.{element, at-contained, contains-at}
 use Rattle.analysis_core.specs.Replies.{file_numbered}
-use Rattle.action_graph.specs.Judging.{text_of, AreParsed, IsFileAt, ImportsPath, IsPackageOf, NamesAgree}
+use Rattle.gv_driver.specs.Judging.{text_of, AreParsed, IsFileAt, ImportsPath, IsPackageOf, NamesAgree}
 use Rattle.tree_report.specs.Reading.{AreRead, AreHeads, head_in, IsRead}
 use Rattle.tree_report.proofs.NodeLemmas.{nodes_few}
 

@@ -17,7 +17,7 @@ use Rattle.tree_report.proofs.ToldLemmas.{told_none}
 
 -- what was told of a file that isn't refused
 pub told_kept : (files : List Entry) (heads : List (Option Head)) (refusals : List (Option FileVerdict)) → AreTold files (length files) heads refusals → (at : ℕ) (entry : Entry) (head copy : Option Head)
-    → slice_get files at ≡ Some entry → slice_get refusals at ≡ Some None → slice_get heads at ≡ Some head → copy ≡ head → IsTold entry (record { head = copy; refusal = None })
+    → slice_get files at ≡ Some entry → slice_get refusals at ≡ Some None → slice_get heads at ≡ Some head → copy ≡ head → IsTold entry (record { head = copy; refusal = None; tree = None })
 told_kept files heads refusals are at entry head copy here refused headed same =
     let low : at < length files = slice_get_within files at entry here in
     let size : length are.verdicts ≡ length files = are.size in
@@ -44,7 +44,7 @@ file_same (p, t) path text same =
 -- the same of what stands at a place
 pub told_place : (files : List Entry) (heads : List (Option Head)) (refusals : List (Option FileVerdict)) → AreTold files (length files) heads refusals → (at : ℕ) (entry wanted : Entry) (refusal : Option FileVerdict) (head copy : Option Head) (some : Bool)
     → at < length files → entry ≡ get_or files at entry → entry ≡ wanted → refusal ≡ get_or refusals at refusal → some ≡ is_some refusal → some ≡ false → head ≡ get_or heads at head → copy ≡ head
-    → IsTold wanted (record { head = copy; refusal = None })
+    → IsTold wanted (record { head = copy; refusal = None; tree = None })
 told_place files heads refusals are at entry wanted refusal head copy some low entry_is same refusal_is some_is off head_is copied =
     let size : length are.verdicts ≡ length files = are.size in
     let headed : length heads ≡ length files = are.headed in

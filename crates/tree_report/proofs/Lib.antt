@@ -16,4 +16,10 @@ pub mod StopLemmas
 pub mod ExistenceLemmas
 pub mod PlainLemmas
 mod ToldLemmas
+mod ReadingLemmas
 mod HeardLemmas
+pub use Rattle.gv_driver.proofs.AnalyzerLaws
+pub use Rattle.gv_driver.proofs.EntryLaws
+pub use Rattle.gv_driver.proofs.GrownLaws
+pub use Rattle.gv_driver.proofs.Places
+pub use Rattle.gv_driver.proofs.WholeLaws

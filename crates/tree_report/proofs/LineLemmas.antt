@@ -8,7 +8,7 @@ use Rattle.go_tree.specs.declared.head.ImportLine.{ImportLine}
 use Rattle.typed_tree.specs.RuleTexts.{limit_text}
 use Rattle.typed_tree.specs.declared.rule.Limit.{Limit}
 use Rattle.typed_tree.specs.declared.rule.Limit.TheVariants as limits
-use Rattle.check_pkg.specs.Faults.{limit_number}
+use Rattle.gv_driver.specs.Faults.{limit_number}
 use Rattle.import_graph.proofs.FaultLemmas.{missing-none, missing-one}
 use Rattle.analysis_core.specs.declared.reply.ErrorLine.{ErrorLine}
 use Rattle.go_tree.specs.declared.head.Head.{Head}

@@ -17,7 +17,7 @@ use Rattle.import_graph.specs.declared.go_mod.Stop.TheVariants.{Comment}
 use Rattle.import_graph.specs.Packages.{home_of, is_of, numbers_from, files_of, is_stub_path}
 use Rattle.import_graph.proofs.ListLemmas.{some-numbers, in-mapped}
 use Rattle.analysis_core.specs.Replies.{file_numbered}
-use Rattle.action_graph.specs.Nodes.{AreNamed}
+use Rattle.gv_driver.specs.Nodes.{AreNamed}
 use Rattle.tree_report.specs.Limits.{is_limited, limited_sizes}
 
 -- the files of numbers that pass a test are the files that pass it

@@ -19,9 +19,9 @@ use Rattle.import_graph.specs.declared.pack.PackState.{PackState}
 use Rattle.import_graph.specs.declared.pack.PackState.TheVariants.{Broken, NameClash, MissingImport, ImportCycle, Sound}
 use Rattle.import_graph.specs.declared.pack.Package.{Package}
 use Rattle.import_graph.proofs.ListLemmas.{get-map}
-use Rattle.action_graph.specs.Judging.{text_of}
-use Rattle.action_graph.specs.Standing.{bytes_at, CanBeMade, IsFoundIn}
-use Rattle.action_graph.specs.declared.marks.MarkLine.{MarkLine}
+use Rattle.gv_driver.specs.Judging.{text_of}
+use Rattle.gv_driver.specs.NodesStanding.{bytes_at, CanBeMade, IsFoundIn}
+use Rattle.gv_driver.specs.MarkLine.{MarkLine}
 use Rattle.fix_apply.specs.declared.edits.Fix.{Fix}
 use Rattle.fix_apply.specs.Rewriting.{LieIn}
 use Rattle.analysis_core.specs.declared.diagnostic.Diagnostic.{Diagnostic}

@@ -7,7 +7,7 @@ use Rattle.std.proofs.lemmas.List.Kept.{AllPairs-from_increasing}
 use Rattle.gv_base.specs.Files.{Entry, AreInOrder, is_before}
 use Rattle.go_tree.specs.declared.head.Head.{Head}
 use Rattle.parse_file.specs.declared.verdict.FileVerdict.{FileVerdict}
-use Rattle.check_pkg.specs.Packages.{Package as Sources, package_of as sources_of}
+use Rattle.gv_driver.specs.Packages.{Package as Sources, package_of as sources_of}
 use Rattle.import_graph.specs.declared.pack.PackState.{PackState}
 use Rattle.import_graph.specs.declared.pack.PackState.TheVariants.{Broken, NameClash, MissingImport, ImportCycle, Sound}
 use Rattle.import_graph.specs.declared.pack.Package.{Package}
@@ -17,9 +17,9 @@ use Rattle.import_graph.proofs.ListLemmas.{any-get, map-get, get-map}
 use Rattle.import_graph.proofs.LawLemmas.{numbered}
 use Rattle.gv_driver.proofs.Places.{element, at-contained, contains-at}
 use Rattle.analysis_core.specs.Replies.{file_numbered}
-use Rattle.action_graph.specs.Nodes.{Named, AreNamed}
-use Rattle.action_graph.specs.Judging.{text_of, ImportsPath, IsPackageOf, IsSource}
-use Rattle.action_graph.proofs.OneFinding.{one-package}
+use Rattle.gv_driver.specs.Nodes.{Named, AreNamed}
+use Rattle.gv_driver.specs.Judging.{text_of, ImportsPath, IsPackageOf, IsSource}
+use Rattle.gv_driver.proofs.OneFinding.{one-package}
 use Rattle.gv_driver.specs.declared.tree.PackageTexts.{PackageTexts}
 use Rattle.gv_driver.specs.Trees.{IsAmong, IsTree}
 use Rattle.tree_report.specs.Form.{IsForm}

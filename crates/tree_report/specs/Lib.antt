@@ -1,4 +1,5 @@
 pub mod Reading
+pub mod Readings
 pub mod Limits
 pub mod Form
 pub mod Lines
@@ -7,3 +8,9 @@ pub mod Formed
 pub mod Existence
 pub mod Telling
 pub mod Keeping
+pub use Rattle.gv_driver.specs.Analyzers
+pub use Rattle.gv_driver.specs.Caches
+pub use Rattle.gv_driver.specs.Loads
+pub use Rattle.gv_driver.specs.Tallies
+pub use Rattle.gv_driver.specs.Trees
+pub use Rattle.gv_driver.specs.declared.tree.PackageTexts

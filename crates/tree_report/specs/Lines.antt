@@ -15,7 +15,7 @@ use Rattle.import_graph.specs.declared.pack.Package.{Package}
 use Rattle.typed_tree.specs.RuleTexts.{rule_texts, limit_text}
 use Rattle.typed_tree.specs.declared.rule.Limit.{Limit}
 use Rattle.typed_tree.specs.declared.rule.Limit.TheVariants as limits
-use Rattle.action_graph.specs.declared.marks.MarkLine.{MarkLine}
+use Rattle.gv_driver.specs.MarkLine.{MarkLine}
 use Rattle.gv_driver.specs.declared.reply.Verdict.{Verdict}
 use Rattle.gv_driver.specs.declared.reply.Verdict.TheVariants.{Faulty, Blocked, Refused, Accepted}
 use Rattle.analysis_core.specs.declared.reply.ErrorLine.{ErrorLine}

@@ -6,13 +6,15 @@ ghost use Rattle.tree_report.specs.Limits.{limited_sizes, size_limit};
 
 use crate::heard::Heard;
 use crate::limits::{limited_sizes, size_limit};
-use crate::read::told_all;
+use crate::parsed::Parsed;
+use crate::readers::told_all;
 use analysis_core::TreeLimit;
 use go_tree::Head;
 use gv_base::{Bytes, Files, NoMemory, Text};
 use import_graph::{Package, packages};
 use parse_file::FileVerdict;
 use std::alloc::Global;
+use std::thread::Threads;
 
 /// The most packages of a tree.
 const MOST_PACKAGES: usize = 1024;
@@ -52,12 +54,19 @@ pub fn heard_of(files: Vec<(Text, Bytes)>, formed: Formed) -> Heard
 }
 
 /// What is known of a tree whose files are within the limits.
-fn packed(alloc: Global, files: &Files, heard: &Heard) -> Result<Known, NoMemory>
+fn packed<R: Threads + Sync>(
+    rt: &R,
+    alloc: Global,
+    workers: usize,
+    files: &Files,
+    heard: &Heard,
+    parsed: &mut Parsed,
+) -> Result<Known, NoMemory>
     requires within { size_limit (limited_sizes files.now) ≡ None }
     requires kept { IsHeard heard.now }
     ensures { IfOk result (λ known. IsKnown files.now known) }
 {
-    let (heads, refusals) = told_all(alloc, files, heard)?;
+    let (heads, refusals) = told_all(rt, alloc, workers, files, heard, parsed)?;
     let packages = packages(alloc, files, &heads)?;
     if packages.len() > MOST_PACKAGES {
         return Ok(Known::Over(TreeLimit::Packages));
@@ -69,8 +78,15 @@ fn packed(alloc: Global, files: &Files, heard: &Heard) -> Result<Known, NoMemory
     }))
 }
 
-/// What is known of a tree: the first limit that it is over, or its files and packages.
-pub fn known_of(alloc: Global, files: &Files, heard: &Heard) -> Result<Known, NoMemory>
+/// What is known of a tree: the first limit that it is over, or its files and packages. The trees of its files that were parsed go behind the others.
+pub fn known_of<R: Threads + Sync>(
+    rt: &R,
+    alloc: Global,
+    workers: usize,
+    files: &Files,
+    heard: &Heard,
+    parsed: &mut Parsed,
+) -> Result<Known, NoMemory>
     requires { IsHeard heard.now }
     ensures { IfOk result (λ known. IsKnown files.now known) }
 {
@@ -78,7 +94,7 @@ pub fn known_of(alloc: Global, files: &Files, heard: &Heard) -> Result<Known, No
     match size_limit(&sizes) {
         Some(limit) => Ok(Known::Over(limit)),
         None => {
-            let known = packed(alloc, files, heard)?;
+            let known = packed(rt, alloc, workers, files, heard, parsed)?;
             Ok(known)
         }
     }

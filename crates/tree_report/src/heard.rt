@@ -40,6 +40,14 @@ fn is_file(file: &(Text, Bytes), path: &str, text: &[u8]) -> bool
     file.1.as_slice() == text
 }
 
+/// Whether the file of this number that was read is the same. Only speed rests on it.
+pub fn is_held(heard: &Heard, at: usize, path: &str, text: &[u8]) -> bool {
+    if at >= heard.files.len() {
+        return false;
+    }
+    is_file(&heard.files[at], path, text)
+}
+
 /// The first of these files, from this one on, whose path doesn't stand before this path; their count where there is none. Only speed rests
 /// on its being the right one.
 pub fn place_from(files: &[(Text, Bytes)], from: usize, path: &str) -> usize
@@ -77,5 +85,6 @@ pub fn told_again(
     Ok(Some(Told {
         head,
         refusal: None,
+        tree: None,
     }))
 }

@@ -6,7 +6,7 @@ ghost use Rattle.analysis_core.specs.declared.reply.Reply.{Reply};
 ghost use Rattle.typed_tree.specs.RuleTexts.{rule_text, limit_text};
 ghost use Rattle.typed_tree.specs.declared.rule.Limit.{Limit};
 ghost use Rattle.typed_tree.specs.declared.rule.Rule.{Rule};
-ghost use Rattle.check_pkg.specs.Faults.{limit_number};
+ghost use Rattle.gv_driver.specs.Faults.{limit_number};
 ghost use Rattle.fact_cache.specs.declared.list.Entry.{Entry as Kept};
 ghost use Rattle.tree_report.specs.Existence.{AllHaveOutcomes, AllRunsHaveOutcomes, HasReport};
 ghost use Rattle.tree_report.specs.Form.{HasReading};

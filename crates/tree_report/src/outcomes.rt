@@ -6,10 +6,9 @@ ghost use Rattle.tree_report.specs.Lines.{is_accepted, blocked_lines_at, blocked
 
 use crate::lines::{joined, push_at, push_whole};
 use crate::marks::mark_text;
-use action_graph::MarkLine;
 use analysis_core::ErrorLine;
 use gv_base::{NoMemory, Place};
-use gv_driver::Verdict;
+use gv_driver::{MarkLine, Verdict};
 use import_graph::Package;
 use std::alloc::Global;
 

@@ -1,15 +1,18 @@
-//! The head of each file of a tree, and why it is refused.
-ghost use Rattle.std.specs.Prelude.{◌≡◌, ◌≤◌, ◌^◌, true, length, All, IfOk};
+//! The head of each file of a tree, why it is refused, and its tree for the load of its package.
+ghost use Rattle.std.specs.Prelude.{◌≡◌, ◌≤◌, ◌^◌, true, length, IfOk};
 ghost use Rattle.import_graph.specs.Sources.{is_source};
-ghost use Rattle.tree_report.specs.Limits.{limited_sizes};
 ghost use Rattle.tree_report.specs.Lines.{refusal_in, refusal_of};
 ghost use Rattle.tree_report.specs.Reading.{IsRead, head_by, head_in};
+ghost use Rattle.parse_file.specs.Verdict.{IsVerdict};
 ghost use Rattle.tree_report.specs.Keeping.{IsHeard};
-ghost use Rattle.tree_report.specs.Telling.{IsTold, AreTold};
+ghost use Rattle.tree_report.specs.Readings.{IsToldAt, MayTell};
+ghost use Rattle.tree_report.specs.Telling.{IsTold};
 
-use crate::heard::{Heard, place_from, told_again};
+use crate::heard::{Heard, told_again};
+use crate::readings::Reading;
 use go_tree::Head;
-use gv_base::{Files, NoMemory};
+use gv_base::{Bytes, Files, NoMemory};
+use gv_driver::ParsedFile;
 use import_graph::is_source;
 use parse_file::{FileVerdict, parse_file};
 use std::alloc::Global;
@@ -59,85 +62,121 @@ fn head_in(
     }
 }
 
-fn refusal_in(verdict: FileVerdict) -> Option<FileVerdict>
-    ensures { result ≡ refusal_in verdict }
+/// Why a file with this verdict is refused, or else the file with its tree. The bytes have one holder more.
+fn parts_in(
+    alloc: Global,
+    bytes: &Bytes,
+    verdict: FileVerdict,
+) -> Result<(Option<FileVerdict>, Option<ParsedFile>), NoMemory>
+    requires { IsVerdict bytes.now verdict }
+    ensures { IfOk result (λ parts. parts.0 ≡ refusal_in verdict) }
 {
     match verdict {
-        FileVerdict::Parsed(_) => None,
-        FileVerdict::Lexical { offset, why } => Some(FileVerdict::Lexical { offset, why }),
-        FileVerdict::Syntax { offset } => Some(FileVerdict::Syntax { offset }),
-        FileVerdict::TooDeep { offset } => Some(FileVerdict::TooDeep { offset }),
+        FileVerdict::Parsed(tree) => {
+            let held = bytes.copy(alloc)?;
+            Ok((None, Some(ParsedFile::new(held, tree))))
+        }
+        FileVerdict::Lexical { offset, why } => {
+            Ok((Some(FileVerdict::Lexical { offset, why }), None))
+        }
+        FileVerdict::Syntax { offset } => Ok((Some(FileVerdict::Syntax { offset }), None)),
+        FileVerdict::TooDeep { offset } => Ok((Some(FileVerdict::TooDeep { offset }), None)),
     }
 }
 
-fn refusal_of(verdict: Option<FileVerdict>) -> Option<FileVerdict>
-    ensures { result ≡ refusal_of verdict }
+/// The same of a file of which this is known.
+fn parts_of(
+    alloc: Global,
+    path: &str,
+    bytes: &Bytes,
+    verdict: Option<FileVerdict>,
+) -> Result<(Option<FileVerdict>, Option<ParsedFile>), NoMemory>
+    requires { IsRead (path.now, bytes.now) verdict }
+    ensures { IfOk result (λ parts. parts.0 ≡ refusal_of verdict) }
 {
     match verdict {
-        Some(verdict) => refusal_in(verdict),
-        None => None,
+        Some(verdict) => {
+            let parts = parts_in(alloc, bytes, verdict)?;
+            Ok(parts)
+        }
+        None => Ok((None, None)),
     }
 }
 
-/// What is kept of a file that was read: its head, and why it is refused.
+/// What is kept of a file that was read: its head, and why it is refused; and its tree for the load of its package, where it was parsed for this
+/// report.
 #[derive(Drop)]
 pub struct Told {
     pub head: Option<Head>,
     pub refusal: Option<FileVerdict>,
+    pub tree: Option<ParsedFile>,
 }
 
-/// Reads a file, and drops its tree.
-fn told_of(alloc: Global, path: &str, text: &[u8]) -> Result<Told, NoMemory>
-    requires { is_source path.now ≡ true → length text.now ≤ 2 ^ 24 }
+/// What was parsed, where it stays.
+fn kept_if(keeps: bool, tree: Option<ParsedFile>) -> Option<ParsedFile> {
+    if keeps {
+        return tree;
+    }
+    None
+}
+
+/// Reads a file.
+fn told_of(
+    alloc: Global,
+    path: &str,
+    text: &[u8],
+    bytes: &Bytes,
+    keeps: bool,
+) -> Result<Told, NoMemory>
+    requires small { is_source path.now ≡ true → length text.now ≤ 2 ^ 24 }
+    requires same { bytes.now ≡ text.now }
     ensures { IfOk result (IsTold (path.now, text.now)) }
 {
     let verdict = read(alloc, path.as_bytes(), text)?;
     let head = head_in(alloc, path, text, &verdict)?;
-    let refusal = refusal_of(verdict);
-    Ok(Told { head, refusal })
+    let (refusal, tree) = parts_of(alloc, path, bytes, verdict)?;
+    Ok(Told {
+        head,
+        refusal,
+        tree: kept_if(keeps, tree),
+    })
 }
 
-/// What is told of a file: what was told of the file of this number if it is the same, and else by reading it.
+/// What is told of a file: what was told of it for the last report if it is the same, and else by reading it.
 fn told_at(
     alloc: Global,
     heard: &Heard,
-    at: usize,
+    reading: &Reading,
     path: &str,
     text: &[u8],
+    bytes: &Bytes,
 ) -> Result<Told, NoMemory>
+    requires same { bytes.now ≡ text.now }
     requires small { is_source path.now ≡ true → length text.now ≤ 2 ^ 24 }
     requires kept { IsHeard heard.now }
     ensures { IfOk result (IsTold (path.now, text.now)) }
 {
-    match told_again(alloc, heard, at, path, text)? {
+    match told_again(alloc, heard, reading.at, path, text)? {
         Some(told) => Ok(told),
         None => {
-            let told = told_of(alloc, path, text)?;
+            let told = told_of(alloc, path, text, bytes, reading.keeps)?;
             Ok(told)
         }
     }
 }
 
-/// The heads of all files, and why files are refused; what was told of a file that is the same serves again. A tree takes more memory than all else
-/// that is known of its file, so that each is dropped before the next file is read.
-pub fn told_all(
+/// What is told of the file of a job.
+pub fn told_in(
     alloc: Global,
     files: &Files,
     heard: &Heard,
-) -> Result<(Vec<Option<Head>>, Vec<Option<FileVerdict>>), NoMemory>
-    requires small { All (λ size. size ≤ 4194304) (limited_sizes files.now) }
-    requires kept { IsHeard heard.now }
-    ensures { IfOk result (λ told. AreTold files.now (length files.now) told.0.items told.1.items) }
+    reading: &Reading,
+) -> Result<Told, NoMemory>
+    requires { MayTell files.now heard.now reading.now.file }
+    ensures { IfOk result (IsToldAt files.now reading.now.file) }
 {
-    let mut heads = Vec::new(alloc);
-    let mut refusals = Vec::new(alloc);
-    let mut at = 0;
-    for file in 0..files.count() {
-        let (path, text) = files.at(file);
-        at = place_from(&heard.files, at, path);
-        let told = told_at(alloc, heard, at, path, text)?;
-        heads.push(told.head)?;
-        refusals.push(told.refusal)?;
-    }
-    Ok((heads, refusals))
+    let file = reading.file;
+    let (path, text) = files.at(file);
+    let told = told_at(alloc, heard, reading, path, text, &files.entry(file).1)?;
+    Ok(told)
 }

@@ -5,7 +5,7 @@ ghost use Rattle.fact_cache.specs.Caches.{is_within};
 ghost use Rattle.import_graph.specs.Packages.{paths_of};
 ghost use Rattle.report_text.specs.ReplyStanding.{ReplyStands};
 ghost use Rattle.import_graph.specs.Tables.{AreAscending};
-ghost use Rattle.gv_driver.specs.Tallies.{tally};
+ghost use Rattle.gv_driver.specs.Tallies.{AreGrown, tally};
 ghost use Rattle.tree_findings.specs.Lines.{all_lines};
 ghost use Rattle.tree_findings.specs.Mending.{FoundFits};
 ghost use Rattle.tree_report.specs.Formed.{Holds, IsReplyOf};
@@ -15,15 +15,16 @@ ghost use Rattle.tree_report.specs.Reports.{AreFilesOf, HasCircle, IsHonest, IsS
 
 use crate::formed::{Formed, Known, heard_of, known_of};
 use crate::heard::Heard;
+use crate::parsed::{Parsed, all_trees, nothing_parsed};
 use crate::states::{Found, error_lines};
 use crate::texts::{all_texts, shared_files};
-use action_graph::{Kit, Unloaded};
 use analysis_core::{Command, Counts, Options, Reply, TreeLimit};
 use fact_cache::Cache;
 use gv_base::{Files, NoMemory, Row, Text, files_are_in_order};
-use gv_driver::Judgement;
+use gv_driver::{Judgement, Kit, Unloaded};
 use import_graph::Package;
 use std::alloc::Global;
+use std::thread::Threads;
 use tree_findings::{Results, chosen_by, reply_to};
 
 /// The numbers of a run without nodes.
@@ -112,18 +113,23 @@ fn reply_over(alloc: Global, files: &Files, limit: TreeLimit) -> Reply
 }
 
 /// The reply to a tree within the limits.
-fn report_formed<K: Kit>(
+fn report_formed<K: Kit + Send, R: Threads + Sync>(
+    rt: &R,
     alloc: Global,
     files: &Files,
     options: Options,
     formed: &Formed,
+    parsed: Parsed,
     cache: &mut Cache,
     kits: &mut [K],
 ) -> Result<Reply, Unloaded>
+where
+    K::Loaded: Send,
     requires form { Holds files.now formed.now }
     requires some { 0 < length kits.old }
     requires loads { (k : ℕ) (kit : K) → slice_get kits.old k ≡ Some kit → K.loads kit ≤ 2 ^ 62 }
     requires runs { (k : ℕ) (kit : K) → slice_get kits.old k ≡ Some kit → K.runs kit ≤ 2 ^ 62 }
+    ensures least { AreGrown K.loads K.runs kits.old kits.new }
     ensures bound { sum_by K.loads kits.new + sum_by K.runs kits.new ≤ sum_by K.loads kits.old + sum_by K.runs kits.old + 16384 }
     ensures changed { IfOk result (λ reply. AreFilesOf files.now reply.changed) }
     ensures stands { IfOk result (ReplyStands files.now options.command) }
@@ -139,17 +145,19 @@ fn report_formed<K: Kit>(
 {
     files_are_in_order(files);
     let tree = all_texts(alloc, files, &formed.packages)?;
-    let ran = gv_driver::run(alloc, &tree, chosen_by(options), cache, kits)?;
+    let trees = all_trees(alloc, parsed, formed.packages.as_slice())?;
+    let ran = gv_driver::run(rt, alloc, &tree, &trees, chosen_by(options), cache, kits)?;
     let reply = reply_of(alloc, files, options.command, formed, &ran)?;
     Ok(reply)
 }
 
-/// Reports on a tree as it is asked, with the first of the kits, and with what the cache has; what was executed is kept. Of a tree over a limit the first one is told, and
+/// Reports on a tree as it is asked, with the kits side by side, and with what the cache has; what was executed is kept. Of a tree over a limit the first one is told, and
 /// nothing is looked up, executed or kept. Every tree is taken. Over any cache each place of the reply stands in one of the files, and each file that is changed is one of them.
 /// Where a package is stuck, since its rules go in a circle or what is seen of it can't be told, nothing is told of the tree. After that, as after want of memory, no more
 /// was executed than was missing or needed, and the cache has gained entries of what was missing alone. A cache within its limits stays there.
 /// What was read for the last report serves where a file is the same, and what was read for this one is left for the next.
-pub fn report_on<K: Kit>(
+pub fn report_on<K: Kit + Send, R: Threads + Sync>(
+    rt: &R,
     alloc: Global,
     files: &Files,
     options: Options,
@@ -157,11 +165,14 @@ pub fn report_on<K: Kit>(
     cache: &mut Cache,
     kits: &mut [K],
 ) -> Result<Reply, Unloaded>
+where
+    K::Loaded: Send,
     requires kept { IsHeard heard.old }
     requires some { 0 < length kits.old }
     requires loads { (k : ℕ) (kit : K) → slice_get kits.old k ≡ Some kit → K.loads kit ≤ 2 ^ 62 }
     requires runs { (k : ℕ) (kit : K) → slice_get kits.old k ≡ Some kit → K.runs kit ≤ 2 ^ 62 }
     ensures kept { IsHeard heard.new }
+    ensures least { AreGrown K.loads K.runs kits.old kits.new }
     ensures bound { sum_by K.loads kits.new + sum_by K.runs kits.new ≤ sum_by K.loads kits.old + sum_by K.runs kits.old + 16384 }
     ensures changed { IfOk result (λ reply. AreFilesOf files.now reply.changed) }
     ensures stands { IfOk result (ReplyStands files.now options.command) }
@@ -175,12 +186,13 @@ pub fn report_on<K: Kit>(
     ensures honest { IsHonest cache.old → IsHonest cache.new }
     ensures within { is_within cache.old ≡ true → is_within cache.new ≡ true }
 {
-    let known = known_of(alloc, files, heard)?;
+    let mut parsed = nothing_parsed(alloc, heard, cache);
+    let known = known_of(rt, alloc, kits.len(), files, heard, &mut parsed)?;
     match known {
         Known::Over(limit) => Ok(reply_over(alloc, files, limit)),
         Known::Of(formed) => {
             let shared = shared_files(alloc, files)?;
-            let reply = report_formed(alloc, files, options, &formed, cache, kits)?;
+            let reply = report_formed(rt, alloc, files, options, &formed, parsed, cache, kits)?;
             *heard = heard_of(shared, formed);
             Ok(reply)
         }

@@ -11,15 +11,15 @@ use Rattle.fact_cache.specs.declared.list.Entry.{Entry}
 use Rattle.fact_cache.specs.CacheTexts.{IsCacheValue, cache_text}
 use Rattle.fact_cache.specs.Caches.{AreDistinct, is_within, lookup, trimmed}
 use Rattle.fact_cache.specs.Inputs.{same_input, same_texts}
-use Rattle.gv_driver.specs.declared.tree.PackageTexts.{PackageTexts}
-use Rattle.gv_driver.specs.Analyzers.{analyzers_of}
-use Rattle.gv_driver.specs.Caches.{IsCacheAfter, IsHonest, IsRight, input_of, is_cached, is_found}
-use Rattle.gv_driver.specs.Loads.{IsNodeInput, IsPlan, all_inputs}
-use Rattle.gv_driver.specs.Trees.{IsTree}
-use Rattle.gv_driver.proofs.AnalyzerLaws.{analyzers-rise}
-use Rattle.gv_driver.proofs.EntryLaws.{Distinct, IsFrom, distinct-append, distinct-missing, in-append, missing-not}
-use Rattle.gv_driver.proofs.Places.{at-contained, contains-at, get-mapped, get-unmapped, nothing-contained}
-use Rattle.gv_driver.proofs.WholeLaws.{same-number}
+use Rattle.tree_report.specs.PackageTexts.{PackageTexts}
+use Rattle.tree_report.specs.Analyzers.{analyzers_of}
+use Rattle.tree_report.specs.Caches.{IsCacheAfter, IsHonest, IsRight, input_of, is_cached, is_found}
+use Rattle.tree_report.specs.Loads.{IsNodeInput, IsPlan, all_inputs}
+use Rattle.tree_report.specs.Trees.{IsTree}
+use Rattle.tree_report.proofs.AnalyzerLaws.{analyzers-rise}
+use Rattle.tree_report.proofs.EntryLaws.{Distinct, IsFrom, distinct-append, distinct-missing, in-append, missing-not}
+use Rattle.tree_report.proofs.Places.{at-contained, contains-at, get-mapped, get-unmapped, nothing-contained}
+use Rattle.tree_report.proofs.WholeLaws.{same-number}
 use Rattle.tree_findings.specs.Telling.{chosen_by}
 use Rattle.tree_report.specs.Reports.{texts_of, Reports as Replies}
 use Rattle.tree_report.specs.Reports.Reports.{of_limit, of_packages}

@@ -8,3 +8,4 @@ pub mod JsonLaws
 pub mod KeepLaws
 pub mod ExistenceLaws
 pub mod CutReports
+pub use Rattle.tree_report.proofs.GrownLaws

@@ -8,8 +8,8 @@ use Rattle.go_tree.specs.declared.head.Head.{Head}
 use Rattle.parse_file.specs.declared.verdict.FileVerdict.{FileVerdict}
 use Rattle.import_graph.specs.declared.pack.Package.{Package}
 use Rattle.fact_cache.specs.declared.list.Entry.{Entry as Kept}
-use Rattle.gv_driver.specs.Loads.{IsPlan}
-use Rattle.gv_driver.specs.Tallies.{Tally, tally}
+use Rattle.tree_report.specs.Loads.{IsPlan}
+use Rattle.tree_report.specs.Tallies.{Tally, tally}
 use Rattle.tree_findings.specs.Telling.{chosen_by}
 use Rattle.analysis_core.specs.declared.command.Command.{Command}
 use Rattle.analysis_core.specs.declared.reply.Counts.{Counts}

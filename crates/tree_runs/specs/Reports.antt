@@ -11,7 +11,7 @@ use Rattle.analysis_core.specs.JsonReplies.{IsJson}
 use Rattle.analysis_core.specs.Replies.{is_found, last_line, limit_line, reply_text}
 pub use Rattle.tree_report.specs.Reports.{HasCircle, IsHonest}
 pub use Rattle.tree_report.specs.Keeping.{IsHeard}
-use Rattle.gv_driver.specs.Tallies.{tally}
+use Rattle.tree_report.specs.Tallies.{tally}
 use Rattle.tree_report.specs.Reports.{IsSafe as IsSafeReply, Reports as Replies}
 use Rattle.tree_runs.specs.declared.report.Form.{Form}
 use Rattle.tree_runs.specs.declared.report.Form.TheVariants as form

@@ -13,4 +13,4 @@ pub use laws::{
 };
 pub use report::{Form, Task, TreeReport};
 pub use running::run;
-pub use tree_report::{Heard, nothing_heard};
+pub use tree_report::{Heard, Kit, Unloaded, nothing_heard};

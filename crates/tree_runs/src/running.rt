@@ -1,21 +1,23 @@
 //! A run.
-ghost use Rattle.std.specs.Prelude.{◌≡◌, ◌≤◌, ◌<◌, ◌+◌, ◌^◌, All, Err, IfOk, length, sum_by};
+ghost use Rattle.std.specs.Prelude.{◌≡◌, ◌≤◌, ◌<◌, ◌+◌, ◌^◌, ℕ, All, Some, Err, IfOk, length, slice_get, sum_by};
 ghost use Rattle.gv_base.specs.Paths.{IsPath};
 ghost use Rattle.folder.specs.Folders.{AreAtPaths};
+ghost use Rattle.tree_report.specs.Tallies.{AreGrown};
 ghost use Rattle.tree_runs.specs.Reports.{HasCircle, HasText, IsHeard, IsHonest, IsSafe, Reports, Spends, SpendsAtMost, work};
 
 use crate::printing::printed;
 use crate::report::{Task, TreeReport};
-use action_graph::{Kit, Unloaded};
 use analysis_core::Options;
 use fact_cache::{Cache, each_cache_has_a_text};
 use gv_base::Files;
 use std::alloc::Global;
-use tree_report::{Heard, one_report_of_a_tree, report_on};
+use std::thread::Threads;
+use tree_report::{Heard, Kit, Unloaded, one_report_of_a_tree, report_on};
 
-/// Runs over a tree as it is asked, with the first of the kits, and with what the cache has; what was executed is kept.
+/// Runs over a tree as it is asked, with the kits side by side, and with what the cache has; what was executed is kept.
 /// What was read for the last run serves where a file is the same.
-pub fn run<W: Kit>(
+pub fn run<W: Kit + Send, R: Threads + Sync>(
+    rt: &R,
     alloc: Global,
     files: &Files,
     task: Task,
@@ -23,12 +25,15 @@ pub fn run<W: Kit>(
     cache: &mut Cache,
     kits: &mut [W],
 ) -> Result<TreeReport, Unloaded>
+where
+    W::Loaded: Send,
     requires some { 0 < length kits.old }
-    requires loads { sum_by W.loads kits.old ≤ 2 ^ 62 }
-    requires runs { sum_by W.runs kits.old ≤ 2 ^ 62 }
+    requires loads { (k : ℕ) (kit : W) → slice_get kits.old k ≡ Some kit → W.loads kit ≤ 2 ^ 62 }
+    requires runs { (k : ℕ) (kit : W) → slice_get kits.old k ≡ Some kit → W.runs kit ≤ 2 ^ 62 }
     requires paths { AreAtPaths files.now }
     requires heard { IsHeard heard.old }
     ensures heard { IsHeard heard.new }
+    ensures least { AreGrown W.loads W.runs kits.old kits.new }
     ensures bound { sum_by W.loads kits.new + sum_by W.runs kits.new ≤ sum_by W.loads kits.old + sum_by W.runs kits.old + 16384 }
     ensures paths { IfOk result (λ report. All (λ changed. IsPath changed.path) report.changed) }
     ensures text { IfOk result (λ report. HasText cache.new) }
@@ -43,7 +48,7 @@ pub fn run<W: Kit>(
         command: task.command,
         only: task.only,
     };
-    let reply = report_on(alloc, files, options, heard, cache, kits)?;
+    let reply = report_on(rt, alloc, files, options, heard, cache, kits)?;
     let text = printed(alloc, files, task.form, task.command, &reply)?;
     each_cache_has_a_text(cache);
     let found = reply.is_found();

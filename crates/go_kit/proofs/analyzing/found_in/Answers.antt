@@ -3,8 +3,8 @@ use Rattle.mark_walk.specs.Asks.{filled}
 use Rattle.typed_marks.specs.Meanings.{Quiet}
 use Rattle.typed_marks.specs.States.{so_far}
 use Rattle.unit_read.specs.Subjects.{unit_of}
-use Rattle.vet_suite.specs.Free.{path_of, AreGiven}
-use Rattle.vet_suite.specs.Suite.{FactsBy, FoundBy}
+use Rattle.action_graph.specs.Free.{path_of, AreGiven}
+use Rattle.action_graph.specs.Suite.{FactsBy, FoundBy}
 use Rattle.action_graph.specs.Nodes.{Named}
 use Rattle.go_kit.proofs.analyzing.found_in.Goals as goal
 

@@ -4,7 +4,7 @@ use Rattle.mark_walk.specs.Asks.{filled}
 use Rattle.typed_marks.specs.Meanings.{Quiet}
 use Rattle.typed_marks.specs.States.{so_far}
 use Rattle.unit_read.specs.Subjects.{unit_of}
-use Rattle.vet_suite.specs.Free.{path_of}
+use Rattle.action_graph.specs.Free.{path_of}
 use Rattle.go_kit.proofs.RunLemmas.{outcomes-none, outcomes-more}
 use Rattle.go_kit.proofs.analyzing.outcomes_in.Goals as goal
 

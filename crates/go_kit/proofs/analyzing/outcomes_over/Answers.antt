@@ -7,7 +7,7 @@ use Rattle.unit_read.specs.Index.{texts_of}
 use Rattle.unit_read.specs.Subjects.{unit_of}
 use Rattle.unit_read.specs.Units.{Unit}
 use Rattle.check_pkg.specs.Typings.{marks_of}
-use Rattle.vet_suite.specs.Free.{path_of}
+use Rattle.action_graph.specs.Free.{path_of}
 use Rattle.action_graph.specs.Nodes.{Named}
 use Rattle.go_kit.specs.Loading.{AreOutcomesIn, unit_loaded}
 use Rattle.go_kit.proofs.RunLemmas.{few-files, given-of, ordered-uses, read-as, scene-of, small-trees}

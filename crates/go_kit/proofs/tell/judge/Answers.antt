@@ -1,6 +1,6 @@
 use Rattle.std.proofs.Common.{ℕ, List, Option, IfSome, sym, subst}
 use Rattle.std.proofs.lemmas.Result.{err_from_is_err_and}
-use Rattle.go_rules.specs.Stages.{rule}
+use Rattle.action_graph.specs.Stages.{rule}
 use Rattle.package_faces.specs.Interfaces.{faces_of}
 use Rattle.type_model.specs.declared.table.TypeTable.{TypeTable}
 use Rattle.type_model.specs.Tables.{Extends, terms_in, types_in}

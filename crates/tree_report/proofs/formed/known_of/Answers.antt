@@ -4,4 +4,4 @@ use Rattle.tree_report.proofs.LimitLemmas.{first-told}
 use Rattle.tree_report.proofs.formed.known_of.Goals as goal
 
 pub returns-in-Some : goal.returns-in-Some
-returns-in-Some c = first-told c.args.files.now c.in-Some.limit (sym (c.size_limit.ensures ∙ ap size_limit (c.deref.ensures.value ∙ c.in_ok-sizes.ensures)) ∙ c.in-Some.is)
+returns-in-Some g c = first-told c.args.files.now c.in-Some.limit (sym (c.size_limit.ensures ∙ ap size_limit (c.deref.ensures.value ∙ c.in_ok-sizes.ensures)) ∙ c.in-Some.is)

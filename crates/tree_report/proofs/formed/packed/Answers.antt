@@ -7,10 +7,10 @@ use Rattle.tree_report.proofs.ToldLemmas.{all_read, all_headed}
 use Rattle.tree_report.proofs.formed.packed.Goals as goal
 
 pub told_all-requires-clause-small : goal.told_all-requires-clause-small
-told_all-requires-clause-small c = short-told (limited_sizes c.args.files.now) c.requires.within
+told_all-requires-clause-small g c = λ κs _. short-told (limited_sizes c.args.files.now) c.requires.within
 
 pub returns-then-len-gt-MOST_PACKAGES : goal.returns-then-len-gt-MOST_PACKAGES
-returns-then-len-gt-MOST_PACKAGES c =
+returns-then-len-gt-MOST_PACKAGES g c =
     let tree = c.args.files.now in
     let told = c.in_ok-heads.ensures in
     many-told tree c.requires.within (record {
@@ -24,7 +24,7 @@ returns-then-len-gt-MOST_PACKAGES c =
     })
 
 pub returns : goal.returns
-returns c =
+returns g c =
     let tree = c.args.files.now in
     let told = c.in_ok-heads.ensures in
     let heads = c.in_ok-heads.heads.items in

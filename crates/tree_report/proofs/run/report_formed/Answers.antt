@@ -2,6 +2,7 @@ use Rattle.std.proofs.Common.{All, map, sum_by, sym, ap, ◌∙◌, subst}
 use Rattle.report_text.specs.Standing.{StandsIn}
 use Rattle.gv_driver.specs.Standing.{AreFoundIn, AreVerdictsIn}
 use Rattle.gv_driver.specs.Tallies.{tally}
+use Rattle.gv_driver.proofs.GrownLaws.{grown-not}
 use Rattle.gv_driver.specs.Trees.{IsTree}
 use Rattle.analysis_core.specs.declared.reply.Counts.{Counts}
 use Rattle.fact_lines.specs.Lines.{all_facts}
@@ -17,7 +18,7 @@ use Rattle.tree_report.proofs.StopLemmas.{on_any_err, stopped, stopped-after}
 use Rattle.tree_report.proofs.run.report_formed.Goals as goal
 
 pub run-requires-clause-tree : goal.run-requires-clause-tree
-run-requires-clause-tree g c =
+run-requires-clause-tree g c = λ κs _.
     subst IsTree (sym (c.deref-2.ensures.value ∙ (c.in_ok-tree.ensures ∙ ap (map (texts_of c.args.files.now)) c.deref.ensures.value)))
     (is-tree c.args.files.now c.requires.form.0 c.args.formed.now.heads.items c.args.formed.now.packages.items c.files_are_in_order.ensures.ordered c.requires.form.1.0)
 
@@ -26,6 +27,12 @@ reply_of-requires-clause-order g c = paths-rise c.args.files.now c.args.formed.n
 
 pub reply_of-requires-clause-fit : goal.reply_of-requires-clause-fit
 reply_of-requires-clause-fit g c = found-lines-fit c.args.files.now c.args.formed.now.packages.items c.in_ok-ran.ran.found (subst (λ l. AreFoundIn l c.in_ok-ran.ran.found) (c.deref-2.ensures.value ∙ (c.in_ok-tree.ensures ∙ ap (map (texts_of c.args.files.now)) c.deref.ensures.value)) c.in_ok-ran.ensures.found)
+
+pub returns-in_err-tree-clause-least : goal.returns-in_err-tree-clause-least
+returns-in_err-tree-clause-least g c = grown-not g.K.Kit.loads g.K.Kit.runs c.args.kits.now
+
+pub returns-in_err-trees-clause-least : goal.returns-in_err-trees-clause-least
+returns-in_err-trees-clause-least g c = grown-not g.K.Kit.loads g.K.Kit.runs c.args.kits.now
 
 pub returns-in_err-ran-clause-cut_off : goal.returns-in_err-ran-clause-cut_off
 returns-in_err-ran-clause-cut_off g c = λ honest.

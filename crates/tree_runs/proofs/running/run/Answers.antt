@@ -1,20 +1,8 @@
-use Rattle.std.proofs.Common.{◌≤◌, arith, refl, sum_by}
+use Rattle.std.proofs.Common.{refl, sum_by}
 use Rattle.fact_cache.specs.CacheTexts.{cache_text}
 use Rattle.tree_runs.proofs.PathLaws.{paths_of}
-use Rattle.tree_runs.proofs.SpendLaws.{each-within, spends-told, spends-cut}
+use Rattle.tree_runs.proofs.SpendLaws.{spends-told, spends-cut}
 use Rattle.tree_runs.proofs.running.run.Goals as goal
-
-pub report_on-requires-clause-loads : goal.report_on-requires-clause-loads
-report_on-requires-clause-loads g c = λ k kit e.
-    let h : g.W.Kit.loads kit ≤ sum_by g.W.Kit.loads c.args.kits.now = each-within g.W.Kit.loads c.args.kits.now k kit e in
-    let r = c.requires.loads in
-    omega (arith, h, r)
-
-pub report_on-requires-clause-runs : goal.report_on-requires-clause-runs
-report_on-requires-clause-runs g c = λ k kit e.
-    let h : g.W.Kit.runs kit ≤ sum_by g.W.Kit.runs c.args.kits.now = each-within g.W.Kit.runs c.args.kits.now k kit e in
-    let r = c.requires.runs in
-    omega (arith, h, r)
 
 pub returns-in_err-reply-clause-most : goal.returns-in_err-reply-clause-most
 returns-in_err-reply-clause-most g c = λ honest.
