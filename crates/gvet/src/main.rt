@@ -1,14 +1,15 @@
 //! The program: gvet over the current folder, standard input and standard output.
 #![tactic(auto)]
 
-ghost use Rattle.std.specs.Prelude.{◌≡◌, ◌≢◌, ◌⊎◌, map, string_bytes};
+ghost use Rattle.std.specs.Prelude.{◌≡◌, ◌≢◌, ◌⊎◌, IfOk, length, map, string_bytes, sum_by};
 ghost use Rattle.std.specs.Process.{exit_status};
 ghost use Rattle.words.specs.Grammar.{Asks};
 ghost use Rattle.words.specs.declared.asked.Words.{Words};
 
 use disk::{DirTree, FileKeeper, SystemDisk};
-use go_kit::GoKit;
-use std::alloc::{AllocError, Global};
+use go_kit::{GoKit, new_kits};
+use gv_base::NoMemory;
+use std::alloc::Global;
 use std::io::{Input, Print};
 use std::process::ExitCode;
 use std::random::RandomSource;
@@ -42,16 +43,24 @@ const HERE: &str = ".";
 /// A disk with the files of the current folder.
 type Here = SystemDisk<HostRuntime>;
 
-/// The tree of the current folder, and the keeper in it.
+/// How many kits a call has: one for each worker that its words may ask for.
+const KITS: u32 = 64;
+
+/// The tree of the current folder, the keeper in it, and kits that have done nothing.
 fn devices(
     rt: HostRuntime,
     alloc: Global,
-) -> Result<(DirTree<Here>, FileKeeper<Here>), AllocError> {
+) -> Result<(DirTree<Here>, FileKeeper<Here>, Vec<GoKit>), NoMemory>
+    ensures size { IfOk result (λ d. length d.2.items ≡ 64) }
+    ensures loads { IfOk result (λ d. sum_by (λ k. k.loads) d.2.items ≡ 0) }
+    ensures runs { IfOk result (λ d. sum_by (λ k. k.runs) d.2.items ≡ 0) }
+{
     let top = String::from_str(alloc, HERE)?;
     let tree = DirTree::new(alloc, SystemDisk::new(rt, top));
     let top = String::from_str(alloc, HERE)?;
     let keeper = FileKeeper::new(alloc, SystemDisk::new(rt, top));
-    Ok((tree, keeper))
+    let kits = new_kits(alloc, KITS)?;
+    Ok((tree, keeper, kits))
 }
 
 /// Calls the tool over the real devices. Where memory is wanting for these, nothing is read.
@@ -66,12 +75,12 @@ fn call<R: Threads + Sync + RandomSource + Input + Print>(
 {
     match devices(host, alloc) {
         Err(_) => NO_MEMORY,
-        Ok((tree, keeper)) => {
+        Ok((tree, keeper, kits)) => {
             let mut tree = tree;
             let mut keeper = keeper;
             let mut input = StdSource::new(rt.reader());
             let mut output = StdSink::new(io::writer(rt));
-            let mut kits = [GoKit::new(alloc)];
+            let mut kits = kits;
             gvet(
                 rt,
                 alloc,
@@ -80,7 +89,7 @@ fn call<R: Threads + Sync + RandomSource + Input + Print>(
                 &mut keeper,
                 &mut input,
                 &mut output,
-                &mut kits,
+                kits.as_mut_slice(),
             )
         }
     }

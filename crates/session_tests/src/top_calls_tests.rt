@@ -7,7 +7,9 @@ mod folders;
 mod hostile;
 mod keys;
 mod limits;
+mod meeting;
 mod types;
+mod workers;
 
 use go_kit::GoKit;
 use gv_base::{MemSink, MemSource, SureKeeper};
@@ -19,6 +21,7 @@ use std::thread::Threads;
 use top_calls::call::session;
 use top_calls::key::key_of;
 use top_calls::options::ToolOptions;
+use workers::several_answer;
 
 /// Commands, and the reply to each.
 #[rattlefmt::skip]
@@ -163,6 +166,7 @@ fn answer<R: Threads + Sync + RandomSource>(
     );
     let options = ToolOptions::PLAIN;
     let status = session(
+        rt,
         alloc,
         key_of(rt),
         &options,
@@ -182,7 +186,7 @@ fn answers<R: Threads + Sync + RandomSource + Abort>(
     let (status, out) = answer(rt, alloc, case.0, &[], &[], &[])?;
     assert_eq!(rt; out.as_slice(), case.1);
     assert_eq!(rt; status, case.2);
-    Ok(())
+    several_answer(rt, alloc, case)
 }
 
 #[test]

@@ -179,7 +179,8 @@ run-causes o k old new n s c source usage = record {
   not_long = single-short o k old.sink new.sink old.tree new.tree old.keeper new.keeper old.kits new.kits n s;
 }
 
-complete-call : (w : Words) (old new : World) (n : ℕ) → Serves w old new n → AllSure old new → IsDone w w.asked old new n ⊎ IsLeftOff n
+-- what is due was done, or the call was left off
+pub complete-call : (w : Words) (old new : World) (n : ℕ) → Serves w old new n → AllSure old new → IsDone w w.asked old new n ⊎ IsLeftOff n
 complete-call w old new n s sure = by w.asked s.does
   where
     nothing : (a b : SourceView) → (Rose a.faults b.faults → ⊥) → NothingRose a b old.sink new.sink old.keeper new.keeper
@@ -200,10 +201,3 @@ complete-call w old new n s sure = by w.asked s.does
           | inl done ↦ inl (l.after, done (chain_text count) refl)
           | inr off ↦ inr off
         ]
-
--- one reading of the words, and what was done by it
-pub serves-call : (w call : Words) (old new : World) (n : ℕ) → w ≡ call → Serves w old new n → Serves call old new n
-serves-call w call old new n e s = subst (λ z. Serves z old new n) e s
-
-pub complete-as : (w call : Words) (old new : World) (n : ℕ) → w ≡ call → Serves w old new n → AllSure old new → IsDone call call.asked old new n ⊎ IsLeftOff n
-complete-as w call old new n e s sure = complete-call call old new n (serves-call w call old new n e s) sure

@@ -12,5 +12,7 @@ pub mod FolderLaws
 pub mod SingleLaws
 pub mod RunDueLaws
 pub mod RunHeadlineLaws
+pub mod WorkersLaws
+pub mod FreeLaws
 pub mod CallLaws
 pub mod ExistLaws

@@ -32,6 +32,10 @@ record OnTheWay (n m : Standing) (u v : List ℕ) : Type 0 where
   begins : IsPrefix u v
   later : Later n m
 
+-- what went out first, a greeting and replies, begins what went out in the end
+goes-on : (g h a b more all : List ℕ) → g ≡ h → a ≡ b → all ≡ b ++ more → (g ++ a) ++ more ≡ h ++ all
+goes-on g h a b more all e c whole = append_assoc g a more ∙ ap (λ z. z ++ (a ++ more)) e ∙ ap (λ z. h ++ (z ++ more)) c ∙ ap (λ z. h ++ z) (sym whole)
+
 on_the_way : RunLaws → (o : ToolOptions) (t : Tree) (k : Option (List ℕ)) (bytes : List ℕ) → IsLawfulKept k → (a d : Arrives o t k bytes) → Stops (offset_of d) d.rest → OnTheWay a.now d.now (said a) (said d)
 on_the_way law o t k bytes l a d h =
     let g = Read-begins a.read d.read h in
@@ -43,9 +47,13 @@ on_the_way law o t k bytes l a d h =
     let w : Leads o g.more a.now d.now p.second = subst (λ z. Leads o g.more z d.now p.second) (sym c.now) p.after in
     let kept = course-keeps law o g.more a.now d.now p.second (arrives-honest law o t k bytes l a) w in
     record {
-      begins = (p.second, append_assoc a.greeting a.replies p.second ∙ ap (λ z. z ++ (a.replies ++ p.second)) e.greeting ∙ ap (λ z. d.greeting ++ (z ++ p.second)) c.reply ∙ ap (λ z. d.greeting ++ z) (sym p.whole));
+      begins = (p.second, goes-on a.greeting d.greeting a.replies p.first p.second d.replies e.greeting c.reply p.whole);
       later = kept.later;
     }
+
+-- a reply more among it
+goes-on-with : (g h a one b more all : List ℕ) → g ≡ h → b ≡ a ++ one → all ≡ b ++ more → ((g ++ a) ++ one) ++ more ≡ h ++ all
+goes-on-with g h a one b more all e f whole = ap (λ z. z ++ more) (append_assoc g a one) ∙ goes-on g h (a ++ one) b more all e (sym f) whole
 
 -- the next command, as what is due has it
 record StepOnTheWay (o : ToolOptions) (c : Command) (n m : Standing) (u v : List ℕ) : Type 0 where
@@ -75,7 +83,7 @@ step_on_the_way law o t k bytes l a d h b =
       next = w.0;
       reply = w.1;
       does = does;
-      begins = (p.second, ap (λ z. z ++ p.second) (append_assoc a.greeting a.replies w.1) ∙ append_assoc a.greeting (a.replies ++ w.1) p.second ∙ ap (λ z. z ++ ((a.replies ++ w.1) ++ p.second)) e.greeting ∙ ap (λ z. d.greeting ++ (z ++ p.second)) (sym first) ∙ ap (λ z. d.greeting ++ z) (sym p.whole));
+      begins = (p.second, goes-on-with a.greeting d.greeting a.replies w.1 p.first p.second d.replies e.greeting first p.whole);
       later = kept.later;
     }
 

@@ -8,5 +8,6 @@ pub mod Turn
 pub mod Headline
 pub mod Single
 pub mod RunHeadline
+pub mod Workers
 pub mod Calls
 pub mod Existence

@@ -5,18 +5,20 @@ ghost use Rattle.folder.specs.Folders.{AreAtPaths, put_all};
 ghost use Rattle.gv_base.specs.Paths.{IsPath};
 ghost use Rattle.top_calls.specs.Deeds.{act, deed_of, form_of, run, show_text, task_of};
 ghost use Rattle.top_calls.specs.Desk.{IsReady, IsStuckRun, Serves, Tries, standing_of};
+ghost use Rattle.top_calls.specs.Workers.{DidAtMost};
 ghost use Rattle.tree_runs.specs.Reports.{Work, work};
+ghost use Rattle.tree_runs.specs.Tallies.{AreGrown};
 
 use crate::options::ToolOptions;
 use crate::shown::show;
-use action_graph::{Kit, Unloaded};
 use analysis_core::{ChangedFile, Command as Kind, Counts};
 use fact_cache::Cache;
 use gv_base::{Bytes, Files, NoMemory};
 use report_text::stats;
 use scripts::{Command, Fields, Word};
 use std::alloc::Global;
-use tree_runs::{Form, Heard, Task, nothing_heard, run};
+use std::thread::Threads;
+use tree_runs::{Form, Heard, Kit, Task, Unloaded, nothing_heard, run};
 
 /// What is answered to a command.
 #[derive(Drop)]
@@ -169,17 +171,21 @@ impl Desk {
     }
 
     /// Runs over the tree as it is asked, and sets the files that this changes. The kits do at most 16,384 loads and runs of analyzers together.
-    fn run<W: Kit>(
+    fn run<W: Kit + Send, R: Threads + Sync>(
         &mut self,
+        rt: &R,
         alloc: Global,
         options: &ToolOptions,
         kind: Kind,
         kits: &mut [W],
     ) -> Result<Answer, Unloaded>
+    where
+        W::Loaded: Send,
         requires some { 0 < length kits.old }
-        requires room { sum_by W.loads kits.old + sum_by W.runs kits.old ≤ 2 ^ 62 }
+        requires room { DidAtMost W.loads W.runs (2 ^ 62) kits.old }
         requires ready { IsReady self.old }
         ensures bound { sum_by W.loads kits.new + sum_by W.runs kits.new ≤ sum_by W.loads kits.old + sum_by W.runs kits.old + 16384 }
+        ensures least { AreGrown W.loads W.runs kits.old kits.new }
         ensures size { length kits.new ≡ length kits.old }
         ensures ready { IsReady self.new }
         ensures serves { IfOk result (λ answer. Serves options.now (run kind) self.old self.new (work (sum_by W.loads kits.old) (sum_by W.runs kits.old)) (work (sum_by W.loads kits.new) (sum_by W.runs kits.new)) answer) }
@@ -188,6 +194,7 @@ impl Desk {
     {
         let task = task_of(options, kind);
         let report = run(
+            rt,
             alloc,
             &self.files,
             task,
@@ -205,19 +212,23 @@ impl Desk {
     }
 
     /// Carries a command out, and gives the answer to it.
-    pub(crate) fn apply<W: Kit>(
+    pub(crate) fn apply<W: Kit + Send, R: Threads + Sync>(
         &mut self,
+        rt: &R,
         alloc: Global,
         options: &ToolOptions,
         command: Command<'_>,
         kits: &mut [W],
     ) -> Result<Answer, Unloaded>
+    where
+        W::Loaded: Send,
         requires lawful { IsLawful (command_of command) }
         requires goes { command.word ≢ Word.End }
         requires some { 0 < length kits.old }
-        requires room { sum_by W.loads kits.old + sum_by W.runs kits.old ≤ 2 ^ 62 }
+        requires room { DidAtMost W.loads W.runs (2 ^ 62) kits.old }
         requires ready { IsReady self.old }
         ensures bound { sum_by W.loads kits.new + sum_by W.runs kits.new ≤ sum_by W.loads kits.old + sum_by W.runs kits.old + 16384 }
+        ensures least { AreGrown W.loads W.runs kits.old kits.new }
         ensures size { length kits.new ≡ length kits.old }
         ensures ready { IsReady self.new }
         ensures serves { IfOk result (λ answer. Serves options.now (deed_of command.entry.word (fields_of command.entry.fields)) self.old self.new (work (sum_by W.loads kits.old) (sum_by W.runs kits.old)) (work (sum_by W.loads kits.new) (sum_by W.runs kits.new)) answer) }
@@ -246,10 +257,10 @@ impl Desk {
                 Fields::Plain => unreachable!(),
                 Fields::With(_, _) => unreachable!(),
             },
-            Word::Check => self.run(alloc, options, Kind::Check, kits),
-            Word::Report => self.run(alloc, options, Kind::Report, kits),
-            Word::Facts => self.run(alloc, options, Kind::Facts, kits),
-            Word::Fix => self.run(alloc, options, Kind::Fix, kits),
+            Word::Check => self.run(rt, alloc, options, Kind::Check, kits),
+            Word::Report => self.run(rt, alloc, options, Kind::Report, kits),
+            Word::Facts => self.run(rt, alloc, options, Kind::Facts, kits),
+            Word::Fix => self.run(rt, alloc, options, Kind::Fix, kits),
             Word::Stats => {
                 let answer = self.stats(alloc)?;
                 Ok(answer)

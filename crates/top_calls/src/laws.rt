@@ -11,6 +11,7 @@ ghost use Rattle.top_calls.specs.Outcome.{Opens, Seen, Outcome};
 ghost use Rattle.tree_runs.specs.Existence.{AllHaveOutcomes, AllRunsHaveOutcomes};
 ghost use Rattle.tree_runs.specs.Reports.{Entries, HasText};
 ghost use Rattle.top_calls.specs.Single.{SeenRun, RunOutcome, DueRun, IsWithinRun};
+ghost use Rattle.top_calls.specs.Workers.{with_workers};
 
 use scripts::each_script_is_read_to_its_end;
 use tree_runs::{each_tree_has_a_report, one_report_of_a_tree};
@@ -48,3 +49,9 @@ pub fn each_script_has_a_due_output(script: &[u8])
     each_script_is_read_to_its_end(script);
     each_tree_has_a_report();
 }
+
+/// What is due for a script, and for a single run, is the same for any number of workers.
+pub fn workers_change_nothing()
+    ensures script { (options : ToolOptions) (workers : ℕ) (kept : Option (List ℕ)) (script : List ℕ) (seen : Seen) (halt : Halt) → Due options kept script seen halt → Due (with_workers workers options) kept script seen halt }
+    ensures single { (options : ToolOptions) (workers : ℕ) (kind : Kind) (kept : Option (List ℕ)) (files : List Entry) (got : SeenRun) → DueRun options kind kept files got → DueRun (with_workers workers options) kind kept files got }
+{}

@@ -3,7 +3,7 @@
 /// What the words of a call choose.
 #[derive(Clone, Copy, Debug, PartialEq, Eq, Drop)]
 pub struct ToolOptions {
-    /// How many workers a run has, from 1 to 64. The first kit works alone yet.
+    /// How many workers a run has, from 1 to 64: the first kits are theirs.
     pub workers: u32,
     /// The analyzers that are chosen: the bit of each one's number, which is 1 to 10.
     pub only: u16,

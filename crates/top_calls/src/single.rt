@@ -1,8 +1,9 @@
 //! A single run over a tree outside.
-ghost use Rattle.std.specs.Prelude.{◌≡◌, ◌≢◌, ◌+◌, ◌<◌, ◌≤◌, ◌^◌, length, sum_by};
+ghost use Rattle.std.specs.Prelude.{◌≡◌, ◌≢◌, ◌<◌, ◌^◌, length, sum_by};
 ghost use Rattle.folder.specs.Folders.{AreAtPaths, OnlyWhereRose};
 ghost use Rattle.top_calls.specs.Headline.{keeper_faults};
 ghost use Rattle.top_calls.specs.Single.{RunsOn, SingleRuns};
+ghost use Rattle.top_calls.specs.Workers.{DidAtMost};
 ghost use Rattle.tree_runs.specs.Reports.{work};
 
 use crate::desk::task_of;
@@ -12,16 +13,17 @@ use crate::lines::say;
 use crate::options::ToolOptions;
 use crate::stop::{Cut, Stop};
 use crate::top::greeting;
-use action_graph::{Kit, Unloaded};
 use analysis_core::Command as Kind;
 use fact_cache::{Cache, Key};
 use gv_base::{Files, Keeper, Sink, Tree};
 use scripts::Halt;
 use std::alloc::Global;
-use tree_runs::{nothing_heard, one_report_of_a_tree, run};
+use std::thread::Threads;
+use tree_runs::{Kit, Unloaded, nothing_heard, one_report_of_a_tree, run};
 
 /// Runs over files that were read: writes the changed files, then the reply, and then stores the cache.
-pub(crate) fn run_on<T: Tree, K: Keeper, O: Sink, W: Kit>(
+pub(crate) fn run_on<T: Tree, K: Keeper, O: Sink, W: Kit + Send, R: Threads + Sync>(
+    rt: &R,
     alloc: Global,
     options: &ToolOptions,
     kind: Kind,
@@ -32,9 +34,12 @@ pub(crate) fn run_on<T: Tree, K: Keeper, O: Sink, W: Kit>(
     output: &mut O,
     kits: &mut [W],
 ) -> Stop
+where
+    W::Loaded: Send,
     requires some { 0 < length kits.old }
-    requires room { sum_by W.loads kits.old + sum_by W.runs kits.old ≤ 2 ^ 61 }
+    requires room { DidAtMost W.loads W.runs (2 ^ 61) kits.old }
     requires paths { AreAtPaths files.now }
+    ensures size { length kits.new ≡ length kits.old }
     ensures runs_on { RunsOn options.now kind (O.view output.old) (O.view output.new) (T.view tree.old).files (T.view tree.new).files (K.view keeper.old).kept (K.view keeper.new).kept (work (sum_by W.loads kits.old) (sum_by W.runs kits.old)) (work (sum_by W.loads kits.new) (sum_by W.runs kits.new)) files.now cache.old result }
     ensures tree_fault { OnlyWhereRose (T.view tree.old).faults (T.view tree.new).faults (result ≡ Stop.Broken Cut.Tree) }
     ensures keeper_fault { OnlyWhereRose (keeper_faults (K.view keeper.old)) (keeper_faults (K.view keeper.new)) (result ≡ Stop.Broken Cut.Keeper) }
@@ -45,7 +50,7 @@ pub(crate) fn run_on<T: Tree, K: Keeper, O: Sink, W: Kit>(
     one_report_of_a_tree();
     let task = task_of(options, kind);
     let mut heard = nothing_heard(alloc);
-    match run(alloc, files, task, &mut heard, cache, kits) {
+    match run(rt, alloc, files, task, &mut heard, cache, kits) {
         Err(Unloaded::NoMemory) => Stop::Broken(Cut::Memory),
         Err(Unloaded::Stuck) => Stop::Broken(Cut::Circle),
         Ok(report) => match write_changed(tree, report.changed.as_slice()) {
@@ -62,7 +67,8 @@ pub(crate) fn run_on<T: Tree, K: Keeper, O: Sink, W: Kit>(
 }
 
 /// One run over the tree, with the cache that the keeper has. The cache is of this key, on which no answer depends.
-pub fn single<T: Tree, K: Keeper, O: Sink, W: Kit>(
+pub fn single<T: Tree, K: Keeper, O: Sink, W: Kit + Send, R: Threads + Sync>(
+    rt: &R,
     alloc: Global,
     key: Key,
     options: &ToolOptions,
@@ -72,8 +78,11 @@ pub fn single<T: Tree, K: Keeper, O: Sink, W: Kit>(
     output: &mut O,
     kits: &mut [W],
 ) -> Stop
+where
+    W::Loaded: Send,
     requires some { 0 < length kits.old }
-    requires room { sum_by W.loads kits.old + sum_by W.runs kits.old ≤ 2 ^ 61 }
+    requires room { DidAtMost W.loads W.runs (2 ^ 61) kits.old }
+    ensures size { length kits.new ≡ length kits.old }
     ensures runs { SingleRuns options.now kind (O.view output.old) (O.view output.new) (T.view tree.old).files (T.view tree.new).files (K.view keeper.old).kept (K.view keeper.new).kept (work (sum_by W.loads kits.old) (sum_by W.runs kits.old)) (work (sum_by W.loads kits.new) (sum_by W.runs kits.new)) result }
     ensures tree_fault { OnlyWhereRose (T.view tree.old).faults (T.view tree.new).faults (result ≡ Stop.Broken Cut.Tree) }
     ensures keeper_fault { OnlyWhereRose (keeper_faults (K.view keeper.old)) (keeper_faults (K.view keeper.new)) (result ≡ Stop.Broken Cut.Keeper) }
@@ -90,7 +99,7 @@ pub fn single<T: Tree, K: Keeper, O: Sink, W: Kit>(
                 Ok(files) => {
                     let mut cache = opening.cache;
                     run_on(
-                        alloc, options, kind, &files, &mut cache, tree, keeper, output, kits,
+                        rt, alloc, options, kind, &files, &mut cache, tree, keeper, output, kits,
                     )
                 }
             },

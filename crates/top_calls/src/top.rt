@@ -1,6 +1,7 @@
 //! The loop of a session.
 ghost use Rattle.std.specs.Prelude.{◌≡◌, ◌≢◌, ◌+◌, ◌*◌, ◌^◌, ◌<◌, ◌≤◌, Some, None, Err, IfOk, [], length, sum_by};
 ghost use Rattle.top_calls.specs.Desk.{IsReady, greeting_of};
+ghost use Rattle.top_calls.specs.Workers.{DidAtMost};
 ghost use Rattle.tree_runs.specs.Reports.{work};
 ghost use Rattle.scripts.specs.Script.{IsBeginning};
 ghost use Rattle.folder.specs.Folders.{OnlyWhereRose};
@@ -13,12 +14,12 @@ use crate::options::ToolOptions;
 use crate::pieces::{Taken, take_piece};
 use crate::session::Session;
 use crate::stop::{Cut, Stop};
-use action_graph::{Kit, Unloaded};
 use fact_cache::Key;
 use gv_base::{Keeper, Sink, Source};
 use scripts::{Halt, Next, next_command};
 use std::alloc::Global;
-use tree_runs::one_report_of_a_tree;
+use std::thread::Threads;
+use tree_runs::{Kit, Unloaded, one_report_of_a_tree};
 
 /// Ends the session at the end of the input.
 fn finish<O: Sink>(alloc: Global, session: &Session, output: &mut O) -> Stop
@@ -36,7 +37,8 @@ fn finish<O: Sink>(alloc: Global, session: &Session, output: &mut O) -> Stop
 }
 
 /// Answers the next command, or takes a piece of the script. A command does at most 16,384 loads and runs of analyzers together, and has a byte.
-fn turn<K: Keeper, I: Source, O: Sink, W: Kit>(
+fn turn<K: Keeper, I: Source, O: Sink, W: Kit + Send, R: Threads + Sync>(
+    rt: &R,
     alloc: Global,
     options: &ToolOptions,
     session: &mut Session,
@@ -45,11 +47,13 @@ fn turn<K: Keeper, I: Source, O: Sink, W: Kit>(
     input: &mut I,
     output: &mut O,
 ) -> Option<Stop>
+where
+    W::Loaded: Send,
     requires some { 0 < length kits.old }
-    requires room { sum_by W.loads kits.old + sum_by W.runs kits.old ≤ 2 ^ 61 + 16384 * session.old.offset }
+    requires room { DidAtMost W.loads W.runs (2 ^ 61 + 16384 * session.old.offset) kits.old }
     requires ready { IsReady session.old.desk }
     ensures size { length kits.new ≡ length kits.old }
-    ensures room { result ≡ None → sum_by W.loads kits.new + sum_by W.runs kits.new ≤ 2 ^ 61 + 16384 * session.new.offset }
+    ensures room { result ≡ None → DidAtMost W.loads W.runs (2 ^ 61 + 16384 * session.new.offset) kits.new }
     ensures ready { result ≡ None → IsReady session.new.desk }
     ensures turns { Turns options.now (I.view input.old) (I.view input.new) (O.view output.old) (O.view output.new) (work (sum_by W.loads kits.old) (sum_by W.runs kits.old)) (work (sum_by W.loads kits.new) (sum_by W.runs kits.new)) (K.view keeper.old).kept (K.view keeper.new).kept session.old session.new result }
     ensures source_fault { OnlyWhereRose (I.view input.old).faults (I.view input.new).faults (result ≡ Some (Stop.Broken Cut.Source)) }
@@ -64,7 +68,7 @@ fn turn<K: Keeper, I: Source, O: Sink, W: Kit>(
             if command.is_end() {
                 return Some(Stop::Halted(Halt::Ended, session.desk.found));
             }
-            match session.desk.apply(alloc, options, command, kits) {
+            match session.desk.apply(rt, alloc, options, command, kits) {
                 Ok(answer) => hand_out(session, len, &answer, keeper, output),
                 Err(Unloaded::NoMemory) => Some(Stop::Broken(Cut::Memory)),
                 Err(Unloaded::Stuck) => Some(Stop::Broken(Cut::Circle)),
@@ -113,7 +117,8 @@ fn begin<K: Keeper, O: Sink>(
 }
 
 /// Answers the commands of a script, as they come, to its end.
-fn converse<K: Keeper, I: Source, O: Sink, W: Kit>(
+fn converse<K: Keeper, I: Source, O: Sink, W: Kit + Send, R: Threads + Sync>(
+    rt: &R,
     alloc: Global,
     options: &ToolOptions,
     session: &mut Session,
@@ -122,9 +127,12 @@ fn converse<K: Keeper, I: Source, O: Sink, W: Kit>(
     input: &mut I,
     output: &mut O,
 ) -> Stop
+where
+    W::Loaded: Send,
     requires some { 0 < length kits.old }
-    requires room { sum_by W.loads kits.old + sum_by W.runs kits.old ≤ 2 ^ 61 + 16384 * session.old.offset }
+    requires room { DidAtMost W.loads W.runs (2 ^ 61 + 16384 * session.old.offset) kits.old }
     requires ready { IsReady session.old.desk }
+    ensures size { length kits.new ≡ length kits.old }
     ensures turns { Turns options.now (I.view input.old) (I.view input.new) (O.view output.old) (O.view output.new) (work (sum_by W.loads kits.old) (sum_by W.runs kits.old)) (work (sum_by W.loads kits.new) (sum_by W.runs kits.new)) (K.view keeper.old).kept (K.view keeper.new).kept session.old session.new (Some result) }
     ensures source_fault { OnlyWhereRose (I.view input.old).faults (I.view input.new).faults (result ≡ Stop.Broken Cut.Source) }
     ensures keeper_fault { OnlyWhereRose (keeper_faults (K.view keeper.old)) (keeper_faults (K.view keeper.new)) (result ≡ Stop.Broken Cut.Keeper) }
@@ -132,14 +140,15 @@ fn converse<K: Keeper, I: Source, O: Sink, W: Kit>(
     ensures stalled { OnlyWhereRose (O.view output.old).stalls (O.view output.new).stalls (result ≡ Stop.Broken Cut.Stalled) }
 {
     'script: loop {
-        if let Some(stop) = turn(alloc, options, session, kits, keeper, input, output) {
+        if let Some(stop) = turn(rt, alloc, options, session, kits, keeper, input, output) {
             return stop;
         }
     }
 }
 
 /// Reads a script, and answers each of its commands. The cache is of this key, on which no answer depends.
-pub fn run<K: Keeper, I: Source, O: Sink, W: Kit>(
+pub fn run<K: Keeper, I: Source, O: Sink, W: Kit + Send, R: Threads + Sync>(
+    rt: &R,
     alloc: Global,
     key: Key,
     options: &ToolOptions,
@@ -148,8 +157,11 @@ pub fn run<K: Keeper, I: Source, O: Sink, W: Kit>(
     output: &mut O,
     kits: &mut [W],
 ) -> Stop
+where
+    W::Loaded: Send,
     requires some { 0 < length kits.old }
-    requires room { sum_by W.loads kits.old + sum_by W.runs kits.old ≤ 2 ^ 61 }
+    requires room { DidAtMost W.loads W.runs (2 ^ 61) kits.old }
+    ensures size { length kits.new ≡ length kits.old }
     ensures runs { Runs options.now (I.view input.old) (I.view input.new) (O.view output.old) (O.view output.new) (work (sum_by W.loads kits.old) (sum_by W.runs kits.old)) (work (sum_by W.loads kits.new) (sum_by W.runs kits.new)) (K.view keeper.old).kept (K.view keeper.new).kept result }
     ensures source_fault { OnlyWhereRose (I.view input.old).faults (I.view input.new).faults (result ≡ Stop.Broken Cut.Source) }
     ensures keeper_fault { OnlyWhereRose (keeper_faults (K.view keeper.old)) (keeper_faults (K.view keeper.new)) (result ≡ Stop.Broken Cut.Keeper) }
@@ -160,7 +172,16 @@ pub fn run<K: Keeper, I: Source, O: Sink, W: Kit>(
         Err(cut) => Stop::Broken(cut),
         Ok(session) => {
             let mut session = session;
-            converse(alloc, options, &mut session, kits, keeper, input, output)
+            converse(
+                rt,
+                alloc,
+                options,
+                &mut session,
+                kits,
+                keeper,
+                input,
+                output,
+            )
         }
     }
 }

@@ -1,5 +1,5 @@
 //! Words, standard input and output, and the names of statuses.
-use go_kit::GoKit;
+use go_kit::{GoKit, new_kits};
 use gv_base::{MemSink, MemSource, SureKeeper, SureTree};
 use scripts::Halt;
 use std::alloc::Global;
@@ -26,6 +26,7 @@ fn status_of<R: Threads + Sync + RandomSource>(
     let mut keeper = SureKeeper::new(alloc, None);
     let mut input = MemSource::new(b"check\n".to_vec(alloc)?, Vec::new(alloc));
     let mut output = MemSink::new(Vec::new(alloc), Vec::new(alloc), Vec::new(alloc));
+    let mut kits = new_kits(alloc, 64)?;
     let status = gvet(
         rt,
         alloc,
@@ -34,7 +35,7 @@ fn status_of<R: Threads + Sync + RandomSource>(
         &mut keeper,
         &mut input,
         &mut output,
-        &mut [GoKit::new(alloc)],
+        kits.as_mut_slice(),
     );
     Ok((status, output.bytes().len()))
 }
@@ -64,6 +65,7 @@ fn reads_and_writes_by_std(rt: HostRuntime) -> Result<(), Fail> {
     let mut output = StdSink::new(&mut written);
     let options = ToolOptions::PLAIN;
     let status = session(
+        &rt,
         rt.alloc(),
         key_of(&rt),
         &options,

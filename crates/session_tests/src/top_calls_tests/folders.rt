@@ -1,5 +1,5 @@
 //! Calls over a tree and a keeper in memory: what goes out, what is written and what is kept.
-use go_kit::GoKit;
+use go_kit::new_kits;
 use gv_base::{Fault, MemKeeper, MemSink, MemTree, SureSource};
 use std::alloc::Global;
 use std::process::Abort;
@@ -72,7 +72,7 @@ const GENERATED: &[u8] =
     b"put p0/p.go 67\npackage p\n\nconst C = 0\n\nfunc F(x int) int {\n\tx = x\n\treturn x + C\n}\n\nreport\nstats\nreport\nstats\nend\n";
 
 #[rattlefmt::skip]
-const ROWS: [Row; 24] = [
+const ROWS: [Row; 25] = [
     Row { words: &["report"], out: FOUND, status: 1, keeps: Keeps::Text, ..PLAIN },
     Row { words: &["report", "--json"], out: JSON, status: 1, keeps: Keeps::Text, ..PLAIN },
     Row { words: &["--json", "--only=bools", "report"], out: b"{}\n", status: 0, keeps: Keeps::Text, ..PLAIN },
@@ -91,6 +91,7 @@ const ROWS: [Row; 24] = [
     Row { words: &["session"], script: b"check\nput a.go 100\npackage a\n", kept: Some(b"gvcache 1\n0;0;"), out: b"packages 0, errors 0\nscript refused at 6\n", status: 8, ..PLAIN },
     Row { words: &["load", "2", "--workers", "8"], out: TWO, status: 1, keeps: Keeps::Text, ..PLAIN },
     Row { words: &["load", "200"], out: MANY, status: 1, keeps: Keeps::Text, ..PLAIN },
+    Row { words: &["load", "200", "--workers", "8"], out: MANY, status: 1, keeps: Keeps::Text, ..PLAIN },
     Row { words: &["gen", "1"], kept: Some(b"rubbish"), tree_fails: Some(0), keeper_fails: Some(0), out: GENERATED, status: 0, ..PLAIN },
     Row { words: &["check", "--workers", "0"], kept: Some(b"rubbish"), tree_fails: Some(0), keeper_fails: Some(0), ..PLAIN },
     Row { words: &["report", "--only", "printf,"], kept: Some(b"rubbish"), tree_fails: Some(0), keeper_fails: Some(0), ..PLAIN },
@@ -147,6 +148,7 @@ fn runs_as_told<R: Threads + Sync + RandomSource + Abort>(
     let mut keeper = MemKeeper::new(alloc, kept, failing(alloc, row.keeper_fails)?);
     let mut input = SureSource::new(row.script.to_vec(alloc)?);
     let mut output = MemSink::new(Vec::new(alloc), Vec::new(alloc), Vec::new(alloc));
+    let mut kits = new_kits(alloc, 64)?;
     let status = gvet(
         rt,
         alloc,
@@ -155,7 +157,7 @@ fn runs_as_told<R: Threads + Sync + RandomSource + Abort>(
         &mut keeper,
         &mut input,
         &mut output,
-        &mut [GoKit::new(alloc)],
+        kits.as_mut_slice(),
     );
     assert_eq!(rt; output.bytes(), row.out);
     assert_eq!(rt; status, row.status);

@@ -1,7 +1,7 @@
 //! Devices that fail at each of their calls, and kept bytes that are cut short or changed.
 use super::folders::words_of;
 use fact_cache::Cache;
-use go_kit::GoKit;
+use go_kit::new_kits;
 use gv_base::{Fault, MemKeeper, MemSink, MemTree, SureSource};
 use std::alloc::Global;
 use std::process::Abort;
@@ -58,6 +58,7 @@ fn ends<R: Threads + Sync + RandomSource>(
     let mut keeper = MemKeeper::new(alloc, kept, keeper);
     let mut input = SureSource::new(script.to_vec(alloc)?);
     let mut output = MemSink::new(Vec::new(alloc), sink, stalls);
+    let mut kits = new_kits(alloc, 64)?;
     let status = gvet(
         rt,
         alloc,
@@ -66,7 +67,7 @@ fn ends<R: Threads + Sync + RandomSource>(
         &mut keeper,
         &mut input,
         &mut output,
-        &mut [GoKit::new(alloc)],
+        kits.as_mut_slice(),
     );
     let kept = match keeper.bytes() {
         Some(bytes) => Some(bytes.to_vec(alloc)?),

@@ -104,3 +104,9 @@ returns-in-Err-keep-clause-stalled g c = record { later = c.in-Ok-say.ensures.st
 
 pub returns-in-Err-keep-clause-not_source : goal.returns-in-Err-keep-clause-not_source
 returns-in-Err-keep-clause-not_source g c = λ e. not-allowed c.in-Err-keep.cut Source Storing refl (c.in-Err-keep.ensures.failed c.in-Err-keep.cut refl).allowed (same-cut c.in-Err-keep.cut Source e)
+
+pub run-requires-clause-loads : goal.run-requires-clause-loads
+run-requires-clause-loads g c = λ κs _ k kit e. (let h = c.requires.room k kit e in omega (arith, h.0))
+
+pub run-requires-clause-runs : goal.run-requires-clause-runs
+run-requires-clause-runs g c = λ κs _ k kit e. (let h = c.requires.room k kit e in omega (arith, h.1))

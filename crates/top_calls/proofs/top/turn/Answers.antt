@@ -13,6 +13,8 @@ use Rattle.top_calls.proofs.RunsLaws.{RunLaws}
 use Rattle.scripts.proofs.ReadOnLaws.{not-true}
 use Rattle.top_calls.proofs.Steps.{begins-behind, circular-at, ends-halted, ends-idle, ends-running, steps-on, takes-on, same-on, within-limit, IsEnding-of, IsRefused-none, IsPastLimit-of}
 use Rattle.top_calls.proofs.TurnLaws.{none-some, handed-length, piece-length}
+use Rattle.scripts.proofs.WordLaws.{nonempty}
+use Rattle.top_calls.proofs.WorkersLaws.{did-by-command, did-within}
 use Rattle.top_calls.proofs.top.turn.Goals as goal
 
 pub returns-then-is_end-clause-turns : goal.returns-then-is_end-clause-turns
@@ -176,3 +178,15 @@ returns-in-Fault-clause-turns g c =
           let begun : IsNext session.pending NeedMore = rw c.as_slice.ensures at c.in-NeedMore.ensures in
           ends-idle session (g.I.Source.view c.take_piece.new.input).left r.given Source s refl (begins-behind session r.given s begun r.leaves);
     }
+
+pub apply-requires-clause-room : goal.apply-requires-clause-room
+apply-requires-clause-room g c = λ κs _. did-within g.W.Kit.loads g.W.Kit.runs c.args.session.now.offset c.args.kits.now (let w = within-limit c.args.session.now in omega (arith, w)) c.requires.room
+
+pub returns-in-Ok-clause-room : goal.returns-in-Ok-clause-room
+returns-in-Ok-clause-room g c = λ e.
+    let next : IsNext c.args.session.now.pending (Whole c.in-Whole.command c.in-Whole.len) = rw c.as_slice.ensures at c.in-Whole.ensures in
+    let some = nonempty (command_of c.in-Whole.command) in
+    did-by-command g.W.Kit.loads g.W.Kit.runs c.args.session.now.offset c.in-Whole.len c.hand_out.new.session.offset c.args.kits.now c.apply.new.kits (omega (arith, some, next.1)) (c.hand_out.ensures.step e).0 c.apply.ensures.least c.apply.ensures.bound c.requires.room
+
+pub returns-in-More-clause-room : goal.returns-in-More-clause-room
+returns-in-More-clause-room g c = λ e. rw c.in-More.ensures.takes.leaves.3 c.requires.room
