@@ -1,11 +1,11 @@
 #!/usr/bin/env bash
-# own-module.sh DIR [--json] [--only LIST]: reports on the module of Go in a folder. Go has to be installed; gvet is $GVET, else the one that is built here.
+# own-module.sh DIR [--json] [--only LIST] [--workers N]: reports on the module of Go in a folder. Go has to be installed; gvet is $GVET, else the one that is built here.
 # All that is written stands in DIR/.gvet, which git ignores: `tree` has the module's files with stubs of what they import, and the cache;
 # `tree/left-out` says what of these stubs differs from the packages, `tree/uses` where the module uses that. The status is gvet's, or 70
 # where there is no report: Go is missing, or doesn't build the module.
 set -eu
 root=$(cd "$(dirname "$0")/.." && pwd)
-dir=${1:?"usage: examples/own-module.sh DIR [--json] [--only LIST]"}
+dir=${1:?"usage: examples/own-module.sh DIR [--json] [--only LIST] [--workers N]"}
 shift
 stop() {
     echo "own-module.sh: $1" >&2
