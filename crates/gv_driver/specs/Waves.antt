@@ -61,7 +61,7 @@ Comes (Err unloaded.Stuck) at result = result ≡ Ok Stuck
 abbrev pub job_of : ℕ → ℕ → Job
 job_of place at = record { place = place; at = at }
 
--- These are the packages below a number that are ready, in their order.
+-- Packages below a number that are ready, in their order; none only where none of those is ready.
 pub record AreJobs (tree : List PackageTexts) (table : List (Option Node)) (end : ℕ) (jobs : List Job) : Type 0 where
   pub few : length jobs ≤ end
   pub each : (k : ℕ) (job : Job) → slice_get jobs k ≡ Some job → (job.place ≡ k) × IsReady tree table job.at × (job.at < end)

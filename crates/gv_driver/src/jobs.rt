@@ -1,4 +1,4 @@
-//! The packages of a wave: all that are ready.
+//! The packages of a wave: some that are ready, if any is.
 ghost use Rattle.std.specs.Prelude.{◌≡◌, ◌+◌, ◌<◌, ◌^◌, ◌++◌, ◌∷◌, [], ℕ, IfOk, OnOk, length};
 ghost use Rattle.gv_driver.specs.Waves.{AreChosen, AreJobs, job_of};
 
@@ -178,7 +178,7 @@ pub(crate) fn count_of(jobs: &Vec<Job>) -> usize
     jobs.as_slice().len()
 }
 
-/// The packages that are ready after a wave, in their order. Each of them imports one of the wave's, or it would have been ready before; where
+/// Packages that are ready after a wave, in their order: those that import one of the wave's, since others would have been ready before; and where
 /// none of those is ready, all are looked at, so that the waves end only where no package is ready.
 pub(crate) fn next_jobs(
     alloc: Global,
