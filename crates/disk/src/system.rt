@@ -10,7 +10,7 @@ use std::os::unix::fs::{OpenOptionsExt, PermissionsExt};
 use std::rt::Files;
 use std::{fs, io};
 
-/// How many bytes are asked for at a time.
+/// How many bytes are asked for at a time, at most.
 const PIECE: usize = 65_536;
 
 /// The bits of a mode that say who may do what.
@@ -103,6 +103,11 @@ fn read_piece<F: Read>(
     Ok(read > 0)
 }
 
+/// How many bytes are asked for at a time of a file of which this many are awaited: one more, so that its end is found by the second call.
+fn piece_size(likely: usize) -> usize {
+    likely.min(PIECE - 1) + 1
+}
+
 /// The first `most` bytes of a file, however long it grows, of which `likely` are awaited. Each
 /// turn reads something or is the last.
 pub fn read_most<F: Read>(
@@ -114,7 +119,7 @@ pub fn read_most<F: Read>(
     ensures { IfOk result (λ bytes. vec_len bytes ≤ most) }
 {
     let mut bytes = Vec::with_capacity(alloc, likely.min(most))?;
-    let mut piece = vec![in alloc; 0u8; PIECE]?;
+    let mut piece = vec![in alloc; 0u8; piece_size(likely)]?;
     'pieces: while bytes.len() < most {
         let room = most - bytes.len();
         let more = read_piece(file, room, &mut piece, &mut bytes)?;

@@ -1,17 +1,21 @@
 -- The longest word that begins a text.
-use Rattle.std.proofs.Common.{◌≡◌, ℕ, ◌+◌, ◌<◌, ◌≤◌, Bool, true, false, not, zero, suc, get_or, ◌&&◌, ◌||◌, List, [], ◌∷◌, ◌++◌, length, take, drop, refl, sym, ap, subst, ⊎_elim, ◌∙◌, arith, length-append}
-use Rattle.std.specs.Str.{chars, is_utf8, IsUtf8, IsValidUpTo, NonePass, encode_utf8_all, all_scalars}
-use Rattle.std.specs.Char.{len_utf8, encode_utf8}
+use Rattle.std.proofs.Common.{◌≡◌, ℕ, ◌+◌, ◌<◌, ◌≤◌, ◌⊎◌, inl, inr, ◌==◌, nat_le, Bool, true, false, not, zero, suc, get_or, ◌&&◌, ◌||◌, List, [], ◌∷◌, ◌++◌, length, take, drop, refl, sym, ap, subst, ⊎_elim, ◌∙◌, arith, length-append}
+use Rattle.std.specs.Prelude.{slice_index}
+use Rattle.std.specs.Str.{chars, is_utf8, IsAscii, IsUtf8, IsValidUpTo, NonePass, encode_utf8_all, all_scalars}
+use Rattle.std.specs.Char.{len_utf8, encode_utf8, is_ascii_digit, is_ascii_alphabetic}
+use Rattle.std.specs.Int.{is_in_range}
 use Rattle.std.specs.List.{list_all}
 use Rattle.std.specs.Cmp.{first_so, second_so}
-use Rattle.std.proofs.lemmas.Bool.{cond-true, cond-false}
+use Rattle.std.proofs.lemmas.Bool.{cond-true, cond-false, leb-true}
+use Rattle.std.proofs.lemmas.Bool.Decides.{Decides-eqb}
 use Rattle.std.proofs.lemmas.List.{take_at, length-take-le, take-append-drop, take-take, get_or-take}
 use Rattle.std.proofs.str.Laws.{order}
 use Rattle.ucd_table.specs.Rows.{value_in}
 use Rattle.ucd_category.specs.GeneralCategoryRows.{general_category_rows}
-use Rattle.go_tree.specs.Lexeme.{is_word_byte}
-use Rattle.go_lexeme.specs.Run.{IsLooseRun, IsLooseText}
-use Rattle.std.proofs.lemmas.Str.{encodes-append, encodes-chars, chars-encodes, encodes_same, IsUtf8-drop, IsCharBoundary-from_take, IsUtf8-from_is_utf8, is_utf8-from_IsUtf8, length-encode, scalars-chars, chars_past_char, encode_same, chars-nil, chars-append, NoCharPasses-byte}
+use Rattle.go_tree.specs.Lexeme.{is_letter, is_word_byte}
+use Rattle.go_lexeme.specs.Run.{IsLooseRun, IsLooseText, IsWordRun}
+use Rattle.go_lexeme.specs.Slots.{flag_at}
+use Rattle.std.proofs.lemmas.Str.{chars-IsAscii, IsUtf8-from_ascii, len_utf8_ascii, encodes-append, encodes-chars, chars-encodes, encodes_same, IsUtf8-drop, IsCharBoundary-from_take, IsUtf8-from_is_utf8, is_utf8-from_IsUtf8, length-encode, scalars-chars, chars_past_char, encode_same, chars-nil, chars-append, NoCharPasses-byte}
 use Rattle.ucd_category.specs.GeneralCategory.{general_category}
 use Rattle.go_tree.specs.Word.{is_letter_char, is_digit_category, is_word_char, is_word, word_bytes, begins_with_letter, IsWordSize}
 
@@ -259,3 +263,94 @@ word_of_text bytes text n loose word =
           (λ near. ap is_word (sym (same m near)) ∙ word.longest m longer near)
           (order (length text) m);
     }
+
+-- Words of ASCII alone.
+
+-- a table of flags tells the bytes of words
+pub word_flag : (flags : List Bool) (b : ℕ) → below 256 (λ b. same (get_or flags b false) (is_word_byte b)) ≡ true → b < 256 → flag_at flags b ≡ is_word_byte b
+unfolding flag_at
+word_flag flags b fits lt = same_is _ _ (below_at 256 (λ b. same (get_or flags b false) (is_word_byte b)) fits b lt)
+
+letter_table : below 128 (λ b. same (is_letter_char b) (is_letter b)) ≡ true
+unfolding general_category value_in general_category_rows
+letter_table = refl
+
+-- the letters of ASCII
+ascii_letter : (b : ℕ) → b < 128 → is_letter_char b ≡ is_letter b
+ascii_letter b lt = same_is _ _ (below_at 128 (λ b. same (is_letter_char b) (is_letter b)) letter_table b lt)
+
+or_true : (a b : Bool) → (a || b) ≡ true → (a ≡ true) ⊎ (b ≡ true)
+or_true true b h = inl refl
+or_true false b h = inr h
+
+range_low : (low high b : ℕ) → high < 128 → is_in_range low high b ≡ true → b < 128
+range_low low high b below within = let e = leb-true b high (second_so (nat_le low b) (nat_le b high) within) in omega (arith, e, below)
+
+word_byte_low : (b : ℕ) → is_word_byte b ≡ true → b < 128
+word_byte_low b word = ⊎_elim
+    (λ letter. ⊎_elim
+    (λ low. let e = (Decides-eqb b 95).0 low in omega (arith, e))
+    (λ both. ⊎_elim (λ upper. range_low 65 90 b (omega arith) upper) (λ lower. range_low 97 122 b (omega arith) lower) (or_true (is_in_range 65 90 b) (is_in_range 97 122 b) both))
+    (or_true (b == 95) (is_ascii_alphabetic b) letter))
+    (λ digit. range_low 48 57 b (omega arith) digit)
+    (or_true (is_letter b) (is_ascii_digit b) word)
+
+word_front : (bytes : List ℕ) (n : ℕ) → ((k : ℕ) → k < n → is_word_byte (slice_index bytes k) ≡ true) → list_all is_word_byte (take n bytes) ≡ true
+word_front bytes zero each = refl
+word_front [] (suc n) each = refl
+word_front (b ∷ bytes) (suc n) each = both _ _ (each 0 (omega arith)) (word_front bytes n (λ k lt. each (suc k) (omega (arith, lt))))
+
+ascii_front : (ds : List ℕ) → list_all is_word_byte ds ≡ true → IsAscii ds
+ascii_front [] each i = omega arith
+ascii_front (d ∷ ds) each zero = word_byte_low d (first_so _ _ each)
+ascii_front (d ∷ ds) each (suc i) = ascii_front ds (second_so _ _ each) i
+
+front_size : (ds : List ℕ) → list_all is_word_byte ds ≡ true → word_bytes ds ≡ length ds
+front_size [] each = refl
+front_size (d ∷ ds) each =
+    let word = first_so (is_word_byte d) (list_all is_word_byte ds) each in
+    let lt = word_byte_low d word in
+    let more = front_size ds (second_so (is_word_byte d) (list_all is_word_byte ds) each) in
+    let one = len_utf8_ascii d lt in
+    cond-true (is_word_char d) (len_utf8 d + word_bytes ds) 0 (ascii_word d lt ∙ word) ∙ omega (arith, one, more)
+
+-- a run that another ASCII byte ends is loose
+loose_word : (bytes : List ℕ) (n : ℕ) → IsWordRun bytes n → slice_index bytes n < 128 → IsLooseRun bytes n
+loose_word bytes n run ascii = record { within = run.within; ascii = λ lt. ascii; other = run.stops }
+
+-- no run is shorter than a letter at the front
+some_run : (bytes : List ℕ) (n : ℕ) → IsWordRun bytes n → is_letter (slice_index bytes 0) ≡ true → 0 < n
+some_run [] n run letter = absurd (let e = letter in cc)
+some_run (b ∷ bytes) zero run letter = absurd (let other = run.stops (omega arith) in let word : is_word_byte b ≡ true = ap (λ t. t || is_ascii_digit b) letter in cc)
+some_run (b ∷ bytes) (suc n) run letter = omega arith
+
+begins_by : (bytes : List ℕ) (n : ℕ) → IsWordRun bytes n → 0 < n → begins_with_letter (take n bytes) ≡ is_letter (slice_index bytes 0)
+begins_by bytes zero run some = absurd (omega (arith, some))
+begins_by [] (suc n) run some = absurd (let w = run.within in omega (arith, w))
+begins_by (b ∷ bytes) (suc n) run some = ascii_letter b (word_byte_low b (run.each 0 (omega arith)))
+
+ascii_chars : (bytes : List ℕ) (n : ℕ) → IsWordRun bytes n → chars (take n bytes) ≡ take n bytes
+ascii_chars bytes n run = chars-IsAscii (take n bytes) (ascii_front _ (word_front bytes n run.each))
+
+-- from a letter on the run is the longest word
+pub ascii_word_is : (bytes : List ℕ) (n : ℕ) → IsWordRun bytes n → slice_index bytes n < 128 → is_letter (slice_index bytes 0) ≡ true → IsWordSize bytes n
+ascii_word_is bytes n run ascii letter =
+    let text = take n bytes in
+    let each = word_front bytes n run.each in
+    let same = ascii_chars bytes n run in
+    let size : word_bytes (chars text) ≡ n = ap word_bytes same ∙ front_size text each ∙ length-take-le n bytes run.within in
+    let starts : begins_with_letter (chars text) ≡ true = ap begins_with_letter same ∙ begins_by bytes n run (some_run bytes n run letter) ∙ letter in
+    word_of_text bytes text n (loose_whole bytes text n (loose_word bytes n run ascii) refl)
+    (subst (IsWordSize text) size (word_begins text (IsUtf8-from_ascii text (ascii_front text each)) starts))
+
+no_start : (bytes : List ℕ) (n : ℕ) → IsWordRun bytes n → is_letter (slice_index bytes 0) ≡ false → begins_with_letter (take n bytes) ≡ false
+no_start bytes zero run other = refl
+no_start bytes (suc n) run other = begins_by bytes (suc n) run (omega arith) ∙ other
+
+-- from another byte on there is none
+pub ascii_no_word : (bytes : List ℕ) (n : ℕ) → IsWordRun bytes n → slice_index bytes n < 128 → is_letter (slice_index bytes 0) ≡ false → IsWordSize bytes 0
+ascii_no_word bytes n run ascii other =
+    let text = take n bytes in
+    let each = word_front bytes n run.each in
+    word_of_text bytes text 0 (loose_whole bytes text n (loose_word bytes n run ascii) refl)
+    (word_none text (IsUtf8-from_ascii text (ascii_front text each)) (ap begins_with_letter (ascii_chars bytes n run) ∙ no_start bytes n run other))

@@ -1,5 +1,5 @@
 -- The front of a text whose bytes pass a test.
-use Rattle.std.specs.Prelude.{◌≡◌, ℕ, ◌<◌, ◌≤◌, false, List, ◌+◌, ◌-◌, Some, None, length, take, drop, slice_index}
+use Rattle.std.specs.Prelude.{◌≡◌, ℕ, ◌<◌, ◌≤◌, true, false, List, ◌+◌, ◌-◌, Some, None, length, take, drop, slice_index}
 use Rattle.go_tree.specs.Word.{is_word}
 use Rattle.go_tree.specs.Lexeme.{is_word_byte, word_front, mark_item, step_of, start_of, is_dead, opener, class_item}
 use Rattle.go_tree.specs.declared.token.Piece.{Piece}
@@ -14,6 +14,12 @@ pub record IsRun (class : Class) (first : ℕ) (tail : List ℕ) (n : ℕ) (stat
   pub comes : fold (step_of class) (start_of class first) (take n tail) ≡ state
   pub alive : is_dead state ≡ false
   pub stops : n < length tail → step_of class state (slice_index tail n) ≡ Dead
+
+-- ASCII letters and digits, and another byte where they end
+pub record IsWordRun (bytes : List ℕ) (n : ℕ) : Type 0 where
+  pub within : n ≤ length bytes
+  pub each : (k : ℕ) → k < n → is_word_byte (slice_index bytes k) ≡ true
+  pub stops : n < length bytes → is_word_byte (slice_index bytes n) ≡ false
 
 -- where the run ends an ASCII byte stands that is of no word
 pub record IsLooseRun (bytes : List ℕ) (n : ℕ) : Type 0 where

@@ -1,7 +1,7 @@
 //! The classes of items, and how their bytes go on.
 ghost use Rattle.std.specs.Prelude.{◌≡◌, length, ◌==◌, not, ℕ, false};
 ghost use Rattle.go_tree.specs.Lexeme.{class_of, class_of_byte, decimal_state, hex_state, opener, start_of, number_step, quoted_step, block_step, raw_step, while_step, step_of, is_word_byte, newline};
-ghost use Rattle.go_lexeme.specs.Run.{IsRun, IsLooseRun};
+ghost use Rattle.go_lexeme.specs.Run.{IsRun, IsLooseRun, IsWordRun};
 
 use crate::byte::{
     is_blank, is_decimal_mark, is_hex_mark, is_letter, is_run_byte, is_sign, is_word_byte,
@@ -270,6 +270,18 @@ fn run_class(class: Class, first: u8, tail: &[u8]) -> (usize, State)
         state = next;
     }
     (tail.len(), state)
+}
+
+/// How many bytes of ASCII letters and digits stand at the front.
+pub(crate) fn word_run(bytes: &[u8]) -> usize
+    ensures { IsWordRun bytes.now result }
+{
+    for n in 0..bytes.len() {
+        if !is_word_byte(bytes[n]) {
+            return n;
+        }
+    }
+    bytes.len()
 }
 
 /// How many bytes of ASCII letters, digits and other characters stand at the front.

@@ -5,8 +5,8 @@ ghost use Rattle.ucd_category.specs.GeneralCategory.{general_category};
 ghost use Rattle.go_lexeme.specs.Run.{IsLooseText};
 ghost use Rattle.go_tree.specs.Word.{is_letter_category, is_digit_category, is_letter_char, is_word_char, is_word, word_bytes, begins_with_letter, IsWordSize};
 
-use crate::byte::is_word_byte;
-use crate::class::loose_run;
+use crate::byte::{byte_at, is_letter, is_word_byte};
+use crate::class::{loose_run, word_run};
 use unicode::properties::GeneralCategory;
 
 fn is_letter_category(category: GeneralCategory) -> bool
@@ -89,11 +89,18 @@ fn loose_text(rest: &[u8]) -> &str
     }
 }
 
-/// The size of the longest word that begins the bytes, or 0.
+/// The size of the longest word that begins the bytes, or 0. Where an ASCII byte ends it, no character is decoded.
 pub(crate) fn word_size(rest: &[u8]) -> usize
     ensures { IsWordSize rest.now result }
 {
-    text_word_size(loose_text(rest))
+    let size = word_run(rest);
+    if byte_at(rest, size) >= 128 {
+        text_word_size(loose_text(rest))
+    } else if is_letter(byte_at(rest, 0)) {
+        size
+    } else {
+        0
+    }
 }
 
 /// The size of the longest word that begins the text, or 0.

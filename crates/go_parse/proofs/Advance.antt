@@ -1,6 +1,6 @@
-use Rattle.std.proofs.Common.{◌≡◌, ℕ, ◌-◌, ◌<◌, List, [], ◌∷◌, ◌++◌, length, arith, subst, sym, ap, ◌∙◌}
-use Rattle.std.specs.Prelude.{reverse}
-use Rattle.std.proofs.lemmas.List.{reverse-append}
+use Rattle.std.proofs.Common.{◌≡◌, ℕ, ◌-◌, ◌<◌, Option, Some, None, List, [], ◌∷◌, ◌++◌, length, arith, refl, subst, sym, ap, ◌∙◌}
+use Rattle.std.specs.Prelude.{reverse, option_to_list}
+use Rattle.std.proofs.lemmas.List.{reverse-append, append-nil}
 use Rattle.go_parse.specs.declared.parser.Task.{Task}
 use Rattle.go_parse.specs.declared.parser.Task.TheVariants.{Want, Close, After}
 use Rattle.go_tree.specs.Forest.{Forest}
@@ -8,7 +8,7 @@ use Rattle.go_tree.specs.Classes.{next}
 use Rattle.go_tree.specs.declared.tree.Node.{Node}
 use Rattle.go_tree.specs.declared.tree.NodeKind.{NodeKind}
 use Rattle.go_parse.specs.State.{State, Outcome, Goes, Takes, Refuses, turned, Completes, Holds, Leads}
-use Rattle.go_parse.specs.Machine.{FitsItem}
+use Rattle.go_parse.specs.Machine.{FitsItem, topped}
 use Rattle.go_parse.proofs.Arenas.{length_roots, length_heights, length_kinds}
 use Rattle.go_parse.proofs.Steps.{turns, Shorter, turn_shorter}
 use Rattle.go_parse.proofs.Turns.{Outcomes, under, turn_leads}
@@ -51,11 +51,6 @@ fits (After p q v a base) s g m h e = tt
 pub shorter : (i : Task) (k at : ℕ) (s s' : State) → Goes s' ≡ turned i k at s → turns s'.stack < turns (i ∷ s.stack)
 shorter i k at s s' e = subst (Shorter (turns (i ∷ s.stack))) (sym e) (turn_shorter i k at s)
 
--- The state before an item was taken off the stack.
-pub before : (old new : List Task) (i : Task) (ns : List Node) (ps hs : List ℕ) (ks : List NodeKind) → old ≡ new ++ i ∷ []
-    → state (reverse old) ns ps hs ks ≡ under i (state (reverse new) ns ps hs ks)
-before old new i ns ps hs ks e = ap (λ k. state k ns ps hs ks) (popped old new i e)
-
 pub fits_heights : (i : Task) (s : State) (g : Forest) (m : ℕ) → Holds (under i s) g → m ≡ length s.heights → FitsItem i m
 fits_heights (Want x) s g m h e = tt
 fits_heights (Close kind a base) s g m h e = let z = ap length h.heights in let y = length_heights g in omega (arith, h.based.0, z, y)
@@ -65,3 +60,18 @@ pub fits_kinds : (i : Task) (s : State) (g : Forest) (m : ℕ) → Holds (under 
 fits_kinds (Want x) s g m h e = tt
 fits_kinds (Close kind a base) s g m h e = let z = ap length h.kinds in let y = length_kinds g in omega (arith, h.based.0, z, y)
 fits_kinds (After p q v a base) s g m h e = tt
+
+-- The state with the item that a stack's last one was, if it had one.
+pub unpopped : (old new : List Task) (o : Option Task) (ns : List Node) (ps hs : List ℕ) (ks : List NodeKind) → old ≡ new ++ option_to_list o
+    → topped o (state (reverse new) ns ps hs ks) ≡ state (reverse old) ns ps hs ks
+unpopped old new None ns ps hs ks e = ap (λ k. state (reverse k) ns ps hs ks) (sym (e ∙ append-nil new))
+unpopped old new (Some i) ns ps hs ks e = ap (λ k. state k ns ps hs ks) (sym (popped old new i e))
+
+-- A state leads to itself.
+pub stays : (n : ℕ) (xs : List ℕ) (s s' : State) → s' ≡ s → Leads n xs s s'
+stays n xs s s' e = subst (λ v. Leads n xs s v) (sym e) (λ g w. record { g' = g; holds = w; goes = λ t c. c; comes = λ t c. c })
+
+-- A turn leads on from the state with its item on the stack.
+pub led : (n : ℕ) (xs : List ℕ) (k at : ℕ) (next_one : Option Task) (i : Task) (s0 s : State) (o : Outcome) → next xs ≡ k → at ≡ n - length xs
+    → next_one ≡ Some i → Leads n xs s0 (topped next_one s) → o ≡ turned i k at s → Outcomes n xs s0 o
+led n xs k at next_one i s0 s o e a is f t = on n xs k at i s0 (topped (Some i) s) s o e a refl (subst (λ v. Leads n xs s0 (topped v s)) is f) t

@@ -1,4 +1,4 @@
-use Rattle.std.specs.Prelude.{ℕ, ◌≡◌, ◌≤◌, Bool, true, false, List, [], ◌∷◌, reverse}
+use Rattle.std.specs.Prelude.{ℕ, ◌≡◌, ◌≤◌, Bool, true, false, Option, Some, None, List, [], ◌∷◌, reverse}
 use Rattle.go_parse.specs.declared.parser.Parser.{Parser}
 use Rattle.go_parse.specs.declared.parser.Turn.{Turn}
 use Rattle.go_parse.specs.declared.parser.Turn.TheVariants as turns
@@ -6,7 +6,7 @@ use Rattle.go_parse.specs.declared.parser.Task.{Task}
 use Rattle.go_parse.specs.declared.parser.Task.TheVariants.{Want, Close, After}
 use Rattle.go_parse.specs.declared.parser.Step.{Step}
 use Rattle.go_parse.specs.declared.parser.Step.TheVariants as steps
-use Rattle.go_parse.specs.State.{State, Outcome, Goes, Takes, Refuses, Passes, Fails, Stops}
+use Rattle.go_parse.specs.State.{State, Outcome, Goes, Takes, Refuses, pushed, Passes, Fails, Stops}
 use Rattle.go_tree.specs.declared.grammar.Category.{Category}
 use Rattle.go_tree.specs.Arena.{flat, roots, heights, kinds}
 use Rattle.go_tree.specs.Forest.{Forest, ◌⊕◌}
@@ -16,8 +16,13 @@ use Rattle.go_tree.specs.declared.grammar.Symbol.TheVariants.{Inline}
 abbrev pub state_of : Parser → State
 state_of p = record { stack = reverse p.stack.items; nodes = p.nodes.items; pending = p.pending.items; heights = p.heights.items; kinds = p.kinds.items }
 
+-- the state with an item on its stack, if there is one
+abbrev pub topped : Option Task → State → State
+topped None s = s
+topped (Some i) s = pushed (i ∷ []) s
+
 abbrev pub outcome : Turn → State → Outcome
-outcome turns.Goes s = Goes s
+outcome (turns.Goes above) s = Goes (topped above s)
 outcome turns.Takes s = Takes s
 outcome turns.Refuses s = Refuses
 

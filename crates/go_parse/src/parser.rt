@@ -1,7 +1,7 @@
 //! The machine: a stack of what is wanted, and no recursion.
-ghost use Rattle.std.specs.Prelude.{◌≡◌, ◌<◌, ◌^◌, true, IfOk, ◌++◌, ◌∷◌, ◌-◌, ◌≤◌, ℕ, List, length, [], reverse, OnOk, drop};
-ghost use Rattle.go_parse.specs.Machine.{state_of, outcome, FitsItem, Stepped, Built, wanting, Answered};
-ghost use Rattle.go_parse.specs.State.{wants, turned, pushed, Holds};
+ghost use Rattle.std.specs.Prelude.{◌≡◌, ◌<◌, ◌^◌, true, IfOk, IfNone, ◌++◌, ◌∷◌, ◌-◌, ◌≤◌, ℕ, List, length, [], reverse, OnOk, drop};
+ghost use Rattle.go_parse.specs.Machine.{state_of, topped, outcome, FitsItem, Stepped, Built, wanting, Answered};
+ghost use Rattle.go_parse.specs.State.{Goes, wants, turned, pushed, Holds};
 ghost use Rattle.go_parse.specs.declared.parser.Task.TheVariants.{Want, Close, After};
 ghost use Rattle.go_tree.specs.Classes.{next, ahead};
 ghost use Rattle.go_tree.specs.Follow.{follow};
@@ -28,6 +28,8 @@ pub enum Task {
 /// The state between tokens.
 #[derive(Drop)]
 pub struct Parser {
+    /// The class of the next token. Turns read it here, since a compiler works out all tests of a local one before the first turn.
+    class: u8,
     stack: Vec<Task>,
     /// The nodes that were made.
     pub nodes: Vec<Node>,
@@ -42,7 +44,8 @@ pub struct Parser {
 /// What one turn did.
 #[derive(Clone, Copy, Drop)]
 pub enum Turn {
-    Goes,
+    /// The machine goes on, with this item above the stack, if there is one.
+    Goes(Option<Task>),
     Takes,
     Refuses,
 }
@@ -74,6 +77,7 @@ impl Parser {
         ensures { Built (state_of result) Empty }
     {
         Parser {
+            class: END,
             stack: Vec::new(alloc),
             nodes: Vec::new(alloc),
             pending: Vec::new(alloc),
@@ -125,9 +129,12 @@ impl Parser {
         requires { (n : ℕ) × (xs : List ℕ) × (g : Forest) × (next xs ≡ class) × (at ≡ n - length xs) × Holds (state_of self.old) g }
         ensures { IfOk result (λ step. (n : ℕ) (xs : List ℕ) → next xs ≡ class → at ≡ n - length xs → Stepped step n xs (state_of self.old) (state_of self.new)) }
     {
-        while let Some(item) = self.stack.pop() {
+        self.class = class;
+        let mut next = self.follow(None);
+        while let Some(item) = next {
+            let class = self.class;
             match self.turn(item, class, at)? {
-                Turn::Goes => {}
+                Turn::Goes(above) => next = self.follow(above),
                 Turn::Takes => return Ok(Step::Taken),
                 Turn::Refuses => return Ok(Step::Refused),
             }
@@ -135,26 +142,65 @@ impl Parser {
         Ok(Step::Over)
     }
 
-    /// Puts a rule's symbols on the stack, above the end of its node.
+    /// The item whose turn it is: the one above the stack, or else the topmost, which leaves the stack.
+    #[inline(always)]
+    fn follow(&mut self, above: Option<Task>) -> Option<Task>
+        ensures same { topped result (state_of self.new) ≡ topped above (state_of self.old) }
+        ensures none { IfNone result ((state_of self.new).stack ≡ []) }
+        ensures class { self.new.class ≡ self.old.class }
+    {
+        match above {
+            Some(item) => Some(item),
+            None => self.stack.pop(),
+        }
+    }
+
+    /// Wants the symbols, the first one above the stack.
+    #[inline(always)]
+    fn lead(&mut self, symbols: &[Symbol]) -> Result<Turn, AllocError>
+        ensures led { IfOk result (λ t. outcome t (state_of self.new) ≡ Goes (pushed (wants symbols.now) (state_of self.old))) }
+        ensures class { self.new.class ≡ self.old.class }
+    {
+        match symbols {
+            [] => Ok(Turn::Goes(None)),
+            [only] => Ok(Turn::Goes(Some(Task::Want(*only)))),
+            [first, rest @ ..] => {
+                push_symbols(&mut self.stack, rest)?;
+                Ok(Turn::Goes(Some(Task::Want(*first))))
+            }
+        }
+    }
+
+    /// Wants a rule's symbols, above the end of its node.
+    #[inline(always)]
     fn open(
         &mut self,
         symbols: &[Symbol],
         ending: Ending,
         first: u32,
         base: usize,
-    ) -> Result<(), AllocError>
-        ensures { OnOk result (state_of self.new ≡ pushed (wants symbols.now ++ Close ending first base ∷ []) (state_of self.old)) }
+    ) -> Result<Turn, AllocError>
+        ensures led { IfOk result (λ t. outcome t (state_of self.new) ≡ Goes (pushed (wants symbols.now ++ Close ending first base ∷ []) (state_of self.old))) }
+        ensures class { self.new.class ≡ self.old.class }
     {
-        self.stack.push(Task::Close(ending, first, base))?;
-        push_symbols(&mut self.stack, symbols)
+        let end = Task::Close(ending, first, base);
+        match symbols {
+            [] => Ok(Turn::Goes(Some(end))),
+            _ => {
+                self.stack.push(end)?;
+                self.lead(symbols)
+            }
+        }
     }
 
     /// What the item, which was on top of the stack, makes of the rest where `class` is next, at `at`.
+    #[inline(always)]
     fn turn(&mut self, item: Task, class: u8, at: u32) -> Result<Turn, AllocError>
         requires pending { FitsItem item (length self.old.pending.items) }
         requires heights { FitsItem item (length self.old.heights.items) }
         requires kinds { FitsItem item (length self.old.kinds.items) }
-        ensures { IfOk result (λ t. outcome t (state_of self.new) ≡ turned item class at (state_of self.old)) }
+        ensures led { IfOk result (λ t. outcome t (state_of self.new) ≡ turned item class at (state_of self.old)) }
+        ensures class { self.new.class ≡ self.old.class }
     {
         match item {
             Task::Want(symbol) => self.want(symbol, class, at),
@@ -172,17 +218,19 @@ impl Parser {
                 )?;
                 raise(&mut self.heights, base)?;
                 name(&mut self.kinds, base, kind)?;
-                Ok(Turn::Goes)
+                Ok(Turn::Goes(None))
             }
-            Task::Close(Ending::Bare, _, _) => Ok(Turn::Goes),
+            Task::Close(Ending::Bare, _, _) => Ok(Turn::Goes(None)),
             Task::After(least, most, setting, first, base) => self.suffix(
                 least, most, setting, first, base, class,
             ),
         }
     }
 
+    #[inline(always)]
     fn want(&mut self, symbol: Symbol, class: u8, at: u32) -> Result<Turn, AllocError>
-        ensures { IfOk result (λ t. outcome t (state_of self.new) ≡ turned (Want symbol) class at (state_of self.old)) }
+        ensures led { IfOk result (λ t. outcome t (state_of self.new) ≡ turned (Want symbol) class at (state_of self.old)) }
+        ensures class { self.new.class ≡ self.old.class }
     {
         match symbol {
             Symbol::Token(terminal) => Ok(if admits(terminal, class) {
@@ -196,27 +244,28 @@ impl Parser {
         }
     }
 
+    #[inline(always)]
     fn inline(&mut self, category: Category, class: u8) -> Result<Turn, AllocError>
-        ensures { IfOk result (λ t. outcome t (state_of self.new) ≡ turned (Want (Inline category)) class 0 (state_of self.old)) }
+        ensures led { IfOk result (λ t. outcome t (state_of self.new) ≡ turned (Want (Inline category)) class 0 (state_of self.old)) }
+        ensures class { self.new.class ≡ self.old.class }
     {
         match inline_rule(category, class) {
-            Some(symbols) => {
-                push_symbols(&mut self.stack, symbols)?;
-                Ok(Turn::Goes)
-            }
+            Some(symbols) => self.lead(symbols),
             None => Ok(Turn::Refuses),
         }
     }
 
+    #[inline(always)]
     fn part(&mut self, category: Category, at: u32) -> Result<Turn, AllocError>
-        ensures { IfOk result (λ t. outcome t (state_of self.new) ≡ turned (Want (Part category)) 0 at (state_of self.old)) }
+        ensures led { IfOk result (λ t. outcome t (state_of self.new) ≡ turned (Want (Part category)) 0 at (state_of self.old)) }
+        ensures class { self.new.class ≡ self.old.class }
     {
         let base = self.pending.len();
-        self.stack
-            .push(Task::Close(Ending::Tail(category), at, base))?;
-        Ok(Turn::Goes)
+        let tail = Task::Close(Ending::Tail(category), at, base);
+        Ok(Turn::Goes(Some(tail)))
     }
 
+    #[inline(always)]
     fn tail(
         &mut self,
         category: Category,
@@ -225,17 +274,16 @@ impl Parser {
         class: u8,
     ) -> Result<Turn, AllocError>
         requires { base ≤ length self.old.kinds.items }
-        ensures { IfOk result (λ t. outcome t (state_of self.new) ≡ turned (Close (Tail category) first base) class 0 (state_of self.old)) }
+        ensures led { IfOk result (λ t. outcome t (state_of self.new) ≡ turned (Close (Tail category) first base) class 0 (state_of self.old)) }
+        ensures class { self.new.class ≡ self.old.class }
     {
         match node_rule(category, class, shape(&self.kinds[base..])) {
-            Some(rule) => {
-                self.open(rule.symbols, rule.ending, first, base)?;
-                Ok(Turn::Goes)
-            }
+            Some(rule) => self.open(rule.symbols, rule.ending, first, base),
             None => Ok(Turn::Refuses),
         }
     }
 
+    #[inline(always)]
     fn operand(
         &mut self,
         least: u8,
@@ -243,20 +291,21 @@ impl Parser {
         class: u8,
         at: u32,
     ) -> Result<Turn, AllocError>
-        ensures { IfOk result (λ t. outcome t (state_of self.new) ≡ turned (Want (Operand least setting)) class at (state_of self.old)) }
+        ensures led { IfOk result (λ t. outcome t (state_of self.new) ≡ turned (Want (Operand least setting)) class at (state_of self.old)) }
+        ensures class { self.new.class ≡ self.old.class }
     {
         match prefix_rule(setting, class) {
             Some(rule) if least <= rule.level => {
                 let base = self.pending.len();
                 self.stack
                     .push(Task::After(least, rule.level, setting, at, base))?;
-                self.open(rule.symbols, rule.ending, at, base)?;
-                Ok(Turn::Goes)
+                self.open(rule.symbols, rule.ending, at, base)
             }
             _ => Ok(Turn::Refuses),
         }
     }
 
+    #[inline(always)]
     fn suffix(
         &mut self,
         least: u8,
@@ -266,16 +315,16 @@ impl Parser {
         base: usize,
         class: u8,
     ) -> Result<Turn, AllocError>
-        ensures { IfOk result (λ t. outcome t (state_of self.new) ≡ turned (After least most setting first base) class 0 (state_of self.old)) }
+        ensures led { IfOk result (λ t. outcome t (state_of self.new) ≡ turned (After least most setting first base) class 0 (state_of self.old)) }
+        ensures class { self.new.class ≡ self.old.class }
     {
         match suffix_rule(setting, class) {
             Some(rule) if least <= rule.level && rule.left <= most => {
                 self.stack
                     .push(Task::After(least, rule.level, setting, first, base))?;
-                self.open(rule.symbols, rule.ending, first, base)?;
-                Ok(Turn::Goes)
+                self.open(rule.symbols, rule.ending, first, base)
             }
-            _ => Ok(Turn::Goes),
+            _ => Ok(Turn::Goes(None)),
         }
     }
 }

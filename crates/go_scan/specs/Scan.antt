@@ -1,5 +1,6 @@
 -- What scanning a text gives.
-use Rattle.std.specs.Prelude.{◌≡◌, List, [], ◌∷◌, ℕ, Option, Some, None}
+use Rattle.std.specs.Prelude.{◌≡◌, List, [], ◌∷◌, ℕ, Option, Some, None, false, length, nat_eq}
+use Rattle.std.specs.List.{list_any}
 use Rattle.std.specs.Global.{Vec}
 use Rattle.go_tree.specs.declared.token.Token.{Token}
 use Rattle.go_tree.specs.declared.token.Why.{Why}
@@ -24,3 +25,9 @@ IsRefusal offset why (Refused at because) = (at ≡ offset) × (because ≡ why)
 abbrev pub option_list : {A : Type 0} → Option A → List A
 option_list None = []
 option_list (Some x) = x ∷ []
+
+-- all bytes are UTF-8, none is 0, and none begins a byte order mark
+pub record IsPlain (text : List ℕ) (valid : ℕ) : Type 0 where
+  pub whole : valid ≡ length text
+  pub nul : list_any (λ b. nat_eq b 0) text ≡ false
+  pub front : list_any (λ b. nat_eq b 239) text ≡ false

@@ -1,6 +1,7 @@
 //! The load of a package, executed at most once.
 ghost use Rattle.std.specs.Prelude.{◌≡◌, ◌≤◌, ◌+◌, ◌<◌, ◌^◌, ℕ, true, false, Some, None, Err, IfOk, OnOk, OnErr};
 ghost use Rattle.action_graph.specs.Judging.{IsLawful, IsOutcome, IsStuck, load_text};
+ghost use Rattle.action_graph.specs.Nodes.{load_texts};
 ghost use Rattle.gv_driver.specs.Caches.{IsHonest};
 ghost use Rattle.gv_driver.specs.Loads.{load_input};
 ghost use Rattle.gv_driver.specs.Making.{IsLoading, IsOpened, digit};
@@ -10,10 +11,10 @@ ghost use Rattle.gv_driver.specs.Tables.{answer_text, load_over};
 use crate::answer::read_answer;
 use crate::input::{key_of, load_of};
 use crate::node::{Answer, Begun, Loading, Node};
-use crate::parts::{cached, parts_of};
+use crate::parts::cached;
 use crate::tree::PackageTexts;
 use action_graph::{Kit, Load, LoadInput, Trees, Unloaded};
-use fact_cache::{Cache, Input};
+use fact_cache::{Cache, Input, Parts};
 use std::alloc::Global;
 
 /// What a kit gave for a load that reads this.
@@ -91,7 +92,7 @@ fn executed<K: Kit>(
     Ok(opened(key, load))
 }
 
-/// What the cache has of a package's load, or else what the kit gives.
+/// What the cache has of a package's load, by the texts that it reads, or else what the kit gives.
 pub(crate) fn begun_of<K: Kit>(
     alloc: Global,
     tree: &[PackageTexts],
@@ -100,10 +101,12 @@ pub(crate) fn begun_of<K: Kit>(
     table: &[Option<Node>],
     env: &[u32],
     pack: &PackageTexts,
+    parts: &Parts<'_>,
     trees: Option<Trees>,
 ) -> Result<Begun<K::Loaded>, Unloaded>
     requires loads { K.loads kit.old < 2 ^ 63 }
     requires holds { K.holds kit.old }
+    requires parts { parts.now ≡ load_texts (load_over tree.now table.now env.now pack.now) }
     ensures holds { K.holds kit.new }
     ensures opened { IfOk result (λ b. IsOpened K.is_of K.keeps cache.now (load_over tree.now table.now env.now pack.now) b) }
     ensures counts { IfOk result (λ b. K.loads kit.new ≡ K.loads kit.old + digit b.loading.tried) }
@@ -112,8 +115,7 @@ pub(crate) fn begun_of<K: Kit>(
     ensures runs { K.runs kit.new ≡ K.runs kit.old }
     ensures circle { result ≡ Err Unloaded.Stuck → IsStuck (load_over tree.now table.now env.now pack.now) }
 {
-    let parts = parts_of(cache, tree, table, env, pack)?;
-    match cached(cache, 0, &parts) {
+    match cached(cache, 0, parts) {
         Some(outcome) => {
             let answer = read_answer(alloc, outcome)?;
             Ok(found(answer, trees))

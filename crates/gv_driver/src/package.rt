@@ -1,6 +1,7 @@
 //! The nodes of a package: its load, and its runs.
 ghost use Rattle.std.specs.Prelude.{◌≡◌, ◌+◌, ◌<◌, ◌≤◌, ◌^◌, ℕ, Err, IfOk, OnOk, OnErr, length};
 ghost use Rattle.action_graph.specs.Judging.{IsStuck};
+ghost use Rattle.action_graph.specs.Nodes.{load_texts};
 ghost use Rattle.gv_driver.specs.Analyzers.{AreAnalyzers, analyzers_of};
 ghost use Rattle.gv_driver.specs.Given.{givens, givens_from};
 ghost use Rattle.gv_driver.specs.Loads.{load_input};
@@ -14,11 +15,12 @@ use crate::analyzers::analyzers;
 use crate::answer::{export_of, is_accepted};
 use crate::loading::{begun_of, release};
 use crate::node::{Begun, Node};
+use crate::parts::parts_of;
 use crate::rows::{merged_row, row_of};
 use crate::runs::runs_for;
 use crate::tree::PackageTexts;
 use action_graph::{Kit, Trees, Unloaded};
-use fact_cache::Cache;
+use fact_cache::{Cache, Parts};
 use gv_base::Row;
 use std::alloc::Global;
 
@@ -39,12 +41,14 @@ fn with_runs<K: Kit>(
     env: &[u32],
     pack: &PackageTexts,
     numbers: &[u8],
+    texts: Parts<'_>,
     begun: Begun<K::Loaded>,
 ) -> Result<Node, Unloaded>
     requires loads { K.loads kit.old + 1 < 2 ^ 63 }
     requires runs { K.runs kit.old + length numbers.now < 2 ^ 63 }
     requires holds { K.holds kit.old }
     requires numbers { AreAnalyzers numbers.now }
+    requires texts { texts ≡ load_texts (load_over tree.now table.now env.now pack.now) }
     requires opened { IsOpened K.is_of K.keeps cache.now (load_over tree.now table.now env.now pack.now) begun }
     requires apart { AllApart (givens tree.now table.now env.now) }
     ensures holds { K.holds kit.new }
@@ -71,6 +75,7 @@ fn with_runs<K: Kit>(
         env,
         pack,
         numbers,
+        texts,
         &mut loading,
     )?;
     release(kit, loading);
@@ -83,7 +88,7 @@ fn with_runs<K: Kit>(
 }
 
 /// A package's nodes, over this environment: its load, and where it is accepted the runs of the analyzers that are chosen for it. The load is
-/// executed where it or one of the runs is missing. The row is still empty.
+/// executed where it or one of the runs is missing. The texts that all of them read are gone through once. The row is still empty.
 fn made_of<K: Kit>(
     alloc: Global,
     tree: &[PackageTexts],
@@ -108,8 +113,11 @@ fn made_of<K: Kit>(
     ensures circle { result ≡ Err Unloaded.Stuck → IsStuck (load_over tree.now table.now env.now pack.now) }
 {
     let numbers = analyzers(alloc, only, pack.stub)?;
-    let begun = begun_of(alloc, tree, cache, kit, table, env, pack, trees)?;
-    let node = with_runs(alloc, tree, cache, kit, table, env, pack, &numbers, begun)?;
+    let parts = parts_of(cache, tree, table, env, pack)?;
+    let begun = begun_of(alloc, tree, cache, kit, table, env, pack, &parts, trees)?;
+    let node = with_runs(
+        alloc, tree, cache, kit, table, env, pack, &numbers, parts, begun,
+    )?;
     Ok(node)
 }
 

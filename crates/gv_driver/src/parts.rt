@@ -125,19 +125,13 @@ pub(crate) fn parts_of<'a>(
     Ok(parts)
 }
 
-/// The texts of what the runs over a package read, up to the facts.
-pub(crate) fn run_parts<'a>(
-    cache: &Cache,
-    tree: &'a [PackageTexts],
-    table: &'a [Option<Node>],
-    env: &[u32],
-    pack: &'a PackageTexts,
-) -> Result<Parts<'a>, NoMemory>
-    ensures { IfOk result (λ parts. parts ≡ load_texts (load_over tree.now table.now env.now pack.now) ++ [] ∷ []) }
+/// The texts of what the runs over a package read, up to the facts, by those of what its load reads.
+pub(crate) fn run_parts<'a>(parts: Parts<'a>) -> Result<Parts<'a>, NoMemory>
+    ensures { IfOk result (λ more. more ≡ parts.entry ++ [] ∷ []) }
 {
-    let mut parts = parts_of(cache, tree, table, env, pack)?;
-    push_part(&mut parts, b"")?;
-    Ok(parts)
+    let mut more = parts;
+    push_part(&mut more, b"")?;
+    Ok(more)
 }
 
 /// These texts, and the path and the facts of each of these packages.

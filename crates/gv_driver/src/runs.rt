@@ -327,7 +327,7 @@ fn run_input_of(
     })
 }
 
-/// The runs of these analyzers over an accepted package, in turn; where there is none nothing is made for it.
+/// The runs of these analyzers over an accepted package, in turn, by the texts of what its load reads; where there is none nothing is made for it.
 pub(crate) fn runs_for<K: Kit>(
     alloc: Global,
     tree: &[PackageTexts],
@@ -337,12 +337,14 @@ pub(crate) fn runs_for<K: Kit>(
     env: &[u32],
     pack: &PackageTexts,
     numbers: &[u8],
+    texts: Parts<'_>,
     loading: &mut Loading<K::Loaded>,
 ) -> Result<Vec<RunNode>, Unloaded>
     requires loads { K.loads kit.old + 1 < 2 ^ 63 }
     requires runs { K.runs kit.old + length numbers.now < 2 ^ 63 }
     requires holds { K.holds kit.old }
     requires numbers { AreAnalyzers numbers.now }
+    requires texts { texts ≡ load_texts (load_over tree.now table.now env.now pack.now) }
     requires loading { IsLoading K.is_of K.keeps (load_over tree.now table.now env.now pack.now) loading.old }
     requires apart { AllApart (givens tree.now table.now env.now) }
     ensures holds { K.holds kit.new }
@@ -360,7 +362,7 @@ pub(crate) fn runs_for<K: Kit>(
         return Ok(Vec::new(alloc));
     }
     let mut run = run_input_of(alloc, tree, table, env, pack)?;
-    let parts = run_parts(cache, tree, table, env, pack)?;
+    let parts = run_parts(texts)?;
     let mut asked = Vec::new(alloc);
     let mut nodes = seek_all(
         alloc, tree, cache, table, env, numbers, &parts, &mut run, &mut asked,

@@ -15,6 +15,12 @@ returns-in_err-numbers-clause-begun g c =
     begun-none (givens c.args.tree.now c.args.table.now c.args.env.now) c.args.cache.now (load_over c.args.tree.now c.args.table.now c.args.env.now c.args.pack.now) (analyzers_of c.args.only c.args.pack.now.stub) (tally (g.K.Kit.loads c.args.kit.now) (g.K.Kit.runs c.args.kit.now)) in
     search (rules, h)
 
+pub returns-in_err-parts-clause-begun : goal.returns-in_err-parts-clause-begun
+returns-in_err-parts-clause-begun g c =
+    let h =
+    begun-none (givens c.args.tree.now c.args.table.now c.args.env.now) c.args.cache.now (load_over c.args.tree.now c.args.table.now c.args.env.now c.args.pack.now) (analyzers_of c.args.only c.args.pack.now.stub) (tally (g.K.Kit.loads c.args.kit.now) (g.K.Kit.runs c.args.kit.now)) in
+    search (rules, h)
+
 pub returns-in_err-begun-clause-begun : goal.returns-in_err-begun-clause-begun
 returns-in_err-begun-clause-begun g c =
     let h =

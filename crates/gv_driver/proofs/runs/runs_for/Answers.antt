@@ -26,7 +26,7 @@ returns-in_err-parts-clause-spends g c =
     (0, spends-none (givens c.args.tree.now c.args.table.now c.args.env.now) c.args.cache.now (load_over c.args.tree.now c.args.table.now c.args.env.now c.args.pack.now) c.args.numbers.now c.args.loading.now.tried (tally (g.K.Kit.loads c.args.kit.now) (g.K.Kit.runs c.args.kit.now)))
 
 pub seek_all-requires-clause-parts : goal.seek_all-requires-clause-parts
-seek_all-requires-clause-parts g c = c.in_ok-parts.ensures ∙ ap (λ (l : LoadInput). load_texts l ++ [] ∷ []) (sym c.in_ok-run.ensures)
+seek_all-requires-clause-parts g c = c.in_ok-parts.ensures ∙ ap (λ (l : List (List ℕ)). l ++ [] ∷ []) c.requires.texts ∙ ap (λ (l : LoadInput). load_texts l ++ [] ∷ []) (sym c.in_ok-run.ensures)
 
 pub returns-in_err-nodes-clause-spends : goal.returns-in_err-nodes-clause-spends
 returns-in_err-nodes-clause-spends g c =

@@ -1,56 +1,73 @@
-use Rattle.std.proofs.Common.{◌≡◌, ◌-◌, ◌∙◌, ◌<◌, ℕ, List, length, ap, refl, sym, subst}
-use Rattle.std.specs.Prelude.{reverse}
+use Rattle.std.proofs.Common.{◌≡◌, ◌-◌, ◌∙◌, ◌<◌, ℕ, List, [], Some, length, ap, refl, sym, subst}
+use Rattle.std.specs.Prelude.{IfNone}
 use Rattle.go_parse.specs.declared.parser.Turn.{Turn}
 use Rattle.go_tree.specs.Classes.{next}
-use Rattle.go_parse.specs.State.{State, Goes, Takes, Refuses, Holds, Leads}
-use Rattle.go_parse.specs.Machine.{state_of, outcome}
+use Rattle.go_parse.specs.State.{State, Goes, Takes, Refuses, Holds, Leads, turned}
+use Rattle.go_parse.specs.Machine.{state_of, outcome, topped}
 use Rattle.go_parse.proofs.Steps.{turns}
-use Rattle.go_parse.proofs.Advance.{before, on, fits, fits_heights, fits_kinds, shorter}
+use Rattle.go_parse.proofs.Advance.{stays, led, fits, fits_heights, fits_kinds, shorter}
 use Rattle.go_parse.proofs.parser.Parser.advance.Goals as goal
+
+pub loop-next-init : goal.loop-next-init
+loop-next-init c =
+    let h = c.requires.5 in
+    record {
+      holds = (c.requires.2, subst (λ s. Holds s c.requires.2) (sym c.follow-next.ensures.same) h);
+      leads = λ n xs q a. stays n xs (state_of c.args.self.now) (topped c.follow-next.result (state_of c.follow-next.new.self)) c.follow-next.ensures.same;
+      class = c.follow-next.ensures.class;
+      none = c.follow-next.ensures.none;
+    }
 
 pub turn-requires-clause-pending : goal.turn-requires-clause-pending
 turn-requires-clause-pending c =
-    let h = c.loop-item.invariant.holds in
-    let e = before c.loop-item.self.stack.items c.pop.new.self.items c.in-Some.item c.loop-item.self.nodes.items c.loop-item.self.pending.items c.loop-item.self.heights.items c.loop-item.self.kinds.items c.in-Some.ensures.items in
-    fits c.in-Some.item _ h.0 _ (subst (λ s. Holds s h.0) e h.1) refl
+    let h = c.loop-next.invariant.holds in
+    fits c.in-Some.item (state_of c.loop-next.self) h.0 _ (subst (λ o. Holds (topped o (state_of c.loop-next.self)) h.0) c.in-Some.is h.1) refl
 
 pub turn-requires-clause-heights : goal.turn-requires-clause-heights
 turn-requires-clause-heights c =
-    let h = c.loop-item.invariant.holds in
-    let e = before c.loop-item.self.stack.items c.pop.new.self.items c.in-Some.item c.loop-item.self.nodes.items c.loop-item.self.pending.items c.loop-item.self.heights.items c.loop-item.self.kinds.items c.in-Some.ensures.items in
-    fits_heights c.in-Some.item _ h.0 _ (subst (λ s. Holds s h.0) e h.1) refl
+    let h = c.loop-next.invariant.holds in
+    fits_heights c.in-Some.item (state_of c.loop-next.self) h.0 _ (subst (λ o. Holds (topped o (state_of c.loop-next.self)) h.0) c.in-Some.is h.1) refl
 
 pub turn-requires-clause-kinds : goal.turn-requires-clause-kinds
 turn-requires-clause-kinds c =
-    let h = c.loop-item.invariant.holds in
-    let e = before c.loop-item.self.stack.items c.pop.new.self.items c.in-Some.item c.loop-item.self.nodes.items c.loop-item.self.pending.items c.loop-item.self.heights.items c.loop-item.self.kinds.items c.in-Some.ensures.items in
-    fits_kinds c.in-Some.item _ h.0 _ (subst (λ s. Holds s h.0) e h.1) refl
+    let h = c.loop-next.invariant.holds in
+    fits_kinds c.in-Some.item (state_of c.loop-next.self) h.0 _ (subst (λ o. Holds (topped o (state_of c.loop-next.self)) h.0) c.in-Some.is h.1) refl
 
-pub loop-item-smaller : goal.loop-item-smaller
-loop-item-smaller c =
-    let e = before c.loop-item.self.stack.items c.pop.new.self.items c.in-Some.item c.loop-item.self.nodes.items c.loop-item.self.pending.items c.loop-item.self.heights.items c.loop-item.self.kinds.items c.in-Some.ensures.items in
-    let t = ap (λ (t : Turn). outcome t (state_of c.turn.new.self)) (sym c.in-Goes.is) ∙ c.in_ok-turn.ensures in
-    let l = shorter c.in-Some.item c.args.class c.args.at _ (state_of c.turn.new.self) t in
-    subst (λ k. turns (reverse c.turn.new.self.stack.items) < turns k) (sym (ap (λ (s : State). s.stack) e)) l
+pub loop-next-smaller : goal.loop-next-smaller
+loop-next-smaller c =
+    let t = ap (λ (t : Turn). outcome t (state_of c.turn.new.self)) (sym c.in-Goes.is) ∙ c.in_ok-above.ensures.led ∙ ap (λ k. turned c.in-Some.item k c.args.at (state_of c.loop-next.self)) c.loop-next.invariant.class in
+    let l = shorter c.in-Some.item c.args.class c.args.at (state_of c.loop-next.self) (topped c.in-Goes.above (state_of c.turn.new.self)) t in
+    let after : turns (topped c.follow-next-in-Goes.result (state_of c.follow-next-in-Goes.new.self)).stack ≡ turns (topped c.in-Goes.above (state_of c.turn.new.self)).stack = ap (λ (s : State). turns s.stack) c.follow-next-in-Goes.ensures.same in
+    let before : turns (topped c.loop-next.next (state_of c.loop-next.self)).stack ≡ turns (topped (Some c.in-Some.item) (state_of c.loop-next.self)).stack = ap (λ o. turns (topped o (state_of c.loop-next.self)).stack) c.in-Some.is in
+    subst (λ m. m < turns (topped c.loop-next.next (state_of c.loop-next.self)).stack) (sym after) (subst (λ m. turns (topped c.in-Goes.above (state_of c.turn.new.self)).stack < m) (sym before) l)
 
-pub loop-item-preserved : goal.loop-item-preserved
-loop-item-preserved c =
-    let e = before c.loop-item.self.stack.items c.pop.new.self.items c.in-Some.item c.loop-item.self.nodes.items c.loop-item.self.pending.items c.loop-item.self.heights.items c.loop-item.self.kinds.items c.in-Some.ensures.items in
-    let t = ap (λ (t : Turn). outcome t (state_of c.turn.new.self)) (sym c.in-Goes.is) ∙ c.in_ok-turn.ensures in
-    let leads : (n : ℕ) (xs : List ℕ) → next xs ≡ c.args.class → c.args.at ≡ n - length xs → Leads n xs (state_of c.args.self.now) (state_of c.turn.new.self) =
-    (λ n xs q a. on n xs c.args.class c.args.at c.in-Some.item (state_of c.args.self.now) (state_of c.loop-item.self) _ (Goes (state_of c.turn.new.self)) q a e (c.loop-item.invariant.leads n xs q a) t) in
+pub loop-next-preserved : goal.loop-next-preserved
+loop-next-preserved c =
+    let t = ap (λ (t : Turn). outcome t (state_of c.turn.new.self)) (sym c.in-Goes.is) ∙ c.in_ok-above.ensures.led ∙ ap (λ k. turned c.in-Some.item k c.args.at (state_of c.loop-next.self)) c.loop-next.invariant.class in
+    let leads : (n : ℕ) (xs : List ℕ) → next xs ≡ c.args.class → c.args.at ≡ n - length xs → Leads n xs (state_of c.args.self.now) (topped c.in-Goes.above (state_of c.turn.new.self)) =
+    (λ n xs q a. led n xs c.args.class c.args.at c.loop-next.next c.in-Some.item (state_of c.args.self.now) (state_of c.loop-next.self) (Goes (topped c.in-Goes.above (state_of c.turn.new.self))) q a c.in-Some.is (c.loop-next.invariant.leads n xs q a) t) in
     let r = c.requires in
     let l = leads r.0 r.1 r.3 r.4 r.2 r.5 in
-    record { holds = (l.g', l.holds); leads = leads }
+    let same = sym c.follow-next-in-Goes.ensures.same in
+    record {
+      holds = (l.g', subst (λ s. Holds s l.g') same l.holds);
+      leads = λ n xs q a. subst (λ s. Leads n xs (state_of c.args.self.now) s) same (leads n xs q a);
+      class = c.follow-next-in-Goes.ensures.class ∙ (c.turn.ensures.class ∙ c.loop-next.invariant.class);
+      none = c.follow-next-in-Goes.ensures.none;
+    }
 
 pub returns-in-Takes : goal.returns-in-Takes
 returns-in-Takes c =
-    let e = before c.loop-item.self.stack.items c.pop.new.self.items c.in-Some.item c.loop-item.self.nodes.items c.loop-item.self.pending.items c.loop-item.self.heights.items c.loop-item.self.kinds.items c.in-Some.ensures.items in
-    let t = ap (λ (t : Turn). outcome t (state_of c.turn.new.self)) (sym c.in-Takes.is) ∙ c.in_ok-turn.ensures in
-    λ n xs q a. on n xs c.args.class c.args.at c.in-Some.item (state_of c.args.self.now) (state_of c.loop-item.self) _ (Takes (state_of c.turn.new.self)) q a e (c.loop-item.invariant.leads n xs q a) t
+    let t = ap (λ (t : Turn). outcome t (state_of c.turn.new.self)) (sym c.in-Takes.is) ∙ c.in_ok-above.ensures.led ∙ ap (λ k. turned c.in-Some.item k c.args.at (state_of c.loop-next.self)) c.loop-next.invariant.class in
+    λ n xs q a. led n xs c.args.class c.args.at c.loop-next.next c.in-Some.item (state_of c.args.self.now) (state_of c.loop-next.self) (Takes (state_of c.turn.new.self)) q a c.in-Some.is (c.loop-next.invariant.leads n xs q a) t
 
 pub returns-in-Refuses : goal.returns-in-Refuses
 returns-in-Refuses c =
-    let e = before c.loop-item.self.stack.items c.pop.new.self.items c.in-Some.item c.loop-item.self.nodes.items c.loop-item.self.pending.items c.loop-item.self.heights.items c.loop-item.self.kinds.items c.in-Some.ensures.items in
-    let t = ap (λ (t : Turn). outcome t (state_of c.turn.new.self)) (sym c.in-Refuses.is) ∙ c.in_ok-turn.ensures in
-    λ n xs q a. on n xs c.args.class c.args.at c.in-Some.item (state_of c.args.self.now) (state_of c.loop-item.self) _ Refuses q a e (c.loop-item.invariant.leads n xs q a) t
+    let t = ap (λ (t : Turn). outcome t (state_of c.turn.new.self)) (sym c.in-Refuses.is) ∙ c.in_ok-above.ensures.led ∙ ap (λ k. turned c.in-Some.item k c.args.at (state_of c.loop-next.self)) c.loop-next.invariant.class in
+    λ n xs q a. led n xs c.args.class c.args.at c.loop-next.next c.in-Some.item (state_of c.args.self.now) (state_of c.loop-next.self) Refuses q a c.in-Some.is (c.loop-next.invariant.leads n xs q a) t
+
+pub returns : goal.returns
+returns c = λ n xs q a. (
+  subst (λ o. Leads n xs (state_of c.args.self.now) (topped o (state_of c.loop-next.self))) c.in_default.is (c.loop-next.invariant.leads n xs q a),
+  subst (λ o. IfNone o ((state_of c.loop-next.self).stack ≡ [])) c.in_default.is c.loop-next.invariant.none,
+)
