@@ -6,7 +6,6 @@ ghost use Rattle.file_uses.specs.Numbers.{name_in, found, IsNumbered, IsNumberin
 
 use go_tree::{FileTree, NodeKind, token_text};
 use gv_base::NoMemory;
-use scopes::{Form, role};
 use std::alloc::Global;
 use std::collections::HashMap;
 
@@ -17,12 +16,112 @@ pub struct Numbers {
     pub count: usize,
 }
 
+/// Whether a node of this kind is a name. It is asked of each node, and costs less than the role.
 fn is_name(kind: NodeKind) -> bool
     ensures { result ≡ is_name (form_of kind) }
 {
-    match role(kind).form {
-        Form::Name => true,
-        Form::Names | Form::Params | Form::Param | Form::Bind | Form::Other => false,
+    match kind {
+        NodeKind::Name => true,
+        NodeKind::Names
+        | NodeKind::Params
+        | NodeKind::Param
+        | NodeKind::SpreadParam
+        | NodeKind::Bind
+        | NodeKind::Block
+        | NodeKind::List
+        | NodeKind::If
+        | NodeKind::Switch
+        | NodeKind::Select
+        | NodeKind::For
+        | NodeKind::ForClause
+        | NodeKind::ForRange
+        | NodeKind::ForRangeAssign
+        | NodeKind::Case
+        | NodeKind::Comm
+        | NodeKind::TypeCase
+        | NodeKind::Default
+        | NodeKind::TypeSwitch
+        | NodeKind::ForRangeDefine
+        | NodeKind::FuncDecl
+        | NodeKind::MethodDecl
+        | NodeKind::FuncLit
+        | NodeKind::ConstNames
+        | NodeKind::ConstValues
+        | NodeKind::ConstTyped
+        | NodeKind::VarValues
+        | NodeKind::VarTyped
+        | NodeKind::VarTypedValues
+        | NodeKind::Define
+        | NodeKind::Defined
+        | NodeKind::Alias
+        | NodeKind::Package
+        | NodeKind::ImportNamed
+        | NodeKind::Field
+        | NodeKind::Method
+        | NodeKind::Label
+        | NodeKind::Break
+        | NodeKind::Continue
+        | NodeKind::Goto
+        | NodeKind::Import
+        | NodeKind::ImportGroup
+        | NodeKind::ImportPath
+        | NodeKind::ImportDot
+        | NodeKind::Const
+        | NodeKind::ConstGroup
+        | NodeKind::Exprs
+        | NodeKind::TypeDecl
+        | NodeKind::TypeGroup
+        | NodeKind::Var
+        | NodeKind::VarGroup
+        | NodeKind::Variadic
+        | NodeKind::Star
+        | NodeKind::FuncType
+        | NodeKind::StructType
+        | NodeKind::InterfaceType
+        | NodeKind::MapType
+        | NodeKind::Paren
+        | NodeKind::RecvChan
+        | NodeKind::Selector
+        | NodeKind::SliceType
+        | NodeKind::ArrayType
+        | NodeKind::SendChan
+        | NodeKind::ChanType
+        | NodeKind::EmbeddedPointer
+        | NodeKind::Embedded
+        | NodeKind::Value
+        | NodeKind::KeyValue
+        | NodeKind::Composite
+        | NodeKind::DotsType
+        | NodeKind::Go
+        | NodeKind::Defer
+        | NodeKind::Return
+        | NodeKind::Fallthrough
+        | NodeKind::Assign
+        | NodeKind::OpAssign
+        | NodeKind::Send
+        | NodeKind::Increment
+        | NodeKind::Decrement
+        | NodeKind::Post
+        | NodeKind::TypeList
+        | NodeKind::Condition
+        | NodeKind::Index
+        | NodeKind::SliceLow
+        | NodeKind::SliceLowHigh
+        | NodeKind::SliceLowHighMax
+        | NodeKind::SliceAll
+        | NodeKind::SliceHigh
+        | NodeKind::SliceHighMax
+        | NodeKind::Call
+        | NodeKind::CallSpread
+        | NodeKind::Int
+        | NodeKind::Float
+        | NodeKind::Imag
+        | NodeKind::Rune
+        | NodeKind::Text
+        | NodeKind::Unary
+        | NodeKind::Binary
+        | NodeKind::Assert
+        | NodeKind::TypeGuard => false,
     }
 }
 

@@ -1,10 +1,12 @@
 -- What nodes by number show.
-use Rattle.std.proofs.Common.{◌≡◌, ◌==◌, ℕ, zero, suc, ◌<◌, ◌+◌, ◌≤◌, Bool, true, false, cond, List, [], ◌∷◌, ◌++◌, length, take, get_or, slice_get, Option, Some, refl, sym, ap, ◌∙◌, subst, arith, append_assoc}
+use Rattle.std.proofs.Common.{◌≡◌, ◌==◌, ℕ, zero, suc, ◌<◌, ◌+◌, ◌≤◌, Bool, true, false, cond, List, [], ◌∷◌, ◌++◌, length, take, get_or, slice_get, Some, refl, sym, ap, ◌∙◌, subst, arith, append_assoc}
 use Rattle.std.specs.List.{All}
 use Rattle.std.proofs.lemmas.Option.{slice_get_within}
 use Rattle.std.proofs.lemmas.List.{take_more, append-nil}
 use Rattle.scopes.specs.declared.scope.Form.{Form}
 use Rattle.scopes.specs.declared.scope.Form.TheVariants as form
+use Rattle.scopes.specs.declared.scope.Declares.{Declares}
+use Rattle.scopes.specs.declared.scope.Declares.TheVariants as name
 use Rattle.scopes.specs.declared.scope.Named.{Named}
 use Rattle.scopes.specs.declared.scope.Role.{Role}
 use Rattle.go_tree.specs.declared.tree.Node.{Node}
@@ -193,21 +195,19 @@ abbrev scope_of : ℕ → List ℕ → List ℕ → Scope
 scope_of b w x = record { block = b; within = w; around = x }
 
 -- What the steps of a node add is what the tree declares.
-pub collected : (nodes : List Node) (from at : ℕ) (node : Node) (r : Role) (s : Scope) (inner : ℕ) (begun ended in_body in_clause : List ℕ) (o0 o1 o2 o3 o4 o5 : List Named)
+pub collected : (nodes : List Node) (from at : ℕ) (node : Node) (r : Role) (s : Scope) (inner : ℕ) (in_body in_clause : List ℕ) (o0 o1 o2 o3 o4 o5 : List Named)
     → slice_get nodes at ≡ Some node → r ≡ role node.kind → inner ≡ cond r.opens at s.block
     → o1 ≡ o0 ++ declare from s.block false (cond r.takes s.around [])
-    → ((m : ℕ) (f : Forest) → Shows nodes m node.parts f → begun ≡ before r.declares m f)
-    → o2 ≡ o1 ++ declare from s.block false begun
+    → ((m : ℕ) (f : Forest) → Shows nodes m node.parts f → o2 ≡ o1 ++ declare from s.block false (before r.declares m f))
     → o3 ≡ o2 ++ declare from inner false (cond r.takes s.within [])
     → ((m : ℕ) (f : Forest) → Shows nodes m node.parts f → in_body ≡ handed_within r.hands m f)
     → ((t : Scope) → t.around ≡ s.around → (m : ℕ) (f : Forest) → Shows nodes m node.parts f → in_clause ≡ handed_around r.hands t m f)
     → ((f : Forest) → Shows nodes from node.parts f → o4 ≡ o3 ++ declared (record { block = inner; within = in_body; around = in_clause }) from f)
-    → ((m : ℕ) (f : Forest) → Shows nodes m node.parts f → ended ≡ after r.declares m f)
-    → o5 ≡ o4 ++ declare (at + 1) s.block (is_soft r.declares) ended
+    → ((m : ℕ) (f : Forest) → Shows nodes m node.parts f → o5 ≡ o4 ++ declare (at + 1) s.block (is_soft r.declares) (after r.declares m f))
     → (f : Forest) → Shows nodes from (at ∷ []) f → o5 ≡ o0 ++ declared s from f
-collected nodes from at node r s inner begun ended in_body in_clause o0 o1 o2 o3 o4 o5 there is_role is_inner is_1 is_begun is_2 is_3 is_body is_clause is_4 is_ended is_5 Empty shows = absurd shows
-collected nodes from at node r s inner begun ended in_body in_clause o0 o1 o2 o3 o4 o5 there is_role is_inner is_1 is_begun is_2 is_3 is_body is_clause is_4 is_ended is_5 (Grow k a z ps (Grow k2 a2 z2 ps2 rest)) (other, same, kind, number, parts, others) = absurd others
-collected nodes from at node r s inner begun ended in_body in_clause o0 o1 o2 o3 o4 o5 there is_role is_inner is_1 is_begun is_2 is_3 is_body is_clause is_4 is_ended is_5 (Grow k a z ps Empty) (other, same, kind, number, parts, others) =
+collected nodes from at node r s inner in_body in_clause o0 o1 o2 o3 o4 o5 there is_role is_inner is_1 is_2 is_3 is_body is_clause is_4 is_5 Empty shows = absurd shows
+collected nodes from at node r s inner in_body in_clause o0 o1 o2 o3 o4 o5 there is_role is_inner is_1 is_2 is_3 is_body is_clause is_4 is_5 (Grow k a z ps (Grow k2 a2 z2 ps2 rest)) (other, same, kind, number, parts, others) = absurd others
+collected nodes from at node r s inner in_body in_clause o0 o1 o2 o3 o4 o5 there is_role is_inner is_1 is_2 is_3 is_body is_clause is_4 is_5 (Grow k a z ps Empty) (other, same, kind, number, parts, others) =
     let it : other ≡ node = same_some (slice_get nodes at) other node same there in
     let k_is : node.kind ≡ k = ap (λ (x : Node). x.kind) (sym it) ∙ kind in
     let shown : Shows nodes from node.parts ps = subst (λ (x : Node). Shows nodes from x.parts ps) it parts in
@@ -215,22 +215,58 @@ collected nodes from at node r s inner begun ended in_body in_clause o0 o1 o2 o3
     let block_is : inner ≡ cond (role k).opens (from + size ps) s.block = is_inner ∙ (ap (λ (x : Role). cond x.opens at s.block) r_is ∙ ap (λ x. cond (role k).opens x s.block) number) in
     let body_is : in_body ≡ handed_within (role k).hands from ps = is_body from ps shown ∙ ap (λ (x : Role). handed_within x.hands from ps) r_is in
     let clause_is : in_clause ≡ handed_around (role k).hands s from ps = is_clause s refl from ps shown ∙ ap (λ (x : Role). handed_around x.hands s from ps) r_is in
-    let begun_is : begun ≡ before (role k).declares from ps = is_begun from ps shown ∙ ap (λ (x : Role). before x.declares from ps) r_is in
-    let ended_is : ended ≡ after (role k).declares from ps = is_ended from ps shown ∙ ap (λ (x : Role). after x.declares from ps) r_is in
     let end_is : at + 1 ≡ from + suc (size ps) = next_to from at (size ps) number in
     let scope_is : scope_of inner in_body in_clause ≡ inside s k from ps = same_scope _ _ _ _ _ _ block_is body_is clause_is in
     glue o0 o1 o2 o3 o4 o5 _ _ _ _ _
     (is_1 ∙ ap (λ (x : Role). o0 ++ declare from s.block false (cond x.takes s.around [])) r_is)
-    (is_2 ∙ ap (λ x. o1 ++ declare from s.block false x) begun_is)
+    (is_2 from ps shown ∙ ap (λ (x : Role). o1 ++ declare from s.block false (before x.declares from ps)) r_is)
     (is_3 ∙ (ap (λ x. o2 ++ declare from x false (cond r.takes s.within [])) block_is ∙ ap (λ (x : Role). o2 ++ declare from (inside s k from ps).block false (cond x.takes s.within [])) r_is))
     (is_4 ps shown ∙ ap (λ (x : Scope). o3 ++ declared x from ps) scope_is)
-    (is_5 ∙ (ap (λ x. o4 ++ declare x s.block (is_soft r.declares) ended) end_is
-    ∙ (ap (λ (x : Role). o4 ++ declare (from + suc (size ps)) s.block (is_soft x.declares) ended) r_is ∙ ap (λ x. o4 ++ declare (from + suc (size ps)) s.block (is_soft (role k).declares) x) ended_is))) where
+    (is_5 from ps shown ∙ (ap (λ x. o4 ++ declare x s.block (is_soft r.declares) (after r.declares from ps)) end_is
+    ∙ ap (λ (x : Role). o4 ++ declare (from + suc (size ps)) s.block (is_soft x.declares) (after x.declares from ps)) r_is)) where
       next_to : (from at n : ℕ) → at ≡ from + n → at + 1 ≡ from + suc n
       next_to from at n e = omega arith
 
       same_scope : (b c : ℕ) (w v x y : List ℕ) → b ≡ c → w ≡ v → x ≡ y → scope_of b w x ≡ scope_of c v y
       same_scope b c w v x y e f g = ap (λ n. scope_of n w x) e ∙ (ap (λ l. scope_of c l x) f ∙ ap (λ l. scope_of c v l) g)
+
+-- A node without parts that takes no names declares nothing.
+bare_before : (d : Declares) (m : ℕ) → before d m Empty ≡ []
+bare_before name.Nothing m = refl
+bare_before name.Before m = refl
+bare_before name.After m = refl
+bare_before name.Assigns m = refl
+
+bare_after : (d : Declares) (m : ℕ) → after d m Empty ≡ []
+bare_after name.Nothing m = refl
+bare_after name.Before m = refl
+bare_after name.After m = refl
+bare_after name.Assigns m = refl
+
+shows_no_more : (nodes : List Node) (m : ℕ) (parts : List ℕ) (k : NodeKind) (a z : ℕ) (ps rest : Forest) → length parts ≡ 0 → Shows nodes m parts (Grow k a z ps rest) → ⊥
+shows_no_more nodes m [] k a z ps rest none shows = shows
+shows_no_more nodes m (x ∷ xs) k a z ps rest none shows = omega arith
+
+adds_none : (out d : List Named) → d ≡ [] → out ≡ out ++ d
+adds_none out d e = sym (ap (λ x. out ++ x) e ∙ append-nil out)
+
+pub bare : (nodes : List Node) (from at : ℕ) (node : Node) (r : Role) (s : Scope) (out : List Named) → slice_get nodes at ≡ Some node → r ≡ role node.kind → r.takes ≡ false
+    → length node.parts ≡ 0 → (f : Forest) → Shows nodes from (at ∷ []) f → out ≡ out ++ declared s from f
+bare nodes from at node r s out there is_role leaves none Empty shows = absurd shows
+bare nodes from at node r s out there is_role leaves none (Grow k a z ps (Grow k2 a2 z2 ps2 rest)) (other, same, kind, number, parts, others) = absurd others
+bare nodes from at node r s out there is_role leaves none (Grow k a z (Grow k2 a2 z2 ps2 rest) Empty) (other, same, kind, number, parts, others) =
+    let it : other ≡ node = same_some (slice_get nodes at) other node same there in
+    absurd (shows_no_more nodes from node.parts k2 a2 z2 ps2 rest none (subst (λ (x : Node). Shows nodes from x.parts (Grow k2 a2 z2 ps2 rest)) it parts))
+bare nodes from at node r s out there is_role leaves none (Grow k a z Empty Empty) (other, same, kind, number, parts, others) =
+    let it : other ≡ node = same_some (slice_get nodes at) other node same there in
+    let k_is : node.kind ≡ k = ap (λ (x : Node). x.kind) (sym it) ∙ kind in
+    let takes_is : (role k).takes ≡ false = sym (ap (λ (x : Role). x.takes) (is_role ∙ ap role k_is)) ∙ leaves in
+    glue out out out out out out _ _ _ _ _
+    (adds_none out _ (ap (λ b. declare from s.block false (cond b s.around [])) takes_is))
+    (adds_none out _ (ap (λ names. declare from s.block false names) (bare_before (role k).declares from)))
+    (adds_none out _ (ap (λ b. declare from (inside s k from Empty).block false (cond b s.within [])) takes_is))
+    (adds_none out (declared (inside s k from Empty) from Empty) refl)
+    (adds_none out _ (ap (λ names. declare (from + 1) s.block (is_soft (role k).declares) names) (bare_after (role k).declares from)))
 
 -- ---- the loop over the parts of a node: the parts so far, and where the next one's nodes begin
 

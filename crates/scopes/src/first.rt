@@ -11,8 +11,8 @@ use std::collections::HashSet;
 pub fn first_in_block(alloc: Global, declarations: &[Declaration]) -> Result<Vec<bool>, NoMemory>
     ensures { IfOk result (λ first. IsFlags declarations.now first.items) }
 {
-    let mut seen: HashSet<(usize, usize)> = HashSet::new(alloc);
-    let mut first = Vec::new(alloc);
+    let mut seen: HashSet<(usize, usize)> = HashSet::with_capacity(alloc, declarations.len())?;
+    let mut first = Vec::with_capacity(alloc, declarations.len())?;
     for declaration in declarations {
         let added = seen.insert((declaration.end, declaration.name))?;
         first.push(added)?;

@@ -1,6 +1,7 @@
 //! Which declaration a use denotes.
 #![tactic(auto)]
 
+mod declare;
 mod first;
 mod laws;
 mod roles;

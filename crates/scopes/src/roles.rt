@@ -183,3 +183,111 @@ pub fn role(kind: NodeKind) -> Role
         | NodeKind::TypeGuard => PLAIN,
     }
 }
+
+/// Whether a node of this kind begins with the names that are handed to it. It is asked of each node, and costs less than the whole role.
+pub fn takes(kind: NodeKind) -> bool
+    ensures { result ≡ (role kind).takes }
+{
+    match kind {
+        NodeKind::Block | NodeKind::List => true,
+        NodeKind::Name
+        | NodeKind::Names
+        | NodeKind::Params
+        | NodeKind::Param
+        | NodeKind::SpreadParam
+        | NodeKind::Bind
+        | NodeKind::If
+        | NodeKind::Switch
+        | NodeKind::Select
+        | NodeKind::For
+        | NodeKind::ForClause
+        | NodeKind::ForRange
+        | NodeKind::ForRangeAssign
+        | NodeKind::Case
+        | NodeKind::Comm
+        | NodeKind::TypeCase
+        | NodeKind::Default
+        | NodeKind::TypeSwitch
+        | NodeKind::ForRangeDefine
+        | NodeKind::FuncDecl
+        | NodeKind::MethodDecl
+        | NodeKind::FuncLit
+        | NodeKind::ConstNames
+        | NodeKind::ConstValues
+        | NodeKind::ConstTyped
+        | NodeKind::VarValues
+        | NodeKind::VarTyped
+        | NodeKind::VarTypedValues
+        | NodeKind::Define
+        | NodeKind::Defined
+        | NodeKind::Alias
+        | NodeKind::Package
+        | NodeKind::ImportNamed
+        | NodeKind::Field
+        | NodeKind::Method
+        | NodeKind::Label
+        | NodeKind::Break
+        | NodeKind::Continue
+        | NodeKind::Goto
+        | NodeKind::Import
+        | NodeKind::ImportGroup
+        | NodeKind::ImportPath
+        | NodeKind::ImportDot
+        | NodeKind::Const
+        | NodeKind::ConstGroup
+        | NodeKind::Exprs
+        | NodeKind::TypeDecl
+        | NodeKind::TypeGroup
+        | NodeKind::Var
+        | NodeKind::VarGroup
+        | NodeKind::Variadic
+        | NodeKind::Star
+        | NodeKind::FuncType
+        | NodeKind::StructType
+        | NodeKind::InterfaceType
+        | NodeKind::MapType
+        | NodeKind::Paren
+        | NodeKind::RecvChan
+        | NodeKind::Selector
+        | NodeKind::SliceType
+        | NodeKind::ArrayType
+        | NodeKind::SendChan
+        | NodeKind::ChanType
+        | NodeKind::EmbeddedPointer
+        | NodeKind::Embedded
+        | NodeKind::Value
+        | NodeKind::KeyValue
+        | NodeKind::Composite
+        | NodeKind::DotsType
+        | NodeKind::Go
+        | NodeKind::Defer
+        | NodeKind::Return
+        | NodeKind::Fallthrough
+        | NodeKind::Assign
+        | NodeKind::OpAssign
+        | NodeKind::Send
+        | NodeKind::Increment
+        | NodeKind::Decrement
+        | NodeKind::Post
+        | NodeKind::TypeList
+        | NodeKind::Condition
+        | NodeKind::Index
+        | NodeKind::SliceLow
+        | NodeKind::SliceLowHigh
+        | NodeKind::SliceLowHighMax
+        | NodeKind::SliceAll
+        | NodeKind::SliceHigh
+        | NodeKind::SliceHighMax
+        | NodeKind::Call
+        | NodeKind::CallSpread
+        | NodeKind::Int
+        | NodeKind::Float
+        | NodeKind::Imag
+        | NodeKind::Rune
+        | NodeKind::Text
+        | NodeKind::Unary
+        | NodeKind::Binary
+        | NodeKind::Assert
+        | NodeKind::TypeGuard => false,
+    }
+}

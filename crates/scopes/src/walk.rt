@@ -1,14 +1,16 @@
 //! The names that a file's trees declare.
-ghost use Rattle.std.specs.Prelude.{◌≡◌, ℕ, ◌+◌, ◌<◌, ◌≤◌, ◌^◌, ◌++◌, ◌∷◌, [], length, IfOk, OnOk, slice_get, Some, cond, false};
+ghost use Rattle.std.specs.Prelude.{◌≡◌, ℕ, ◌+◌, ◌<◌, ◌≤◌, ◌^◌, ◌++◌, ◌∷◌, [], length, IfOk, OnOk, slice_get, Some, cond, true, false};
 ghost use Rattle.std.specs.List.{All};
 ghost use Rattle.go_tree.specs.Forest.{Forest};
-ghost use Rattle.scopes.specs.Regions.{Scope, declared, declare, form_of, is_name, is_names, is_params, leaf_names, first_names, names_of, parameters, handed_within, handed_around, before, after, is_soft};
+ghost use Rattle.scopes.specs.Regions.{Scope, declared, form_of, is_name, is_names, is_params, leaf_names, first_names, names_of, parameters, handed_within, handed_around};
 ghost use Rattle.go_tree.specs.declared.tree.Node.{Node};
+ghost use Rattle.scopes.specs.Roles.{role};
 ghost use Rattle.scopes.specs.Walk.{Shows, IsFormed, has_names};
 
-use crate::roles::role;
-use crate::scope::{Declares, Form, Handed, Named};
-use go_tree::Node;
+use crate::declare::{declare_after, declare_before, push_taken};
+use crate::roles::{role, takes};
+use crate::scope::{Form, Handed, Named};
+use go_tree::{Node, NodeKind};
 use gv_base::NoMemory;
 use std::alloc::Global;
 
@@ -102,7 +104,7 @@ fn push_list(nodes: &[Node], at: usize, names: &mut Vec<usize>) -> Result<(), No
 }
 
 /// Adds the names that the first of these nodes is.
-fn push_first(nodes: &[Node], parts: &[u32], names: &mut Vec<usize>) -> Result<(), NoMemory>
+pub fn push_first(nodes: &[Node], parts: &[u32], names: &mut Vec<usize>) -> Result<(), NoMemory>
     requires formed { IsFormed nodes.now }
     requires parts { All (λ k. k < length nodes.now) parts.now }
     ensures { OnOk result ((m : ℕ) (f : Forest) → Shows nodes.now m parts.now f → names.new.items ≡ names.old.items ++ first_names m f) }
@@ -180,154 +182,60 @@ fn push_all_parameters(
     Ok(())
 }
 
-/// The names that a node with these parts hands to the block of a body.
-fn given_within(
-    alloc: Global,
+/// Adds the names that a node with these parts hands to the block of a body.
+fn push_within(
     nodes: &[Node],
     hands: Handed,
     parts: &[u32],
-) -> Result<Vec<usize>, NoMemory>
+    names: &mut Vec<usize>,
+) -> Result<(), NoMemory>
     requires formed { IsFormed nodes.now }
     requires parts { All (λ k. k < length nodes.now) parts.now }
-    ensures { IfOk result (λ names. (m : ℕ) (f : Forest) → Shows nodes.now m parts.now f → names.items ≡ handed_within hands m f) }
+    ensures { OnOk result ((m : ℕ) (f : Forest) → Shows nodes.now m parts.now f → names.new.items ≡ names.old.items ++ handed_within hands m f) }
 {
-    let mut names = Vec::new(alloc);
     match hands {
         Handed::Parameters => {
-            push_all_parameters(nodes, parts, &mut names)?;
-            Ok(names)
+            push_all_parameters(nodes, parts, names)?;
+            Ok(())
         }
-        Handed::Nothing | Handed::Range | Handed::Switch | Handed::Passed => Ok(names),
+        Handed::Nothing | Handed::Range | Handed::Switch | Handed::Passed => Ok(()),
     }
 }
 
-fn copied(alloc: Global, names: &[usize]) -> Result<Vec<usize>, NoMemory>
-    ensures { IfOk result (λ copy. copy.items ≡ names.now) }
+fn push_copies(copied: &[usize], names: &mut Vec<usize>) -> Result<(), NoMemory>
+    ensures { OnOk result (names.new.items ≡ names.old.items ++ copied.now) }
 {
-    let copy = names.to_vec(alloc)?;
-    Ok(copy)
+    names.extend_from_slice(copied)?;
+    Ok(())
 }
 
-/// The names that it hands to its own block, or to those of its clauses, where such were handed to it.
-fn given_around(
-    alloc: Global,
+/// Adds the names that it hands to its own block, or to those of its clauses, where such were handed to it.
+fn push_around(
     nodes: &[Node],
     hands: Handed,
     around: &[usize],
     parts: &[u32],
-) -> Result<Vec<usize>, NoMemory>
+    names: &mut Vec<usize>,
+) -> Result<(), NoMemory>
     requires formed { IsFormed nodes.now }
     requires parts { All (λ k. k < length nodes.now) parts.now }
-    ensures { IfOk result (λ names. (s : Scope) → s.around ≡ around.now → (m : ℕ) (f : Forest) → Shows nodes.now m parts.now f → names.items ≡ handed_around hands s m f) }
+    ensures { OnOk result ((s : Scope) → s.around ≡ around.now → (m : ℕ) (f : Forest) → Shows nodes.now m parts.now f → names.new.items ≡ names.old.items ++ handed_around hands s m f) }
 {
-    let mut names = Vec::new(alloc);
     match hands {
         Handed::Range => {
-            push_first(nodes, parts, &mut names)?;
-            Ok(names)
+            push_first(nodes, parts, names)?;
+            Ok(())
         }
         Handed::Switch => {
-            push_all_names_of(nodes, true, parts, &mut names)?;
-            Ok(names)
+            push_all_names_of(nodes, true, parts, names)?;
+            Ok(())
         }
         Handed::Passed => {
-            let copy = copied(alloc, around)?;
-            Ok(copy)
+            push_copies(around, names)?;
+            Ok(())
         }
-        Handed::Nothing | Handed::Parameters => Ok(names),
+        Handed::Nothing | Handed::Parameters => Ok(()),
     }
-}
-
-/// The names that a node declares as it begins.
-fn names_before(
-    alloc: Global,
-    nodes: &[Node],
-    declares: Declares,
-    parts: &[u32],
-) -> Result<Vec<usize>, NoMemory>
-    requires formed { IsFormed nodes.now }
-    requires parts { All (λ k. k < length nodes.now) parts.now }
-    ensures { IfOk result (λ names. (m : ℕ) (f : Forest) → Shows nodes.now m parts.now f → names.items ≡ before declares m f) }
-{
-    let mut names = Vec::new(alloc);
-    match declares {
-        Declares::Before => {
-            push_first(nodes, parts, &mut names)?;
-            Ok(names)
-        }
-        Declares::Nothing | Declares::After | Declares::Assigns => Ok(names),
-    }
-}
-
-/// The names that it declares as it ends.
-fn names_after(
-    alloc: Global,
-    nodes: &[Node],
-    declares: Declares,
-    parts: &[u32],
-) -> Result<Vec<usize>, NoMemory>
-    requires formed { IsFormed nodes.now }
-    requires parts { All (λ k. k < length nodes.now) parts.now }
-    ensures { IfOk result (λ names. (m : ℕ) (f : Forest) → Shows nodes.now m parts.now f → names.items ≡ after declares m f) }
-{
-    let mut names = Vec::new(alloc);
-    match declares {
-        Declares::After => {
-            push_first(nodes, parts, &mut names)?;
-            Ok(names)
-        }
-        Declares::Assigns => {
-            push_first(nodes, parts, &mut names)?;
-            Ok(names)
-        }
-        Declares::Nothing | Declares::Before => Ok(names),
-    }
-}
-
-fn is_soft(declares: Declares) -> bool
-    ensures { result ≡ is_soft declares }
-{
-    match declares {
-        Declares::Assigns => true,
-        Declares::Nothing | Declares::Before | Declares::After => false,
-    }
-}
-
-/// Adds a declaration of each name.
-fn push_declared(
-    names: &[usize],
-    start: usize,
-    block: usize,
-    soft: bool,
-    out: &mut Vec<Named>,
-) -> Result<(), NoMemory>
-    ensures { OnOk result (out.new.items ≡ out.old.items ++ declare start block soft names.now) }
-{
-    for name in names {
-        out.push(Named {
-            node: *name,
-            start,
-            end: block,
-            soft,
-        })?;
-    }
-    Ok(())
-}
-
-/// Adds a declaration of each name that is handed to a node, where it takes them.
-fn push_taken(
-    takes: bool,
-    names: &[usize],
-    start: usize,
-    block: usize,
-    out: &mut Vec<Named>,
-) -> Result<(), NoMemory>
-    ensures { OnOk result (out.new.items ≡ out.old.items ++ declare start block false (cond takes names.now [])) }
-{
-    if takes {
-        push_declared(names, start, block, false, out)?;
-    }
-    Ok(())
 }
 
 /// The block of what is declared among the parts of a node.
@@ -335,6 +243,17 @@ fn block_of(opens: bool, at: usize, block: usize) -> usize
     ensures { result ≡ cond opens at block }
 {
     if opens { at } else { block }
+}
+
+/// Whether a node declares nothing, since it has no parts and takes no names.
+fn is_bare(kind: NodeKind, parts: &[u32]) -> bool
+    ensures takes { result ≡ true → (role kind).takes ≡ false }
+    ensures parts { result ≡ true → length parts.now ≡ 0 }
+{
+    if parts.is_empty() {
+        return !takes(kind);
+    }
+    false
 }
 
 /// Adds what the tree declares that ends at a node and begins at another, in this block, where these names are
@@ -355,15 +274,19 @@ pub fn collect(
     ensures { OnOk result ((f : Forest) → Shows nodes.now from (at ∷ []) f → out.new.items ≡ out.old.items ++ declared (record { block = block; within = within.now; around = around.now }) from f) }
 {
     let node = &nodes[at];
-    let role = role(node.kind);
     let parts = node.parts.as_slice();
+    if is_bare(node.kind, parts) {
+        return Ok(());
+    }
+    let role = role(node.kind);
     let inner = block_of(role.opens, at, block);
     push_taken(role.takes, around, from, block, out)?;
-    let begun = names_before(alloc, nodes, role.declares, parts)?;
-    push_declared(&begun, from, block, false, out)?;
+    declare_before(alloc, nodes, role.declares, parts, from, block, out)?;
     push_taken(role.takes, within, from, inner, out)?;
-    let handed_within = given_within(alloc, nodes, role.hands, parts)?;
-    let handed_around = given_around(alloc, nodes, role.hands, around, parts)?;
+    let mut handed_within = Vec::new(alloc);
+    push_within(nodes, role.hands, parts, &mut handed_within)?;
+    let mut handed_around = Vec::new(alloc);
+    push_around(nodes, role.hands, around, parts, &mut handed_around)?;
     let mut next = from;
     for part in parts {
         let top = *part as usize;
@@ -379,7 +302,6 @@ pub fn collect(
         )?;
         next = top + 1;
     }
-    let ended = names_after(alloc, nodes, role.declares, parts)?;
-    push_declared(&ended, at + 1, block, is_soft(role.declares), out)?;
+    declare_after(alloc, nodes, role.declares, parts, at + 1, block, out)?;
     Ok(())
 }

@@ -3,3 +3,4 @@ pub mod ValueLemmas
 pub mod SweepLemmas
 pub mod ShadowLemmas
 pub mod ReturnLemmas
+pub mod EarlyLemmas

@@ -3,3 +3,4 @@ pub mod Stages
 pub mod Shadows
 pub mod Tables
 pub mod InCode
+pub mod Early

@@ -1,6 +1,8 @@
 //! Which `return`s without values stand where a result's name denotes something else.
 #![tactic(auto)]
 
+mod bare;
+mod early;
 mod functions;
 mod regions;
 mod results;

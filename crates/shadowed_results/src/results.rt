@@ -36,7 +36,7 @@ fn is_params(form: Form) -> bool
     }
 }
 
-fn is_param(form: Form) -> bool
+pub(crate) fn is_param(form: Form) -> bool
     ensures { result ≡ is_param form }
 {
     match form {
@@ -54,7 +54,7 @@ fn is_names(form: Form) -> bool
     }
 }
 
-fn bare_parts(kind: NodeKind) -> usize
+pub(crate) fn bare_parts(kind: NodeKind) -> usize
     ensures { result ≡ bare_parts kind }
 {
     match kind {

@@ -1,54 +1,26 @@
 //! Which `return`s without values stand where a result is shadowed.
-ghost use Rattle.std.specs.Prelude.{◌≡◌, ◌<◌, ◌≤◌, ◌+◌, ◌^◌, ◌&&◌, ℕ, Bool, IfOk, is_some, length, map, get_or, None};
+ghost use Rattle.std.specs.Prelude.{◌≡◌, ◌<◌, ◌≤◌, ◌+◌, ◌^◌, ◌&&◌, ℕ, Bool, IfOk, is_some, length, map, get_or, replicate, false, None};
 ghost use Rattle.go_tree.specs.Pieces.{Spelled};
 ghost use Rattle.node_values.specs.Parents.{AreParents};
 ghost use Rattle.scopes.specs.Denotes.{IsLaid, IsFlags, HasNames, AreAnswered};
 ghost use Rattle.file_uses.specs.Locals.{AreAnsweredBy};
 ghost use Rattle.file_uses.specs.Numbers.{number};
-ghost use Rattle.shadowed_results.specs.Kinds.{is_return, is_nil, is_bare, is_bare_at};
+ghost use Rattle.shadowed_results.specs.Kinds.{is_bare_at};
 ghost use Rattle.shadowed_results.specs.Shadows.{AreShadowed};
 ghost use Rattle.shadowed_results.specs.InCode.{is_flagged, AreValues};
 
+use crate::bare::is_bare_at;
+use crate::early::any_may_shadow;
 use crate::functions::{functions_of, number_at};
 use crate::regions::{declared_names, turn_all};
 use crate::results::stages_of;
 use crate::table::{count_nodes, results_of};
 use crate::uses::{all_uses, numbers_of};
-use go_tree::{FileTree, Node, NodeKind};
+use go_tree::FileTree;
 use gv_base::NoMemory;
 use node_values::{parents_of, spelled_nodes};
 use scopes::{Declaration, denoted, first_in_block};
 use std::alloc::Global;
-
-fn is_return(kind: NodeKind) -> bool
-    ensures { result ≡ is_return kind }
-{
-    matches!(kind, NodeKind::Return)
-}
-
-fn is_nil(parts: &[u32]) -> bool
-    ensures { result ≡ is_nil parts.now }
-{
-    parts.is_empty()
-}
-
-fn is_bare(node: &Node) -> bool
-    ensures { result ≡ is_bare node.now }
-{
-    if is_return(node.kind) {
-        return is_nil(node.parts.as_slice());
-    }
-    false
-}
-
-fn is_bare_at(nodes: &[Node], n: usize) -> bool
-    ensures { result ≡ is_bare_at nodes.now n }
-{
-    match nodes.get(n) {
-        Some(node) => is_bare(node),
-        None => false,
-    }
-}
 
 fn has_answer(answers: &[Option<usize>], n: usize) -> bool
     ensures { result ≡ is_some (get_or answers.now n None) }
@@ -107,8 +79,16 @@ fn node_parents(alloc: Global, tree: &FileTree) -> Result<Vec<usize>, NoMemory>
     Ok(parents)
 }
 
-/// Which nodes of a file are `return`s without values where a result of their function is shadowed.
-pub fn shadowed_returns(alloc: Global, bytes: &[u8], tree: &FileTree) -> Result<Vec<bool>, NoMemory>
+/// As many flags as nodes, none of them set.
+fn no_flags(alloc: Global, tree: &FileTree) -> Result<Vec<bool>, NoMemory>
+    ensures { IfOk result (λ flags. flags.items ≡ replicate (length tree.now.nodes) false) }
+{
+    let flags = vec![in alloc; false; count_nodes(tree)]?;
+    Ok(flags)
+}
+
+/// Which nodes of a file are `return`s without values where a result of their function is shadowed, by the names that the file declares.
+fn swept_returns(alloc: Global, bytes: &[u8], tree: &FileTree) -> Result<Vec<bool>, NoMemory>
     requires spelled { Spelled tree.now.tokens bytes.now tree.now }
     requires fit { length tree.now.nodes ≤ 2 ^ 32 }
     ensures { IfOk result (λ flags. AreShadowed bytes.now tree.now flags.items) }
@@ -125,5 +105,20 @@ pub fn shadowed_returns(alloc: Global, bytes: &[u8], tree: &FileTree) -> Result<
     let numbers = numbers_of(alloc, &functions, total)?;
     let answers = answers_of(alloc, &declarations, &numbers, total + 1)?;
     let flags = flags_of(alloc, tree, &answers)?;
+    Ok(flags)
+}
+
+/// Which nodes of a file are `return`s without values where a result of their function is shadowed.
+pub fn shadowed_returns(alloc: Global, bytes: &[u8], tree: &FileTree) -> Result<Vec<bool>, NoMemory>
+    requires spelled { Spelled tree.now.tokens bytes.now tree.now }
+    requires fit { length tree.now.nodes ≤ 2 ^ 32 }
+    ensures { IfOk result (λ flags. AreShadowed bytes.now tree.now flags.items) }
+{
+    spelled_nodes(tree, bytes);
+    if !any_may_shadow(tree.nodes.as_slice()) {
+        let none = no_flags(alloc, tree)?;
+        return Ok(none);
+    }
+    let flags = swept_returns(alloc, bytes, tree)?;
     Ok(flags)
 }

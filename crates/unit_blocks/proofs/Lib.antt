@@ -1,3 +1,4 @@
 pub mod BlockLemmas
+pub mod FewLemmas
 pub mod NameLemmas
 pub mod OneLemmas

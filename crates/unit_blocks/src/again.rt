@@ -1,5 +1,5 @@
 //! Which names are declared before in their block.
-ghost use Rattle.std.specs.Prelude.{◌≡◌, ◌++◌, ◌≤◌, ◌^◌, length, slice_get, IfOk, OnOk};
+ghost use Rattle.std.specs.Prelude.{◌≡◌, ◌++◌, ◌≤◌, ◌^◌, length, nat_lt, slice_get, IfOk, OnOk};
 ghost use Rattle.go_tree.specs.declared.tree.NodeRef.{NodeRef};
 ghost use Rattle.object_order.specs.Views.{group_in};
 ghost use Rattle.package_objects.specs.Declares.{gather, AreSmall};
@@ -103,6 +103,13 @@ fn add_named(
     Ok(())
 }
 
+/// Whether there are fewer than two, so that no one has an earlier one.
+fn is_few(nodes: &[NodeRef]) -> bool
+    ensures { result ≡ nat_lt (length nodes.now) 2 }
+{
+    nodes.len() < 2
+}
+
 /// Adds those of a group that are declared and that an earlier one has.
 fn add_group(
     alloc: Global,
@@ -114,7 +121,11 @@ fn add_group(
     requires { IsRead s.now }
     ensures { OnOk result (out.new.items ≡ out.old.items ++ again_at (unit_of s.now) groups.now n) }
 {
-    add_named(alloc, s, group(groups, n), out)?;
+    let nodes = group(groups, n);
+    if is_few(nodes) {
+        return Ok(());
+    }
+    add_named(alloc, s, nodes, out)?;
     Ok(())
 }
 

@@ -54,3 +54,13 @@ put_at None false p = None
 pub record Puts (old new : List (Option Place)) (s : Standing) : Type 0 where
   pub size : length new ≡ length old
   pub each : (n : ℕ) → n < length old → slice_index_or new n None ≡ put_at (slice_index_or old n None) (s.node == n) s.place
+
+-- what was there stays, and else this comes
+abbrev pub first_of : {X : Type 0} → Option X → Option X → Option X
+first_of (Some old) o = Some old
+first_of None o = o
+
+-- each place of a list stands in the row of its node, unless one stood there
+pub record PutsAll (old new : List (Option Place)) (list : List Standing) : Type 0 where
+  pub size : length new ≡ length old
+  pub each : (n : ℕ) → n < length old → slice_index_or new n None ≡ first_of (slice_index_or old n None) (first_for n list)

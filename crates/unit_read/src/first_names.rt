@@ -1,5 +1,6 @@
 //! Names by their first place in a list.
-ghost use Rattle.std.specs.Prelude.{◌≡◌, ℕ, List, IfOk, OnOk};
+ghost use Rattle.std.specs.Prelude.{◌≡◌, ℕ, List, IfOk, OnOk, Some, if◌then◌else◌};
+ghost use Rattle.std.specs.Str.{bytes_eq};
 ghost use Rattle.go_tree.specs.Lexeme.{place_of};
 ghost use Rattle.unit_read.specs.Index.{texts_of, found, AddsName};
 
@@ -14,7 +15,20 @@ pub fn find<X: Copy>(names: &HashMap<&[u8], X>, name: &[u8]) -> Option<X>
     names.get(name).copied()
 }
 
-/// Keeps a value under a name, where none is kept yet.
+/// Keeps a value under a name, and gives back what was kept under it.
+fn replace<'a, X: Copy>(
+    names: &mut HashMap<&'a [u8], X>,
+    name: &'a [u8],
+    value: X,
+) -> Result<Option<X>, NoMemory>
+    ensures was { IfOk result (λ was. was ≡ found names.old name.now) }
+    ensures now { OnOk result ((q : List ℕ) → found names.new q ≡ (if bytes_eq name.now q then Some value else found names.old q)) }
+{
+    let was = names.insert(name, value)?;
+    Ok(was)
+}
+
+/// Keeps a value under a name, where none is kept yet. A name is seldom kept twice, so it is looked up once, and what was kept is put back.
 pub fn add_name<'a, X: Copy>(
     names: &mut HashMap<&'a [u8], X>,
     name: &'a [u8],
@@ -22,10 +36,14 @@ pub fn add_name<'a, X: Copy>(
 ) -> Result<(), NoMemory>
     ensures { OnOk result (AddsName names.old names.new name.now value) }
 {
-    if find(names, name).is_none() {
-        names.insert(name, value)?;
+    let was = replace(names, name, value)?;
+    match was {
+        Some(first) => {
+            replace(names, name, first)?;
+            Ok(())
+        }
+        None => Ok(()),
     }
-    Ok(())
 }
 
 /// The first place of each name.

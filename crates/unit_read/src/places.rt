@@ -1,7 +1,7 @@
 //! Where the nodes of a file stand.
-ghost use Rattle.std.specs.Prelude.{◌≡◌, ◌++◌, ◌<◌, ◌≤◌, ◌^◌, ℕ, length, None, slice_index_or, IfOk, OnOk};
+ghost use Rattle.std.specs.Prelude.{◌≡◌, ◌<◌, ◌≤◌, ◌^◌, ℕ, length, None, slice_index_or, IfOk};
 ghost use Rattle.package_objects.specs.Declares.{is_list};
-ghost use Rattle.unit_read.specs.Places.{standing, part_items, standing_in, standing_at, all_standing, place_of, Puts};
+ghost use Rattle.unit_read.specs.Places.{standing, part_items, standing_in, standing_at, place_of, Puts, PutsAll};
 
 use crate::place::{Place, Standing};
 use go_tree::{Node, NodeKind};
@@ -9,42 +9,48 @@ use gv_base::NoMemory;
 use package_objects::{count, item, node_of, part_count, part_of};
 use std::alloc::Global;
 
-fn add_item(
-    around: u32,
-    slot: usize,
-    index: usize,
-    node: Option<u32>,
-    out: &mut Vec<Standing>,
-) -> Result<(), NoMemory>
-    ensures { OnOk result (out.new.items ≡ out.old.items ++ standing around slot index node) }
+/// Puts a place into the row of its node, unless one stands there.
+fn put(row: &mut Vec<Option<Place>>, standing: Standing)
+    ensures { Puts row.old.items row.new.items standing }
 {
-    if let Some(node) = node {
-        out.push(Standing {
-            node,
-            place: Place {
-                around,
-                slot,
-                index,
-            },
-        })?;
+    let n = standing.node as usize;
+    if n < row.len() && row[n].is_none() {
+        row[n] = Some(standing.place);
     }
-    Ok(())
 }
 
-/// Adds a part, or what it lists.
-fn add_part(
+fn put_item(around: u32, slot: usize, index: usize, node: Option<u32>, row: &mut Vec<Option<Place>>)
+    ensures { PutsAll row.old.items row.new.items (standing around slot index node) }
+{
+    match node {
+        Some(node) => put(
+            row,
+            Standing {
+                node,
+                place: Place {
+                    around,
+                    slot,
+                    index,
+                },
+            },
+        ),
+        None => {}
+    }
+}
+
+/// Puts the place of a part, or of what it lists.
+fn put_part(
     nodes: &[Node],
     around: u32,
     slot: usize,
     list: Option<u32>,
-    out: &mut Vec<Standing>,
-) -> Result<(), NoMemory>
-    ensures { OnOk result (out.new.items ≡ out.old.items ++ part_items nodes.now around slot list) }
+    row: &mut Vec<Option<Place>>,
+)
+    ensures { PutsAll row.old.items row.new.items (part_items nodes.now around slot list) }
 {
     for index in 0..count(nodes, list) {
-        add_item(around, slot, index, item(nodes, list, index), out)?;
+        put_item(around, slot, index, item(nodes, list, index), row);
     }
-    Ok(())
 }
 
 fn is_list(kind: NodeKind) -> bool
@@ -57,46 +63,24 @@ fn is_list(kind: NodeKind) -> bool
     }
 }
 
-/// Adds what stands in a node.
-fn add_in(nodes: &[Node], around: u32, node: &Node, out: &mut Vec<Standing>) -> Result<(), NoMemory>
-    ensures { OnOk result (out.new.items ≡ out.old.items ++ standing_in nodes.now around node.now) }
+/// Puts the places of what stands in a node.
+fn put_parts(nodes: &[Node], around: u32, node: &Node, row: &mut Vec<Option<Place>>)
+    ensures { PutsAll row.old.items row.new.items (standing_in nodes.now around node.now) }
 {
     if is_list(node.kind) {
-        return Ok(());
+        return;
     }
     for slot in 0..part_count(node) {
-        add_part(nodes, around, slot, part_of(node, slot), out)?;
+        put_part(nodes, around, slot, part_of(node, slot), row);
     }
-    Ok(())
 }
 
-fn add_at(nodes: &[Node], n: u32, out: &mut Vec<Standing>) -> Result<(), NoMemory>
-    ensures { OnOk result (out.new.items ≡ out.old.items ++ standing_at nodes.now n) }
+fn put_node(nodes: &[Node], n: u32, row: &mut Vec<Option<Place>>)
+    ensures { PutsAll row.old.items row.new.items (standing_at nodes.now n) }
 {
-    if let Some(node) = node_of(nodes, n) {
-        add_in(nodes, n, node, out)?;
-    }
-    Ok(())
-}
-
-fn all_standing(alloc: Global, nodes: &[Node]) -> Result<Vec<Standing>, NoMemory>
-    requires { length nodes.now ≤ 2 ^ 32 }
-    ensures { IfOk result (λ list. list.items ≡ all_standing nodes.now) }
-{
-    let mut out = Vec::with_capacity(alloc, nodes.len())?;
-    for n in 0..nodes.len() {
-        add_at(nodes, n as u32, &mut out)?;
-    }
-    Ok(out)
-}
-
-/// Puts a place into the row of its node, unless one stands there.
-fn put(row: &mut Vec<Option<Place>>, standing: Standing)
-    ensures { Puts row.old.items row.new.items standing }
-{
-    let n = standing.node as usize;
-    if n < row.len() && row[n].is_none() {
-        row[n] = Some(standing.place);
+    match node_of(nodes, n) {
+        Some(node) => put_parts(nodes, n, node, row),
+        None => {}
     }
 }
 
@@ -106,10 +90,9 @@ pub fn place_row(alloc: Global, nodes: &[Node]) -> Result<Vec<Option<Place>>, No
     ensures size { IfOk result (λ row. length row.items ≡ length nodes.now) }
     ensures each { IfOk result (λ row. (n : ℕ) → n < length nodes.now → slice_index_or row.items n None ≡ place_of nodes.now n) }
 {
-    let list = all_standing(alloc, nodes)?;
     let mut row = vec![in alloc; None; nodes.len()]?;
-    for at in 0..list.len() {
-        put(&mut row, list[at]);
+    for n in 0..nodes.len() {
+        put_node(nodes, n as u32, &mut row);
     }
     Ok(row)
 }

@@ -1,11 +1,13 @@
 pub mod UseLemmas
 pub mod ReadLemmas
+pub mod SpecLemmas
 pub mod TableLemmas
 pub mod FirstLemmas
 pub mod NumberLemmas
 pub mod NamedLemmas
 pub mod ListLemmas
 pub mod FlagLemmas
+pub mod GapLemmas
 pub mod CyclicLemmas
 pub mod MethodLemmas
 pub mod CircularLemmas

@@ -1,5 +1,5 @@
 -- What the tables of a package say of its nodes.
-use Rattle.std.proofs.Common.{◌≡◌, ℕ, zero, suc, ◌≤◌, if◌then◌else◌, List, [], ◌∷◌, length, map, slice_get, Option, Some, None, option_and_then, option_map, refl, sym, ap, ◌∙◌, arith}
+use Rattle.std.proofs.Common.{◌≡◌, ℕ, zero, suc, ◌≤◌, if◌then◌else◌, List, [], ◌∷◌, length, slice_get, Option, Some, None, option_and_then, option_map, refl, sym, ap, ◌∙◌, arith}
 use Rattle.std.specs.Global.{Vec}
 use Rattle.std.specs.Option.{option_map_or}
 use Rattle.std.proofs.lemmas.Option.{slice_get_within, slice_get_past, slice_get-get_or}
@@ -8,19 +8,16 @@ use Rattle.go_tree.specs.declared.bindings.Object.{Object}
 use Rattle.go_tree.specs.declared.tree.FileTree.{FileTree}
 use Rattle.go_tree.specs.declared.tree.Node.{Node}
 use Rattle.go_tree.specs.declared.tree.NodeRef.{NodeRef}
-use Rattle.const_tree.specs.declared.constant.Spec.{Spec}
 use Rattle.const_tree.specs.Constants.{specs_in, first_from}
 use Rattle.type_model.specs.declared.term.TypeName.{TypeName}
 use Rattle.unit_read.specs.declared.lead.Lead.{Lead}
-use Rattle.unit_read.specs.declared.passage.Passage.{Passage}
 use Rattle.unit_read.specs.declared.place.Place.{Place}
 use Rattle.unit_read.specs.Imports.{is_import, lead_by, lead_at, lead_of}
-use Rattle.unit_read.specs.Passages.{passages}
 use Rattle.unit_read.specs.Places.{place_of}
 use Rattle.unit_read.specs.Rows.{AreRows, lead_in, leads_in}
 use Rattle.unit_read.specs.Subjects.{cell}
-use Rattle.unit_read.specs.Units.{Unit, nodes_of, text_in, object_in, object_at, place_at, spec_at, first_place, repeater, copy_at, defined, type_name_at}
-use Rattle.unit_rows.specs.Rows.{object_for, spec_in, place_in, first_in, local_in}
+use Rattle.unit_read.specs.Units.{Unit, nodes_of, text_in, object_in, object_at, place_at, spec_at, first_place, defined, type_name_at}
+use Rattle.unit_rows.specs.Rows.{object_for, spec_of, spec_for, place_in, first_in, local_in}
 use Rattle.unit_rows.proofs.ListLemmas.{got}
 use Rattle.unit_rows.proofs.NumberLemmas.{local_is, outside_defined}
 
@@ -89,13 +86,11 @@ module _ (u : Unit) where
       cells (object_for u.uses) u.trees rows (object_at u) (λ at none. ap (option_and_then (λ (node : Node). object_in u.uses at)) none)
       (λ at tree node there is. ap (option_and_then (λ (node : Node). object_in u.uses at)) (ap (in_tree at) there ∙ is)) are
 
-  abbrev specs_by : NodeRef → Option FileTree → Option Spec
-  specs_by at o = first_from at.node (specs_in (nodes_of o))
-
-  pub specs_read : (rows : List (Vec (Option Spec))) → AreRows (λ f. spec_in) u.trees rows (length u.trees) → (at : NodeRef) → cell rows at ≡ spec_at u at
-  specs_read rows are =
-      cells (λ f. spec_in) u.trees rows (spec_at u) (λ at none. ap (option_and_then (λ (node : Node). specs_by at (slice_get u.trees at.file))) none)
-      (λ at tree node there is. ap (option_and_then (λ (node : Node). specs_by at (slice_get u.trees at.file))) (ap (in_tree at) there ∙ is) ∙ ap (specs_by at) there) are
+  pub specs_read : (at : NodeRef) → spec_for u.trees at ≡ spec_at u at
+  specs_read at = by (slice_get u.trees at.file) where
+    by : (o : Option FileTree) → option_and_then (λ (tree : FileTree). spec_of tree at.node) o ≡ option_and_then (λ (node : Node). first_from at.node (specs_in (nodes_of o))) (slice_get (nodes_of o) at.node)
+    by None = sym (ap (option_and_then (λ (node : Node). first_from at.node (specs_in []))) (slice_get_past [] at.node (omega arith)))
+    by (Some tree) = refl
 
   abbrev places_by : NodeRef → Option FileTree → Option Place
   places_by at o = place_of (nodes_of o) at.node
@@ -117,11 +112,6 @@ module _ (u : Unit) where
 
   pub leads_read : (rows : List (Vec (Option Lead))) → AreRows (leads_in u.env u.texts) u.trees rows (length u.trees) → (at : NodeRef) → cell rows at ≡ lead_at u at
   leads_read rows are = cells (leads_in u.env u.texts) u.trees rows (lead_at u) (λ at none. ap (option_and_then (lead_of u at.file)) none) lead_is are
-
-  pub copies_read : (blocks : List Passage) (rows : List (Vec (Option ℕ))) → blocks ≡ passages u.trees → AreRows (first_in (map repeater blocks)) u.trees rows (length u.trees) → (at : NodeRef)
-      → cell rows at ≡ copy_at u at
-  copies_read blocks rows all are at =
-      firsts_read u.trees (map repeater blocks) rows are at ∙ ap (λ (xs : List Passage). first_at (map repeater xs) at (in_tree at (slice_get u.trees at.file))) all
 
   pub locals_read : (list : List NodeRef) (rows : List (Vec (Option ℕ))) → list ≡ defined u → AreRows (local_in u list) u.trees rows (length u.trees) → (at : NodeRef)
       → cell rows at ≡ option_map (λ (n : TypeName). n.local) (type_name_at u at)

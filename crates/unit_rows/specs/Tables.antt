@@ -1,5 +1,5 @@
 -- Tables that are filled node by node.
-use Rattle.std.specs.Prelude.{◌≡◌, ℕ, ◌<◌, ◌==◌, Bool, false, List, [], length, map, is_some, Option, Some, None, slice_get, slice_index_or}
+use Rattle.std.specs.Prelude.{◌≡◌, ℕ, ◌<◌, ◌==◌, Bool, true, false, List, [], length, map, is_some, Option, Some, None, slice_get, slice_index_or}
 use Rattle.std.specs.Global.{Vec}
 use Rattle.std.specs.Option.{option_map_or}
 use Rattle.go_tree.specs.declared.tree.FileTree.{FileTree}
@@ -30,6 +30,11 @@ nothing f tree n = None
 abbrev pub PutsNext : List (Vec (Option ℕ)) → List (Vec (Option ℕ)) → Option NodeRef → ℕ → Type 0
 PutsNext old new None value = new ≡ old
 PutsNext old new (Some at) value = PutsIn old new at.file at.node value
+
+-- nothing stands there
+abbrev pub is_gap : Option NodeRef → Bool
+is_gap None = true
+is_gap (Some at) = false
 
 -- ---- flags
 

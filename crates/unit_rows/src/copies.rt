@@ -1,14 +1,15 @@
 //! Which blocks specifications of constants repeat.
-ghost use Rattle.std.specs.Prelude.{◌≡◌, IfOk, length, map};
-ghost use Rattle.unit_read.specs.Rows.{AreRows};
+ghost use Rattle.std.specs.Prelude.{◌≡◌, IfOk, map};
+ghost use Rattle.go_tree.specs.declared.tree.NodeRef.{NodeRef as ANode};
+ghost use Rattle.unit_read.specs.Entries.{entry};
 ghost use Rattle.unit_read.specs.Units.{repeater};
-ghost use Rattle.unit_rows.specs.Rows.{first_in};
+ghost use Rattle.unit_rows.specs.Rows.{first_for};
 
-use crate::firsts::first_rows;
+use crate::firsts::first_entries;
 use go_tree::{FileTree, NodeRef};
 use gv_base::NoMemory;
 use std::alloc::Global;
-use unit_read::Passage;
+use unit_read::{Entries, Passage};
 
 /// The node of the specification that repeats the list of a passage.
 fn repeater(passage: Passage) -> Option<NodeRef>
@@ -34,14 +35,14 @@ fn repeaters(alloc: Global, passages: &[Passage]) -> Result<Vec<Option<NodeRef>>
 }
 
 /// For each node of each file the first block whose list it repeats.
-pub fn copy_rows(
+pub fn copies(
     alloc: Global,
     trees: &[FileTree],
     passages: &[Passage],
-) -> Result<Vec<Vec<Option<usize>>>, NoMemory>
-    ensures { IfOk result (λ rows. AreRows (first_in (map repeater passages.now)) trees.now rows.items (length trees.now)) }
+) -> Result<Vec<Entries<usize>>, NoMemory>
+    ensures { IfOk result (λ table. (at : ANode) → entry table.items at ≡ first_for trees.now (map repeater passages.now) at) }
 {
     let list = repeaters(alloc, passages)?;
-    let rows = first_rows(alloc, trees, &list)?;
-    Ok(rows)
+    let table = first_entries(alloc, trees, &list)?;
+    Ok(table)
 }

@@ -17,6 +17,7 @@ mod package_block;
 mod reader;
 mod repeats;
 mod rows;
+mod specs;
 mod tables;
 mod top;
 mod types;

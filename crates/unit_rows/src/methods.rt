@@ -54,6 +54,9 @@ fn all_methods(alloc: Global, s: &Subject) -> Result<Vec<NodeRef>, NoMemory>
     requires few { length s.now.trees.now ≤ 2 ^ 32 }
     ensures { IfOk result (λ list. list.items ≡ all_methods (unit_of s.now)) }
 {
+    if s.owners.as_slice().is_empty() {
+        return Ok(Vec::new(alloc));
+    }
     let mut out = Vec::new(alloc);
     for file in 0..s.trees.len() {
         add_file(s, file as u32, &mut out)?;
@@ -187,6 +190,19 @@ fn repeated_methods(
     Ok(out)
 }
 
+/// What is kept where there are no methods.
+fn no_kin(alloc: Global) -> Kin
+    ensures groups { result.groups.items ≡ [] }
+    ensures kin { result.kin.items ≡ [] }
+    ensures repeated { result.repeated.items ≡ [] }
+{
+    Kin {
+        groups: Vec::new(alloc),
+        kin: Vec::new(alloc),
+        repeated: Vec::new(alloc),
+    }
+}
+
 /// The methods of each type, as lists whose numbers stand at the nodes of their names, and which have the name of an earlier one.
 pub fn method_rows(alloc: Global, s: &Subject) -> Result<Kin, NoMemory>
     requires small { AreSmall s.now.trees.now }
@@ -195,6 +211,9 @@ pub fn method_rows(alloc: Global, s: &Subject) -> Result<Kin, NoMemory>
     ensures repeated { IfOk result (λ k. (at : ANode) → flag k.repeated.items at ≡ is_repeated_method (unit_of s.now) at) }
 {
     let methods = all_methods(alloc, s)?;
+    if methods.as_slice().is_empty() {
+        return Ok(no_kin(alloc));
+    }
     let owners = owners_of(alloc, s, &methods)?;
     let cells = first_rows(alloc, s.trees, &owners)?;
     let groups = groups_of(alloc, &cells, &owners, &methods)?;

@@ -7,13 +7,14 @@ ghost use Rattle.unit_read.specs.Subjects.{unit_of, IsRead};
 ghost use Rattle.unit_rows.specs.Drafts.{package_unit, with_flags, with_owners};
 ghost use Rattle.package_objects.specs.Declares.{AreSmall};
 
-use crate::copies::copy_rows;
+use crate::copies::copies;
 use crate::listing::defined;
 use crate::locals::local_rows;
 use crate::methods::method_rows;
 use crate::objects::object_rows;
 use crate::repeats::repeat_rows;
-use crate::rows::{place_rows, spec_rows};
+use crate::rows::place_rows;
+use crate::specs::spec_entries;
 use crate::types::named_types;
 use go_tree::{Bindings, FileTree, NodeRef};
 use gv_base::NoMemory;
@@ -47,12 +48,10 @@ pub fn read_unit<'a>(
     let passages = passages(alloc, trees)?;
     let objects = object_rows(alloc, uses, trees)?;
     let places = place_rows(alloc, trees)?;
-    let spec_cells = spec_rows(alloc, trees)?;
-    let specs = entry_rows(alloc, spec_cells)?;
+    let specs = spec_entries(alloc, trees)?;
     let lead_cells = lead_rows(alloc, env, texts, trees)?;
     let leads = entry_rows(alloc, lead_cells)?;
-    let copy_cells = copy_rows(alloc, trees, &passages)?;
-    let copies = entry_rows(alloc, copy_cells)?;
+    let copies = copies(alloc, trees, &passages)?;
     let defined = defined(alloc, trees)?;
     let mut s = Subject {
         path,

@@ -1,34 +1,13 @@
-//! What is said of nodes by their files alone: specifications and places.
+//! Where the nodes of files stand.
 ghost use Rattle.std.specs.Prelude.{◌≡◌, ◌≤◌, ◌^◌, IfOk, length};
 ghost use Rattle.unit_read.specs.Rows.{IsRow, AreRows};
 ghost use Rattle.package_objects.specs.Declares.{AreSmall};
-ghost use Rattle.unit_rows.specs.Rows.{spec_in, place_in};
+ghost use Rattle.unit_rows.specs.Rows.{place_in};
 
-use const_tree::{Spec, spec_row, specs_in};
 use go_tree::FileTree;
 use gv_base::NoMemory;
 use std::alloc::Global;
 use unit_read::{Place, place_row};
-
-/// For each node of a file the specification to which it belongs.
-fn tree_specs(alloc: Global, tree: &FileTree) -> Result<Vec<Option<Spec>>, NoMemory>
-    ensures { IfOk result (λ row. IsRow (spec_in tree.now) row.items (length tree.now.nodes)) }
-{
-    let specs = specs_in(alloc, tree.nodes.as_slice())?;
-    let row = spec_row(alloc, tree.nodes.as_slice(), &specs)?;
-    Ok(row)
-}
-
-/// For each node of each file the specification to which it belongs.
-pub fn spec_rows(alloc: Global, trees: &[FileTree]) -> Result<Vec<Vec<Option<Spec>>>, NoMemory>
-    ensures { IfOk result (λ rows. AreRows (λ f. spec_in) trees.now rows.items (length trees.now)) }
-{
-    let mut rows = Vec::new(alloc);
-    for file in 0..trees.len() {
-        rows.push(tree_specs(alloc, &trees[file])?)?;
-    }
-    Ok(rows)
-}
 
 /// For each node of a file where it stands.
 fn tree_places(alloc: Global, tree: &FileTree) -> Result<Vec<Option<Place>>, NoMemory>

@@ -1,9 +1,6 @@
-use Rattle.std.proofs.Common.{◌∙◌, arith}
-use Rattle.unit_read.proofs.RowLemmas.{row_step}
+use Rattle.unit_read.specs.Places.{standing_at}
+use Rattle.unit_read.proofs.RowLemmas.{puts_more}
 use Rattle.unit_read.proofs.places.place_row.Goals as goal
 
-pub loop-at-preserved : goal.loop-at-preserved
-loop-at-preserved c = record {
-  size = c.put.ensures.size ∙ c.loop-at.invariant.size;
-  each = row_step c.in_ok-list.list.items c.loop-at.at c.index.result.now c.loop-at.row.items c.put.new.row.items _ c.loop-at.invariant.size (omega arith) c.index.ensures c.loop-at.invariant.each c.put.ensures;
-}
+pub loop-n-preserved : goal.loop-n-preserved
+loop-n-preserved c = puts_more (standing_at c.args.nodes.now) c.loop-n.n _ c.loop-n.row.items c.put_node.new.row.items c.loop-n.invariant c.put_node.ensures

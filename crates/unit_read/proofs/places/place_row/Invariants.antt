@@ -1,9 +1,7 @@
-use Rattle.std.proofs.Common.{◌≡◌, ℕ, ◌<◌, length, slice_index_or, take, None}
-use Rattle.unit_read.specs.Places.{first_for}
+use Rattle.package_objects.specs.Declares.{gather}
+use Rattle.unit_read.specs.Places.{standing_at, PutsAll}
+use Rattle.std.proofs.Common.{None, replicate, length}
 use Rattle.unit_read.proofs.places.place_row.Given as goal
 
-abbrev pub invariant-loop-at : goal.invariant-loop-at
-invariant-loop-at l = record {
-  size : length l.row.items ≡ length l.fn.nodes;
-  each : (n : ℕ) → n < length l.fn.nodes → slice_index_or l.row.items n None ≡ first_for n (take l.at l.list.items);
-}
+abbrev pub invariant-loop-n : goal.invariant-loop-n
+invariant-loop-n l = PutsAll (replicate (length l.nodes) None) l.row.items (gather (standing_at l.nodes) l.n)

@@ -1,12 +1,14 @@
-use Rattle.std.proofs.Common.{ap, ◌∙◌, option_map, ◌≡◌}
+use Rattle.std.proofs.Common.{List, map, ap, ◌∙◌, option_map, ◌≡◌}
 use Rattle.unit_read.specs.Environments.{faces_in}
 use Rattle.unit_read.specs.Index.{texts_of}
 use Rattle.unit_read.specs.Subjects.{top_name}
-use Rattle.unit_read.specs.Units.{named_by, type_name_at}
+use Rattle.unit_read.specs.Units.{named_by, type_name_at, repeater}
 use Rattle.unit_rows.specs.Drafts.{package_unit}
 use Rattle.unit_rows.proofs.NumberLemmas.{local_there}
-use Rattle.unit_rows.proofs.ReadLemmas.{objects_read, places_read, specs_read, leads_read, copies_read, locals_read}
+use Rattle.unit_rows.proofs.ReadLemmas.{objects_read, places_read, specs_read, leads_read, locals_read}
 use Rattle.unit_read.specs.Entries.{entry}
+use Rattle.unit_read.specs.declared.passage.Passage.{Passage}
+use Rattle.unit_rows.specs.Rows.{first_for}
 use Rattle.type_model.specs.declared.term.TypeName.{TypeName}
 use Rattle.go_tree.specs.declared.tree.NodeRef.{NodeRef}
 use Rattle.unit_rows.proofs.reader.read_unit.Goals as goal
@@ -29,7 +31,7 @@ returns-clause-read c =
       blocks = c.in_ok-passages.ensures;
       objects = objects_read u c.in_ok-objects.objects.items c.in_ok-objects.ensures;
       places = places_read u c.in_ok-places.places.items c.in_ok-places.ensures;
-      specs = λ at. c.in_ok-specs.ensures at ∙ specs_read u c.in_ok-spec_cells.spec_cells.items c.in_ok-spec_cells.ensures at;
+      specs = λ at. c.in_ok-specs.ensures at ∙ specs_read u at;
       env = c.requires.env;
       leads = λ at. c.in_ok-leads.ensures at ∙ leads_read u c.in_ok-lead_cells.lead_cells.items c.in_ok-lead_cells.ensures at;
       types = c.in_ok-defined.ensures;
@@ -38,6 +40,6 @@ returns-clause-read c =
       repeats = c.in_ok-repeats.ensures;
       methods = c.in_ok-methods.ensures.methods;
       repeated = c.in_ok-methods.ensures.repeated;
-      copies = λ at. c.in_ok-copies.ensures at ∙ copies_read u c.deref.result.now c.in_ok-copy_cells.copy_cells.items (c.deref.ensures.value ∙ c.in_ok-passages.ensures) c.in_ok-copy_cells.ensures at;
+      copies = λ at. c.in_ok-copies.ensures at ∙ ap (λ (xs : List Passage). first_for c.args.trees.now (map repeater xs) at) (c.deref.ensures.value ∙ c.in_ok-passages.ensures);
       named = λ q. c.in_ok-named.ensures q ∙ ap (named_by u (top_name u q)) c.in_ok-defined.ensures;
     }

@@ -1,8 +1,0 @@
-use Rattle.std.proofs.Common.{◌++◌, sym, ap, ◌∙◌}
-use Rattle.scopes.specs.Regions.{names_of, is_bind, handed_around}
-use Rattle.scopes.specs.declared.scope.Handed.{Handed}
-use Rattle.scopes.proofs.walk.given_around.Goals as goal
-
-pub returns-in_ok-push_all_names_of-in-Switch : goal.returns-in_ok-push_all_names_of-in-Switch
-returns-in_ok-push_all_names_of-in-Switch c = λ s e m f shows.
-    c.in_ok-push_all_names_of-in-Switch.ensures m f shows ∙ (ap (λ x. x ++ names_of is_bind m f) c.new-names.ensures.items ∙ ap (λ (h : Handed). handed_around h s m f) (sym c.in-Switch.is))

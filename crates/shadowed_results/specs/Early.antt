@@ -1,0 +1,47 @@
+-- Functions whose results have names, and the `return`s without values in them.
+use Rattle.std.specs.Prelude.{ℕ, ◌<◌, ◌≡◌, ◌⊎◌, ◌&&◌, ◌||◌, nat_lt, Bool, true, false, List, [], ◌∷◌, length, get_or, slice_get}
+use Rattle.std.specs.Option.{option_map_or}
+use Rattle.go_tree.specs.declared.tree.Node.{Node}
+use Rattle.go_tree.specs.declared.tree.NodeKind.{NodeKind}
+use Rattle.node_values.specs.Trees.{Holds, InnermostOf}
+use Rattle.scopes.specs.Regions.{form_of, is_param}
+use Rattle.shadowed_results.specs.Kinds.{is_function, bare_parts, from_last, is_bare_at}
+
+-- n is a parameter with names
+abbrev pub is_param_at : List Node → ℕ → Bool
+is_param_at nodes n = option_map_or (λ (node : Node). is_param (form_of node.kind)) (slice_get nodes n) false
+
+abbrev pub any_param : List Node → List ℕ → Bool
+any_param nodes [] = false
+any_param nodes (n ∷ rest) = is_param_at nodes n || any_param nodes rest
+
+-- one of the parts of n is such a parameter
+abbrev pub lists_param : List Node → ℕ → Bool
+lists_param nodes n = option_map_or (λ (node : Node). any_param nodes node.parts) (slice_get nodes n) false
+
+-- the results of a function have names
+abbrev pub names_results : List Node → NodeKind → List ℕ → Bool
+names_results nodes kind parts = nat_lt (bare_parts kind) (length parts) && lists_param nodes (from_last parts 2)
+
+abbrev pub names_results_at : List Node → ℕ → Bool
+names_results_at nodes f = option_map_or (λ (node : Node). names_results nodes node.kind node.parts) (slice_get nodes f) false
+
+-- m is the node b or stands in it
+abbrev pub IsIn : List Node → ℕ → ℕ → Type 0
+IsIn nodes b m = (m ≡ b) ⊎ Holds nodes b m
+
+-- In the node m of the function f nothing of this function is a `return` without values.
+abbrev pub IsQuiet : List Node → ℕ → ℕ → Type 0
+IsQuiet nodes f m = IsIn nodes f m → (n : ℕ) → InnermostOf is_function nodes n f → IsIn nodes m n → is_bare_at nodes n ≡ false
+
+-- nor in the first few of some parts
+abbrev pub AreQuiet : List Node → ℕ → List ℕ → ℕ → Type 0
+AreQuiet nodes f parts few = (j : ℕ) → j < few → IsQuiet nodes f (get_or parts j 0)
+
+-- If the results of the function f have names, nothing of it is a `return` without values.
+abbrev pub IsPlain : List Node → ℕ → Type 0
+IsPlain nodes f = names_results_at nodes f ≡ true → (n : ℕ) → InnermostOf is_function nodes n f → is_bare_at nodes n ≡ false
+
+-- so is each of the first few nodes
+abbrev pub ArePlain : List Node → ℕ → Type 0
+ArePlain nodes few = (f : ℕ) → f < few → IsPlain nodes f

@@ -1,6 +1,0 @@
-use Rattle.unit_read.specs.Rows.{AreRows}
-use Rattle.unit_rows.specs.Rows.{spec_in}
-use Rattle.unit_rows.proofs.rows.spec_rows.Given as goal
-
-abbrev pub invariant-loop-file : goal.invariant-loop-file
-invariant-loop-file l = AreRows (λ f. spec_in) l.trees l.rows.items l.file
