@@ -122,13 +122,13 @@ allowed true modes y e h = absurd (cc)
 allowed false modes y e h = h
 
 module _ (w : World) (x : Mode) (at : NodeRef) (y : Mode) (to : NodeRef) where
-  abbrev from : Spot
+  abbrev pub from : Spot
   from = spot x at
 
-  abbrev In : List Spot → Type 0
+  abbrev pub In : List Spot → Type 0
   In row = Among (spot y to) row
 
-  down_there : (p : IsPart w at to) → Among y (below x p.node.kind (to.node == first_part p.node) p.inner.kind) → In (down w from p.node to.node)
+  pub down_there : (p : IsPart w at to) → Among y (below x p.node.kind (to.node == first_part p.node) p.inner.kind) → In (down w from p.node to.node)
   down_there p mode =
       let here : place at.file to.node ≡ to = same_place (place at.file to.node) to (sym p.file) refl in
       let known : w.node (place at.file to.node) ≡ Some p.inner = ap (λ (v : NodeRef). w.node v) here ∙ p.there in
@@ -145,22 +145,23 @@ module _ (w : World) (x : Mode) (at : NodeRef) (y : Mode) (to : NodeRef) where
   into_there g = subst (λ (o : Option Node). In (option_map_or (λ (node : Node). flat_map (down w from node) node.parts) o [])) (sym g.part.«is»)
       (flat_among (down w from g.part.node) g.part.node.parts to.node (spot y to) g.part.among (down_there g.part g.mode))
 
-  across_there : GoesAcross w x at y to → In (across w from)
+  pub across_there : GoesAcross w x at y to → In (across w from)
   across_there g =
       let listed : In (spots (crosses x g.mention.entry.form) to) = are_spots (crosses x g.mention.entry.form) to y g.mode in
       let known : In (option_map_or (λ (d : Entry). spots (crosses x d.form) to) (w.entry to) []) =
       subst (λ (o : Option Entry). In (option_map_or (λ (d : Entry). spots (crosses x d.form) to) o [])) (sym g.mention.declared) listed in
       subst (λ (o : Option NodeRef). In (option_map_or (λ (u : NodeRef). option_map_or (λ (d : Entry). spots (crosses x d.form) u) (w.entry u) []) o [])) (sym g.mention.meant) known
 
+  pub root_there : (g : GoesUnder w x at y to) → Among (spot y (place at.file g.root.node)) (from_root from g.entry.form g.root)
+  root_there g = are_spots (enters x g.entry.form g.root.role) (place at.file g.root.node) y g.mode
+
   under_there : GoesUnder w x at y to → In (under w from)
   under_there g =
-      let listed : Among (spot y (place at.file g.root.node)) (spots (enters x g.entry.form g.root.role) (place at.file g.root.node)) =
-      are_spots (enters x g.entry.form g.root.role) (place at.file g.root.node) y g.mode in
-      let here : In (from_root from g.entry.form g.root) = subst (λ (v : NodeRef). Among (spot y v) (from_root from g.entry.form g.root)) g.at_is listed in
+      let here : In (from_root from g.entry.form g.root) = subst (λ (v : NodeRef). Among (spot y v) (from_root from g.entry.form g.root)) g.at_is (root_there g) in
       subst (λ (o : Option Entry). In (option_map_or (λ (d : Entry). flat_map (from_root from d.form) d.roots) o [])) (sym g.declared)
       (flat_among (from_root from g.entry.form) g.entry.roots g.root (spot y to) g.among here)
 
-  beside_there : GoesBeside w x at y to → In (beside w from)
+  pub beside_there : GoesBeside w x at y to → In (beside w from)
   beside_there g =
       let listed : In (spots (joins x g.entry.form) to) = are_spots (joins x g.entry.form) to y g.mode in
       let known : In (to_kin w x to) = subst (λ (o : Option Entry). In (option_map_or (λ (d : Entry). spots (joins x d.form) to) o [])) (sym g.declared) listed in

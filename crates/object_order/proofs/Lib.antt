@@ -14,3 +14,5 @@ mod RowLemmas
 mod SearchLemmas
 mod SpotLemmas
 mod StepLemmas
+mod TrimLemmas
+mod QuietLemmas

@@ -13,7 +13,8 @@ use Rattle.object_order.specs.declared.spot.Mode.TheVariants as m
 use Rattle.object_order.specs.declared.spot.Spot.{Spot}
 use Rattle.object_order.specs.Paths.{Leads}
 use Rattle.object_order.specs.Spots.{spot}
-use Rattle.object_order.specs.Searches.{IsExplored}
+use Rattle.object_order.specs.SpotRows.{kept_in}
+use Rattle.object_order.specs.Searches.{key_of, IsExplored}
 use Rattle.object_order.specs.Orders.{is_needs, Turns, NeedsBy, IsNeedOrder}
 use Rattle.object_order.specs.Picks.{flag_in, turn_of, picked_spot, picked, AreFlags}
 use Rattle.object_order.proofs.GraphLemmas.{found_once, path_numbers, leads_spots, leads_numbers}
@@ -23,7 +24,7 @@ use Rattle.object_order.proofs.PickLemmas.{picked_from, picked_at, picked_pair, 
 -- what is searched from, and what is declared
 pub record AreSeeds (moves : Spot → List Spot) (seeds : List Spot) (is_object : NodeRef → Type 0) : Type 0 where
   pub needs : (o : NodeRef) → is_object o → Among (spot m.Needs o) seeds
-  pub steps : (o : NodeRef) → is_object o → Among (spot m.Steps o) seeds
+  pub steps : (o : NodeRef) → is_object o → Among (spot m.Steps o) seeds ⊎ (Turns moves o → ⊥)
   pub only : (s : Spot) → Among s seeds ⊎ ((t : Spot) × Among s (moves t)) → is_needs s.mode ≡ true → is_object s.at
 
 or_left : (a b : Bool) → a ≡ true → (a || b) ≡ true
@@ -46,6 +47,12 @@ needed_of o c = record { object = o; cyclic = c }
 
 some_is : {X : Type 0} (a b : X) → Some a ≡ Some b → a ≡ b
 some_is a b e = cc
+
+none_some : (i : ℕ) → None ≡ Some i → ⊥
+none_some i e = cc
+
+false_true : false ≡ true → ⊥
+false_true e = cc
 
 module _ (moves : Spot → List Spot) (seeds found : List Spot) (numbers : SpotRows) (rows : List (List ℕ)) (is_object : NodeRef → Type 0)
     (is : IsExplored moves seeds found numbers rows) (are : AreSeeds moves seeds is_object)
@@ -92,9 +99,8 @@ module _ (moves : Spot → List Spot) (seeds found : List Spot) (numbers : SpotR
   found_object e o at = are.only (spot m.Needs o) (is.way.from e.vertex (spot m.Needs o) at) refl
 
   -- a type's steps are marked where they turn
-  turn_is : (o : NodeRef) → is_object o → (turn_of numbers flags o ≡ true) ↔ Turns moves o
-  turn_is o obj =
-      let (i, at) = is.way.seeded (spot m.Steps o) (are.steps o obj) in
+  turn_found : (o : NodeRef) (i : ℕ) → slice_get found i ≡ Some (spot m.Steps o) → (turn_of numbers flags o ≡ true) ↔ Turns moves o
+  turn_found o i at =
       let low = slice_get_within found i (spot m.Steps o) at in
       let (k, e, at_k, e_is) = full.«is».each i (let s = is.size in omega arith) in
       let at_e : slice_get found e.vertex ≡ Some (spot m.Steps o) = ap (λ x. slice_get found x) e_is ∙ at in
@@ -103,6 +109,22 @@ module _ (moves : Spot → List Spot) (seeds found : List Spot) (numbers : SpotR
         λ turn. leads_spots moves seeds found numbers rows is e.vertex e.vertex (spot m.Steps o) (spot m.Steps o) at_e at_e ((full.«is».cyclic k e at_k).0 (sym same ∙ turn)),
         λ turns. same ∙ (full.«is».cyclic k e at_k).1 (leads_numbers moves seeds found numbers rows is e.vertex e.vertex (spot m.Steps o) (spot m.Steps o) at_e at_e turns),
       )
+
+  -- steps that aren't looked for don't turn
+  turn_lost : (o : NodeRef) → is_object o → kept_in numbers (key_of (spot m.Steps o)) ≡ None → Turns moves o → ⊥
+  turn_lost o obj none turns = elim (are.steps o obj) [
+    | inl seed ↦ (let (i, at) = is.way.seeded (spot m.Steps o) seed in none_some i (sym none ∙ is.numbered.there i (spot m.Steps o) at))
+    | inr still ↦ still turns
+  ]
+
+  turn_is : (o : NodeRef) → is_object o → (turn_of numbers flags o ≡ true) ↔ Turns moves o
+  turn_is o obj = by (kept_in numbers (key_of (spot m.Steps o))) refl where
+    by : (q : Option ℕ) → kept_in numbers (key_of (spot m.Steps o)) ≡ q → (turn_of numbers flags o ≡ true) ↔ Turns moves o
+    by None none = (
+      λ turn. absurd (false_true (sym (ap (λ (x : Option ℕ). option_map_or (λ n. flag_in flags n) x false) none) ∙ turn)),
+      λ turns. absurd (turn_lost o obj none turns),
+    )
+    by (Some i) some = turn_found o i (is.numbered.back i (spot m.Steps o) some)
 
   one_place : (j k : ℕ) (e f : Needed) → slice_get (filter_map (picked found numbers flags) order) j ≡ Some e → slice_get (filter_map (picked found numbers flags) order) k ≡ Some f → e.object ≡ f.object → j < k → ⊥
   one_place j k e f at_j at_k same less =

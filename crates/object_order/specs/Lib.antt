@@ -7,3 +7,5 @@ pub mod Orders
 pub mod Picks
 pub mod Names
 pub mod Cases
+pub mod Quiet
+pub mod Trimmed

@@ -1,6 +1,7 @@
 //! The graph of all spots that a search finds.
 ghost use Rattle.std.specs.Prelude.{◌≡◌, ◌<◌, ◌∷◌, ◌^◌, [], IfOk, OnOk, slice_get, Some, None, length};
-ghost use Rattle.object_order.specs.Spots.{moves as moves_of};
+ghost use Rattle.object_order.specs.Trimmed.{trimmed_moves};
+ghost use Rattle.object_order.specs.Quiet.{quiet_at};
 ghost use Rattle.object_order.specs.Views.{world_of};
 ghost use Rattle.object_order.specs.SpotRows.{kept_in};
 ghost use Rattle.object_order.specs.Searches.{code, key_of, AreNumbered, Finds, IsRowOf, IsExplored, AddsRow};
@@ -123,6 +124,7 @@ fn spot_in(found: &Vec<Spot>, at: usize) -> Spot
 /// Adds the row of a spot to the graph. What is lent for where the search goes on, and for its numbers, serves one spot after another.
 fn add_row(
     view: &View,
+    quiet: &Vec<Vec<bool>>,
     spot: Spot,
     next: &mut Vec<Spot>,
     row: &mut Vec<u32>,
@@ -131,18 +133,23 @@ fn add_row(
     graph: Graph,
 ) -> Result<Graph, NoMemory>
     requires { AreNumbered numbers.old found.old.items }
-    ensures finds { OnOk result (Finds numbers.new found.old.items found.new.items (moves_of (world_of view.now) spot)) }
-    ensures row { IfOk result (λ longer. AddsRow found.new.items (moves_of (world_of view.now) spot) graph longer) }
+    ensures finds { OnOk result (Finds numbers.new found.old.items found.new.items (trimmed_moves (quiet_at quiet.now.items) (world_of view.now) spot)) }
+    ensures row { IfOk result (λ longer. AddsRow found.new.items (trimmed_moves (quiet_at quiet.now.items) (world_of view.now) spot) graph longer) }
 {
-    moves(view, spot, next)?;
+    moves(view, quiet, spot, next)?;
     row_of(next, numbers, found, row)?;
     let longer = graph.with(row)?;
     Ok(longer)
 }
 
-/// The graph of all spots to which the search leads from these. More than 2^32 are answered as want of memory.
-pub fn explore(alloc: Global, view: &View, seeds: &Vec<Spot>) -> Result<Explored, NoMemory>
-    ensures { IfOk result (λ e. IsExplored (moves_of (world_of view.now)) seeds.now.items e.found.items e.numbers e.graph) }
+/// The graph of all spots to which the search leads from these, but for quiet nodes. More than 2^32 are answered as want of memory.
+pub fn explore(
+    alloc: Global,
+    view: &View,
+    quiet: &Vec<Vec<bool>>,
+    seeds: &Vec<Spot>,
+) -> Result<Explored, NoMemory>
+    ensures { IfOk result (λ e. IsExplored (trimmed_moves (quiet_at quiet.now.items) (world_of view.now)) seeds.now.items e.found.items e.numbers e.graph) }
 {
     let mut numbers = SpotRows::new(alloc, view.trees)?;
     let mut found = Vec::new(alloc);
@@ -155,6 +162,7 @@ pub fn explore(alloc: Global, view: &View, seeds: &Vec<Spot>) -> Result<Explored
         let spot = spot_in(&found, done);
         graph = add_row(
             view,
+            quiet,
             spot,
             &mut next,
             &mut row,

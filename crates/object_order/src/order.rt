@@ -8,6 +8,7 @@ ghost use Rattle.object_order.specs.Cases.{NeedsOf};
 use crate::explore::explore;
 use crate::needed::Needed;
 use crate::pick::ordered;
+use crate::quiet::quiet_rows;
 use crate::seeds::seeds;
 use crate::view::View;
 use gv_base::NoMemory;
@@ -21,7 +22,8 @@ pub fn order_of(alloc: Global, view: &View) -> Result<Vec<Needed>, NoMemory>
     ensures { IfOk result (λ order. IsNeedOrder (NeedsOf (world_of view.now)) (IsNamed view.now.entries.items) order.items) }
 {
     let first = seeds(alloc, &view.entries)?;
-    let explored = explore(alloc, view, &first)?;
+    let quiet = quiet_rows(alloc, false, view.trees, view.meant)?;
+    let explored = explore(alloc, view, &quiet, &first)?;
     let order = ordered(alloc, &explored)?;
     Ok(order)
 }

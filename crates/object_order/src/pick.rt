@@ -67,7 +67,8 @@ fn flag_read(flags: &Vec<bool>, number: usize) -> Option<bool>
     flags.get(number).copied()
 }
 
-fn flag_at(flags: &Vec<bool>, number: u32) -> bool
+/// The flag of a number; none is set beyond the list.
+pub fn flag_at(flags: &Vec<bool>, number: u32) -> bool
     ensures { result ≡ flag_in flags.now.items number }
 {
     match flag_read(flags, number as usize) {

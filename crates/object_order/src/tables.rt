@@ -1,16 +1,49 @@
 //! What is looked for next: in a part, at an object that is mentioned, in a declaration.
 ghost use Rattle.std.specs.Prelude.{◌≡◌, ◌++◌, ◌∷◌, [], ◌&&◌, if◌then◌else◌, OnOk};
 ghost use Rattle.object_order.specs.Spots.{spots, is_block, is_array, is_interface, is_name, is_paren, is_plain, descends, below, crosses, joins, types, besides, restings, enters};
+ghost use Rattle.object_order.specs.Trimmed.{is_inner, is_joined};
 
 use crate::spot::{Form, Mode, Role, Spot};
 use go_tree::{NodeKind, NodeRef};
 use gv_base::NoMemory;
 
-fn is_body(kind: NodeKind) -> bool
+/// Whether a node is the body of a function, or another block.
+pub fn is_body(kind: NodeKind) -> bool
     ensures { result ≡ is_block kind }
 {
     match kind {
         NodeKind::Block => true,
+        _ => false,
+    }
+}
+
+/// Whether it is looked for in a node, and not at an object.
+pub fn is_inner(mode: Mode) -> bool
+    ensures { result ≡ is_inner mode }
+{
+    match mode {
+        Mode::Needs => false,
+        Mode::Reach => false,
+        Mode::Steps => false,
+        Mode::Follow => false,
+        Mode::Kin => false,
+        Mode::Direct => true,
+        Mode::Lengths => true,
+        Mode::Whole => true,
+        Mode::Aliases => true,
+        Mode::AliasSteps => true,
+        Mode::Embeds => true,
+        Mode::Alone => true,
+    }
+}
+
+/// Whether the methods of a type matter.
+pub fn is_joined(mode: Mode) -> bool
+    ensures { result ≡ is_joined mode }
+{
+    match mode {
+        Mode::Reach => true,
+        Mode::Kin => true,
         _ => false,
     }
 }

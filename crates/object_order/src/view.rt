@@ -52,14 +52,21 @@ fn meant_in_row(row: &Vec<Option<NodeRef>>, node: u32) -> Option<NodeRef>
     }
 }
 
+/// What the rows have for a node.
+pub fn mention_at(meant: &[Vec<Option<NodeRef>>], at: NodeRef) -> Option<NodeRef>
+    ensures { result ≡ meant_in meant.now at }
+{
+    match row_at(meant, at.file) {
+        Some(row) => meant_in_row(row, at.node),
+        None => None,
+    }
+}
+
 /// The declared name that a node mentions.
 pub fn meant_at(view: &View, at: NodeRef) -> Option<NodeRef>
     ensures { result ≡ meant_in view.now.meant.now at }
 {
-    match row_at(view.meant, at.file) {
-        Some(row) => meant_in_row(row, at.node),
-        None => None,
-    }
+    mention_at(view.meant, at)
 }
 
 fn group_at(groups: &[Vec<NodeRef>], number: u32) -> &[NodeRef]

@@ -10,3 +10,4 @@ mod MentionLemmas
 mod WorldLemmas
 mod CarryLemmas
 pub mod OneLemmas
+mod NotedLemmas

@@ -4,3 +4,4 @@ pub mod Kin
 pub mod Groups
 pub mod Keys
 pub mod Worlds
+pub mod Noted

@@ -236,7 +236,7 @@ fn mention_row(
     requires known { AreLiterals (world_of view.now) (up view.now.trees.now) file types.now.items 0 }
     ensures { IfOk result (λ row. IsMentionRow (world_of view.now) (flagged elsewhere.now.items) (up view.now.trees.now) file row.items end) }
 {
-    let mut row = Vec::new(alloc);
+    let mut row = Vec::with_capacity(alloc, end)?;
     for node in 0..end {
         let at = NodeRef {
             file,

@@ -2,7 +2,7 @@
 ghost use Rattle.std.specs.Prelude.{◌≡◌, ◌==◌, true, false, length, option_and_then, if◌then◌else◌, Some, None};
 ghost use Rattle.std.specs.Option.{option_map_or};
 ghost use Rattle.object_order.specs.Views.{world_of};
-ghost use Rattle.package_needs.specs.Follow.{kind_at as kind_in, part_in, Ends};
+ghost use Rattle.package_needs.specs.Follow.{kind_at as kind_in, part_in};
 ghost use Rattle.package_needs.specs.Links.{AreEnds};
 ghost use Rattle.package_needs.specs.Kin.{is_star, is_names, is_method, has_methods, is_defined, type_of_one, type_by, only_type, defined, IsBaseOf, IsBaseBy, IsTarget, IsReceiverOf, IsMethodAt, method};
 
@@ -234,6 +234,22 @@ fn receiver_at(view: &View, at: NodeRef) -> Option<NodeRef>
     }
 }
 
+/// The method that a declaration of one declares.
+fn declared_method(view: &View, tables: &Tables, at: NodeRef) -> Option<Method>
+    requires near { AreEnds (world_of view.now) view.now.entries.items false tables.now.near.items }
+    requires far { AreEnds (world_of view.now) view.now.entries.items true tables.now.far.items }
+    requires declares { is_method (kind_in (world_of view.now) at) ≡ true }
+    ensures { IsMethodAt (world_of view.now) at result }
+{
+    match receiver_at(view, at) {
+        Some(receiver) => {
+            let name = part_at(view, 1, at);
+            method_of(name, receiver_base(view, tables, receiver))
+        }
+        None => None,
+    }
+}
+
 /// The method that a node declares.
 pub fn method_at(view: &View, tables: &Tables, at: NodeRef) -> Option<Method>
     requires near { AreEnds (world_of view.now) view.now.entries.items false tables.now.near.items }
@@ -241,13 +257,7 @@ pub fn method_at(view: &View, tables: &Tables, at: NodeRef) -> Option<Method>
     ensures { IsMethodAt (world_of view.now) at result }
 {
     if is_method_declaration(kind_at(view, at)) {
-        return match receiver_at(view, at) {
-            Some(receiver) => {
-                let name = part_at(view, 1, at);
-                method_of(name, receiver_base(view, tables, receiver))
-            }
-            None => None,
-        };
+        return declared_method(view, tables, at);
     }
     None
 }

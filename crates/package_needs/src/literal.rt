@@ -1,14 +1,11 @@
 //! The types of composite literals, and which names before colons are field keys.
-ghost use Rattle.std.specs.Prelude.{◌≡◌, ◌==◌, ◌&&◌, ◌↔◌, ◌≤◌, ◌+◌, ℕ, Bool, true, false, IsTrue, option_and_then, option_map, slice_get, Option, if◌then◌else◌, unwrap_or, Some, None};
-ghost use Rattle.std.specs.Option.{option_map_or};
-ghost use Rattle.object_order.specs.Spots.{place};
+ghost use Rattle.std.specs.Prelude.{◌≡◌, ◌==◌, true, false, option_and_then, Option, if◌then◌else◌, unwrap_or, Some, None};
 ghost use Rattle.object_order.specs.Views.{world_of};
 ghost use Rattle.package_needs.specs.Follow.{kind_at as kind_in, part_in, Ends};
-ghost use Rattle.package_needs.specs.Kin.{is_star};
-ghost use Rattle.package_needs.specs.Links.{AreEnds, cell};
+ghost use Rattle.package_needs.specs.Links.{AreEnds};
 ghost use Rattle.package_needs.specs.Keys.{above, up, is_value, is_composite, is_struct, is_part_at, held_in, held, written_in, written, inner_place, inner_of, elided, IsInnerOf, AreAbove, number_at};
 
-use crate::ends::{cell_at, end_of};
+use crate::ends::end_of;
 use crate::kin::is_pointer;
 use crate::read::{beside, kind_at, part_at};
 use go_tree::{NodeKind, NodeRef};
@@ -128,18 +125,21 @@ pub fn held_at(view: &View, table: &Vec<Option<u32>>, at: NodeRef) -> Option<Hel
     }
 }
 
-fn both(a: bool, b: bool) -> bool
-    ensures { result ≡ (a && b) }
+/// The type before these braces, if they are those of the literal.
+fn typed_before(view: &View, at: NodeRef, p: NodeRef) -> Option<NodeRef>
+    ensures { result ≡ (if is_part_at (world_of view.now) 1 p at then part_in (world_of view.now) 0 p else None) }
 {
-    a && b
+    if is_part(view, 1, p, at) {
+        return part_at(view, 0, p);
+    }
+    None
 }
 
 fn written_by(view: &View, at: NodeRef, p: NodeRef) -> Option<NodeRef>
     ensures { result ≡ written_in (world_of view.now) at p }
 {
-    let braces = is_part(view, 1, p, at);
-    if both(is_literal(kind_at(view, p)), braces) {
-        return part_at(view, 0, p);
+    if is_literal(kind_at(view, p)) {
+        return typed_before(view, at, p);
     }
     None
 }

@@ -37,7 +37,7 @@ fn row_of(
     requires far { AreEnds (world_of view.now) view.now.entries.items true tables.now.far.items }
     ensures { IfOk result (λ row. IsRowBy (IsOwnerAt (world_of view.now)) file row.items end) }
 {
-    let mut row = Vec::new(alloc);
+    let mut row = Vec::with_capacity(alloc, end)?;
     for node in 0..end {
         let at = NodeRef {
             file,

@@ -1,16 +1,11 @@
-use Rattle.std.proofs.Common.{arith}
-use Rattle.package_needs.specs.Worlds.{DenotesName}
-use Rattle.package_needs.proofs.MentionLemmas.{rows_none, rows_more}
-use Rattle.gv_base.proofs.Lists.{item_is}
+use Rattle.std.proofs.Common.{List, length, slice_get, ap, sym, ◌∙◌, arith}
+use Rattle.package_needs.proofs.NotedLemmas.{denoted_more, denoted_all}
 use Rattle.package_needs.proofs.denoted.denoted.Goals as goal
 
-pub loop-file-init : goal.loop-file-init
-loop-file-init c = rows_none (DenotesName c.args.b.now) c.args.trees.now _ c.new-rows.ensures.items
-
-pub loop-file-preserved : goal.loop-file-preserved
-loop-file-preserved c = rows_more (DenotesName c.args.b.now) c.args.trees.now c.loop-file.rows.items _ c.loop-file.file c.index-trees-file.result c.in_ok-tree_row.field-0
-    c.loop-file.invariant (item_is c.args.trees.now c.loop-file.file c.index-trees-file.result c.loop-file-test.true c.index-trees-file.is)
-    c.in_ok-tree_row.ensures c.in_ok-push.ensures.items
+pub loop-k-preserved : goal.loop-k-preserved
+loop-k-preserved c =
+    denoted_more c.args.b.now c.args.trees.now c.loop-k.rows.items c.note.new.rows.items c.loop-k.k c.use_at-one.result.0 c.use_at-one.result.1 c.named_by-name.result c.loop-k.invariant
+    (ap (λ (xs : List _). slice_get xs c.loop-k.k) (sym c.entries-uses.ensures) ∙ c.use_at-one.ensures) c.named_by-name.ensures c.note.ensures
 
 pub returns : goal.returns
-returns c = record { size = (let t = c.loop-file-test.false in let s = c.loop-file.auto in let e = c.loop-file.invariant.size in omega arith); each = c.loop-file.invariant.each }
+returns c = denoted_all c.args.b.now c.args.trees.now c.loop-k.rows.items c.loop-k.k (let e = ap length c.entries-uses.ensures in let t = c.loop-k-test.false in omega arith) c.loop-k.invariant
