@@ -125,6 +125,9 @@ nodes_within u number low end some until from before all n over below = all n (o
 pub no_stage : (block n : ℕ) (x : Item → Option Meaning) → AreStagesMarked block n 0 x
 no_stage block n x stage low = absurd (omega arith)
 
+pub none_early : (block low until : ℕ) (x : Item → Option Meaning) → AreStagesOfNodes block low until 0 x
+none_early block low until x n from before = no_stage block n x
+
 -- as many as there are
 pub blocks_all : (u : Unit) (k count : ℕ) (x : Item → Option Meaning) → count ≤ k → AreBlocksMarked u k x → AreBlocksMarked u count x
 blocks_all u k count x enough all i low is = all i (omega arith) is

@@ -42,7 +42,7 @@ fn mark_within<R: Rules>(
 {
     let low = stretch.low.max(block.low);
     let end = stretch.end.min(block.end);
-    let circle = mark_nodes(walk, work, stretch.block, low, end, NODE_STAGES)?;
+    let circle = mark_nodes(walk, work, stretch.block, low, end, 0, NODE_STAGES)?;
     Ok(circle)
 }
 

@@ -2,6 +2,7 @@
 ghost use Rattle.std.specs.Prelude.{◌≡◌, ◌<◌, ◌≤◌, None, IfOk, OnOk};
 ghost use Rattle.mark_walk.specs.Asks.{IsMarked};
 ghost use Rattle.typed_marks.specs.Items.{stage_number};
+ghost use Rattle.typed_marks.specs.States.{so_far};
 ghost use Rattle.unit_read.specs.Subjects.{unit_of};
 ghost use Rattle.elaborate.specs.Walks.{IsItemOf};
 ghost use Rattle.elaborate.specs.Elaborated.{IsAtWork};
@@ -51,22 +52,24 @@ fn stage_of(number: usize) -> Stage
     }
 }
 
-/// Marks a node at its first stages, so many of the six.
+/// Marks a node at its first stages, so many of the six, of which some are marked.
 fn mark_node<R: Rules>(
     walk: &mut Walk<Item>,
     work: &mut Work<R>,
     block: usize,
     node: usize,
+    marked: usize,
     stages: usize,
 ) -> Result<Option<Item>, NoMemory>
     requires work { IsAtWork work.old.subject.now work.old.state }
     requires node { IsNodeOf (unit_of work.old.subject.now) block node }
+    requires marked { AreStagesMarked block node marked (so_far work.old.state) }
     requires stages { stages ≤ 6 }
     requires rests { IsAtRest (unit_of work.old.subject.now) work.old.state walk.old }
     ensures went { OnOk result (Went R.rule work.old.subject.now work.new.subject.now work.old.state work.new.state) }
     ensures ended { IfOk result (Ended R.rule (unit_of work.old.subject.now) work.new.state walk.new (AreStagesMarked block node stages)) }
 {
-    for number in 0..stages {
+    for number in marked..stages {
         let item = Item {
             stage: stage_of(number),
             block,
@@ -80,24 +83,27 @@ fn mark_node<R: Rules>(
     Ok(None)
 }
 
-/// Marks nodes of a block at their first stages, from this node on and before that. The nodes of a part stand before that of the whole.
+/// Marks nodes of a block at their first stages, of which some are marked, from this node on and before that. The nodes of a part stand
+/// before that of the whole.
 pub fn mark_nodes<R: Rules>(
     walk: &mut Walk<Item>,
     work: &mut Work<R>,
     block: usize,
     low: usize,
     end: usize,
+    marked: usize,
     stages: usize,
 ) -> Result<Option<Item>, NoMemory>
     requires work { IsAtWork work.old.subject.now work.old.state }
     requires nodes { AreNodesOf (unit_of work.old.subject.now) block low end }
+    requires marked { AreStagesOfNodes block low end marked (so_far work.old.state) }
     requires stages { stages ≤ 6 }
     requires rests { IsAtRest (unit_of work.old.subject.now) work.old.state walk.old }
     ensures went { OnOk result (Went R.rule work.old.subject.now work.new.subject.now work.old.state work.new.state) }
     ensures ended { IfOk result (Ended R.rule (unit_of work.old.subject.now) work.new.state walk.new (AreStagesOfNodes block low end stages)) }
 {
     for node in low..end {
-        let circle = mark_node(walk, work, block, node, stages)?;
+        let circle = mark_node(walk, work, block, node, marked, stages)?;
         if let Some(other) = circle {
             return Ok(Some(other));
         }

@@ -7,6 +7,8 @@ ghost use Rattle.typed_marks.specs.States.{so_far};
 ghost use Rattle.unit_read.specs.Subjects.{unit_of};
 ghost use Rattle.rule_words.specs.Scenes.{IsScene, IsTypeOf, type_in};
 ghost use Rattle.rule_words.specs.Declaring.{declaring_in, IsDeclaration};
+ghost use Rattle.rule_words.specs.Steps.{IsStepOf};
+ghost use Rattle.type_answers.specs.Coming.{ComesTo};
 ghost use Rattle.elaborate.specs.Walks.{IsItemOf, is_declaring};
 ghost use Rattle.elaborate.specs.Elaborated.{IsAtWork};
 ghost use Rattle.elaborate.specs.Settling.{StepsAs, StepsBy, IsWholeBy, is_got};
@@ -14,7 +16,7 @@ ghost use Rattle.elaborate.specs.Settling.{StepsAs, StepsBy, IsWholeBy, is_got};
 use crate::rules::Rules;
 use crate::settling::settle;
 use gv_base::NoMemory;
-use rule_words::{Answer, Declaring, declare, keep};
+use rule_words::{Answer, Declaring, Step, declare, keep};
 use std::alloc::Global;
 use type_answers::comparable_at;
 use type_model::{Method, TypeId};
@@ -22,7 +24,36 @@ use type_questions::{Found, Reached};
 use typed_marks::{Item, Mark, State};
 use unit_read::Subject;
 
-/// Marks an item that declares no type, or answers the item for which its rule waits.
+/// Marks an item by what its rule comes to, once the questions that this puts are answered; or answers the item for which it waits.
+#[inline(never)]
+fn settle_by<R: Rules>(
+    alloc: Global,
+    rules: &R,
+    u: &Subject,
+    s: &mut State,
+    item: Item,
+    step: Step,
+) -> Result<Option<Item>, NoMemory>
+    requires work { IsAtWork u.now s.old }
+    requires item { IsItemOf (unit_of u.now) item }
+    requires unmarked { so_far s.old item ≡ None }
+    requires comes { ComesTo u.now s.old (R.rule (unit_of u.now) item) step }
+    requires over { IsStepOf s.old step }
+    ensures work { OnOk result (IsAtWork u.now s.new) }
+    ensures steps { IfOk result (StepsAs u.now s.old s.new item (R.rule (unit_of u.now) item)) }
+{
+    let _ = rules;
+    let found = settle(alloc, u, s, step)?;
+    match found {
+        Found::Wait(other) => Ok(Some(other)),
+        Found::Is(answer) => {
+            keep(u, s, item, answer)?;
+            Ok(None)
+        }
+    }
+}
+
+/// Marks an item that declares no type, or answers the item for which its rule waits. Most rules put no question.
 pub fn judge_by<R: Rules>(
     alloc: Global,
     rules: &R,
@@ -38,12 +69,15 @@ pub fn judge_by<R: Rules>(
     ensures steps { IfOk result (StepsAs u.now s.old s.new item (R.rule (unit_of u.now) item)) }
 {
     let step = rules.judge(alloc, u, s, item)?;
-    let found = settle(alloc, u, s, step)?;
-    match found {
-        Found::Wait(other) => Ok(Some(other)),
-        Found::Is(answer) => {
+    match step {
+        Step::Says(answer) => {
             keep(u, s, item, answer)?;
             Ok(None)
+        }
+        Step::Waits(other) => Ok(Some(other)),
+        Step::Puts(asked, rest) => {
+            let waits = settle_by(alloc, rules, u, s, item, Step::Puts(asked, rest))?;
+            Ok(waits)
         }
     }
 }

@@ -11,7 +11,7 @@ ghost use Rattle.unit_read.specs.Passages.{passages, spans};
 ghost use Rattle.unit_read.specs.Subjects.{unit_of, IsRead};
 ghost use Rattle.elaborate.specs.Walks.{IsItemOf, blocks_of};
 ghost use Rattle.elaborate.specs.Elaborated.{IsAtWork, IsAnnotated, IsInCircle};
-ghost use Rattle.elaborate.specs.Covering.{Went, IsAtRest, Ended, IsElaborated, IsAnything, AreNodesMarked, AreBlocksMarked};
+ghost use Rattle.elaborate.specs.Covering.{Went, IsAtRest, Ended, IsElaborated, IsAnything, AreStagesOfNodes, AreNodesMarked, AreBlocksMarked};
 
 use crate::ahead::{Stretch, mark_ahead};
 use crate::nodes::{NODE_STAGES, STAGES, mark_nodes};
@@ -44,13 +44,13 @@ fn mark_early<R: Rules>(
     requires block { slice_get (blocks_of (unit_of work.old.subject.now)) number ≡ Some block }
     requires rests { IsAtRest (unit_of work.old.subject.now) work.old.state walk.old }
     ensures went { OnOk result (Went R.rule work.old.subject.now work.new.subject.now work.old.state work.new.state) }
-    ensures ended { IfOk result (Ended R.rule (unit_of work.old.subject.now) work.new.state walk.new IsAnything) }
+    ensures ended { IfOk result (Ended R.rule (unit_of work.old.subject.now) work.new.state walk.new (AreStagesOfNodes number block.low block.end 4)) }
 {
-    let circle = mark_nodes(walk, work, number, block.low, block.end, NODE_STAGES)?;
+    let circle = mark_nodes(walk, work, number, block.low, block.end, 0, NODE_STAGES)?;
     Ok(circle)
 }
 
-/// Marks the nodes of a block at each stage.
+/// Marks the nodes of a block, of which the stages of nodes are marked, at each stage.
 fn mark_whole<R: Rules>(
     walk: &mut Walk<Item>,
     work: &mut Work<R>,
@@ -59,11 +59,20 @@ fn mark_whole<R: Rules>(
 ) -> Result<Option<Item>, NoMemory>
     requires work { IsAtWork work.old.subject.now work.old.state }
     requires block { slice_get (blocks_of (unit_of work.old.subject.now)) number ≡ Some block }
+    requires early { AreStagesOfNodes number block.low block.end 4 (so_far work.old.state) }
     requires rests { IsAtRest (unit_of work.old.subject.now) work.old.state walk.old }
     ensures went { OnOk result (Went R.rule work.old.subject.now work.new.subject.now work.old.state work.new.state) }
     ensures ended { IfOk result (Ended R.rule (unit_of work.old.subject.now) work.new.state walk.new (AreNodesMarked number block.low block.end)) }
 {
-    let circle = mark_nodes(walk, work, number, block.low, block.end, STAGES)?;
+    let circle = mark_nodes(
+        walk,
+        work,
+        number,
+        block.low,
+        block.end,
+        NODE_STAGES,
+        STAGES,
+    )?;
     Ok(circle)
 }
 

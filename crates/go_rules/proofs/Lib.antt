@@ -1,3 +1,5 @@
 mod DeclareLemmas
 mod FunctionLemmas
+mod PassingLemmas
 mod ReadLemmas
+mod UseLemmas

@@ -7,3 +7,4 @@ pub mod Slots
 pub mod Stages
 pub mod Statements
 pub mod Types
+pub mod Uses

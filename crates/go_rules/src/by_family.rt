@@ -47,44 +47,17 @@ pub fn judge_by(
     ensures over { IfOk result (IsStepOf s.now) }
 {
     match by {
-        Family::Operand => {
-            let step = judge_op(alloc, u, s, block, at, node, list, w)?;
-            Ok(step)
-        }
-        Family::Primary => {
-            let step = judge_primary(alloc, u, s, block, at, node, list, w)?;
-            Ok(step)
-        }
-        Family::Call => {
-            let step = judge_call(alloc, u, s, block, at, node, list, w)?;
-            Ok(step)
-        }
-        Family::Literal => {
-            let step = judge_literal(alloc, u, s, block, at, node, list, w)?;
-            Ok(step)
-        }
-        Family::Function => {
-            let step = judge_function(alloc, u, s, block, at, node)?;
-            Ok(step)
-        }
-        Family::Type => {
-            let step = judge_type(alloc, u, s, block, at, node, list, w)?;
-            Ok(step)
-        }
+        Family::Operand => judge_op(alloc, u, s, block, at, node, list, w),
+        Family::Primary => judge_primary(alloc, u, s, block, at, node, list, w),
+        Family::Call => judge_call(alloc, u, s, block, at, node, list, w),
+        Family::Literal => judge_literal(alloc, u, s, block, at, node, list, w),
+        Family::Function => judge_function(alloc, u, s, block, at, node),
+        Family::Type => judge_type(alloc, u, s, block, at, node, list, w),
         Family::Variable => Ok(judge_variables(u, s, block, at, node, list, w)),
-        Family::Declaration => {
-            let step = judge_decl(alloc, u, s, block, at, node, list, w)?;
-            Ok(step)
-        }
+        Family::Declaration => judge_decl(alloc, u, s, block, at, node, list, w),
         Family::Statement => Ok(judge_statement(u, s, block, at, node, list, w)),
-        Family::Operation => {
-            let step = judge_operation(alloc, u, s, block, at, node, list, w)?;
-            Ok(step)
-        }
-        Family::Clause => {
-            let step = judge_clause(alloc, u, s, at.file)?;
-            Ok(step)
-        }
+        Family::Operation => judge_operation(alloc, u, s, block, at, node, list, w),
+        Family::Clause => judge_clause(alloc, u, s, at.file),
         Family::Other => Ok(silent()),
     }
 }

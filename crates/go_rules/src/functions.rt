@@ -75,8 +75,7 @@ fn signature_of(
     ensures is { IfOk result (λ step. step_in s.now step ≡ tell (so_far s.now) (signature_rule (unit_of u.now) block (nodes_at (unit_of u.now) at.file) node.now 0)) }
     ensures over { IfOk result (IsStepOf s.now) }
 {
-    let step = judge_signature(alloc, u, s, block, u.nodes_at(at.file), node, 0)?;
-    Ok(step)
+    judge_signature(alloc, u, s, block, u.nodes_at(at.file), node, 0)
 }
 
 /// How far the rule of a function literal goes: it is a value of the type of its signature.

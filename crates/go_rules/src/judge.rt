@@ -36,25 +36,12 @@ fn judge_stage(
     ensures comes { IfOk result (ComesTo u.now s.now (stage_rule stage (unit_of u.now) block at node.now)) }
     ensures over { IfOk result (IsStepOf s.now) }
 {
-    let role = role_at(u, at, node);
     match stage {
-        Stage::Before => {
-            let step = before(alloc, u, s, role, block, at, node)?;
-            Ok(step)
-        }
+        Stage::Before => before(alloc, u, s, role_at(u, at, node), block, at, node),
         Stage::Wanted => Ok(wanted(u, s, block, at)),
-        Stage::Judged => {
-            let step = judged(alloc, u, s, role, block, at, node)?;
-            Ok(step)
-        }
-        Stage::Placed => {
-            let step = placed(alloc, u, s, block, at, node)?;
-            Ok(step)
-        }
-        Stage::Object => {
-            let step = object(alloc, u, s, role, block, at, node)?;
-            Ok(step)
-        }
+        Stage::Judged => judged(alloc, u, s, role_at(u, at, node), block, at, node),
+        Stage::Placed => placed(alloc, u, s, block, at, node),
+        Stage::Object => object(alloc, u, s, role_at(u, at, node), block, at, node),
         Stage::Under => unreachable!(),
     }
 }
@@ -73,10 +60,7 @@ fn judge_at(
     ensures over { IfOk result (IsStepOf s.now) }
 {
     match u.node_at(at) {
-        Some(node) => {
-            let step = judge_stage(alloc, u, s, item.stage, item.block, at, node)?;
-            Ok(step)
-        }
+        Some(node) => judge_stage(alloc, u, s, item.stage, item.block, at, node),
         None => Ok(silent()),
     }
 }
@@ -94,8 +78,7 @@ fn judge_nth(
     ensures comes { IfOk result (ComesTo u.now s.now (nth_rule (unit_of u.now) item file node)) }
     ensures over { IfOk result (IsStepOf s.now) }
 {
-    let step = judge_at(alloc, u, s, item, NodeRef { file, node })?;
-    Ok(step)
+    judge_at(alloc, u, s, item, NodeRef { file, node })
 }
 
 #[tactic(auto, using(type_answers::proofs::ComingLaws::same_comes))]
@@ -106,10 +89,7 @@ fn judge_in(alloc: Global, u: &Subject, s: &State, item: Item, file: u32) -> Res
     ensures over { IfOk result (IsStepOf s.now) }
 {
     match number(item.node) {
-        Some(node) => {
-            let step = judge_nth(alloc, u, s, item, file, node)?;
-            Ok(step)
-        }
+        Some(node) => judge_nth(alloc, u, s, item, file, node),
         None => Ok(silent()),
     }
 }
@@ -123,10 +103,7 @@ pub fn judge_item(alloc: Global, u: &Subject, s: &State, item: Item) -> Result<S
     ensures over { IfOk result (IsStepOf s.now) }
 {
     match u.passage_at(item.block) {
-        Some(passage) => {
-            let step = judge_in(alloc, u, s, item, passage.file)?;
-            Ok(step)
-        }
+        Some(passage) => judge_in(alloc, u, s, item, passage.file),
         None => Ok(silent()),
     }
 }

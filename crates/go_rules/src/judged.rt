@@ -17,10 +17,12 @@ use crate::own::is_own_type;
 use crate::reads::node_reads;
 use crate::role::{Role, clause_for};
 use crate::statements::judge_switched;
+use crate::uses::{free_use, judge_use};
 use decl_rules::declared_name;
 use go_tree::{Node, NodeRef};
 use gv_base::NoMemory;
 use literal_rules::{KeyRole, key_role};
+use package_objects::part_count;
 use rule_words::good::{broken, silent};
 use rule_words::{Seen, Step, Wanted, wanted_by};
 use std::alloc::Global;
@@ -47,8 +49,7 @@ fn from_parts(
     ensures over { IfOk result (IsStepOf s.now) }
 {
     let by = family_of(node.kind);
-    let step = judge_by(alloc, u, s, by, block, at, node, list, w)?;
-    Ok(step)
+    judge_by(alloc, u, s, by, block, at, node, list, w)
 }
 
 /// The parts of a node, as they are read at a stage.
@@ -87,13 +88,36 @@ fn with_parts(
     ensures comes { IfOk result (ComesTo u.now s.now (with_parts (unit_of u.now) stage block at node.now (wanted_of s.now w))) }
     ensures over { IfOk result (IsStepOf s.now) }
 {
+    if part_count(node) == 0 {
+        return from_parts(alloc, u, s, block, at, node, w, &[]);
+    }
     let found = read_parts(alloc, u, s, stage, block, at, node)?;
     match found {
-        Found::Is(list) => {
-            let step = from_parts(alloc, u, s, block, at, node, w, &list)?;
-            Ok(step)
-        }
+        Found::Is(list) => from_parts(alloc, u, s, block, at, node, w, &list),
         Found::Wait(item) => Ok(Step::Waits(item)),
+    }
+}
+
+/// The same, where a use needs no reading of parts.
+#[tactic(auto, using(type_answers::proofs::ComingLaws::same_comes))]
+fn with_use(
+    alloc: Global,
+    u: &Subject,
+    s: &State,
+    stage: Stage,
+    block: usize,
+    at: NodeRef,
+    node: &Node,
+    w: Wanted,
+) -> Result<Step, NoMemory>
+    requires scene { IsScene u.now s.now }
+    requires wanted { IsWantedOf s.now w }
+    ensures comes { IfOk result (ComesTo u.now s.now (with_parts (unit_of u.now) stage block at node.now (wanted_of s.now w))) }
+    ensures over { IfOk result (IsStepOf s.now) }
+{
+    match free_use(u, at, node, w.want) {
+        Some(name) => Ok(judge_use(u, s, name)),
+        None => with_parts(alloc, u, s, stage, block, at, node, w),
     }
 }
 
@@ -118,8 +142,7 @@ fn before_plain(
         demand: Demand::Nothing,
         want: Want::Free,
     };
-    let step = with_parts(alloc, u, s, Stage::Before, block, at, node, nothing)?;
-    Ok(step)
+    with_use(alloc, u, s, Stage::Before, block, at, node, nothing)
 }
 
 #[tactic(auto, using(type_answers::proofs::ComingLaws::same_comes))]
@@ -137,10 +160,7 @@ fn before_in(
 {
     match clause_for(u, at, node) {
         Some(clause) => Ok(judge_switched(u, s, at.file, clause)),
-        None => {
-            let step = before_plain(alloc, u, s, block, at, node)?;
-            Ok(step)
-        }
+        None => before_plain(alloc, u, s, block, at, node),
     }
 }
 
@@ -160,10 +180,7 @@ pub fn before(
     ensures over { IfOk result (IsStepOf s.now) }
 {
     match role {
-        Role::Part => {
-            let step = before_in(alloc, u, s, block, at, node)?;
-            Ok(step)
-        }
+        Role::Part => before_in(alloc, u, s, block, at, node),
         Role::Key => Ok(silent()),
         Role::Declared => Ok(silent()),
         Role::Blank => Ok(silent()),
@@ -190,8 +207,7 @@ fn judged_wanting(
     if is_own_type(u, s, at, node, w) {
         return Ok(broken(NOT_A_TYPE));
     }
-    let step = with_parts(alloc, u, s, Stage::Placed, block, at, node, w)?;
-    Ok(step)
+    with_use(alloc, u, s, Stage::Placed, block, at, node, w)
 }
 
 fn judged_with(
@@ -209,8 +225,7 @@ fn judged_with(
     ensures over { IfOk result (IsStepOf s.now) }
 {
     let w = wanted_by(s, m);
-    let step = judged_wanting(alloc, u, s, block, at, node, w)?;
-    Ok(step)
+    judged_wanting(alloc, u, s, block, at, node, w)
 }
 
 #[tactic(auto, using(type_answers::proofs::ComingLaws::bind_comes, type_answers::proofs::ComingLaws::bind_waits))]
@@ -227,10 +242,7 @@ fn judged_plain(
     ensures over { IfOk result (IsStepOf s.now) }
 {
     match ask_mark(u, s, Stage::Wanted, block, at.node) {
-        Found::Is(m) => {
-            let step = judged_with(alloc, u, s, block, at, node, m)?;
-            Ok(step)
-        }
+        Found::Is(m) => judged_with(alloc, u, s, block, at, node, m),
         Found::Wait(item) => Ok(Step::Waits(item)),
     }
 }
@@ -251,10 +263,7 @@ fn judged_in(
 {
     match clause_for(u, at, node) {
         Some(clause) => Ok(judge_switched(u, s, at.file, clause)),
-        None => {
-            let step = judged_plain(alloc, u, s, block, at, node)?;
-            Ok(step)
-        }
+        None => judged_plain(alloc, u, s, block, at, node),
     }
 }
 
@@ -274,10 +283,7 @@ fn judged_key(
 {
     match key {
         KeyRole::Field => Ok(nothing(s)),
-        KeyRole::Use => {
-            let step = judged_in(alloc, u, s, block, at, node)?;
-            Ok(step)
-        }
+        KeyRole::Use => judged_in(alloc, u, s, block, at, node),
         KeyRole::Unknown => Ok(silent()),
     }
 }
@@ -306,10 +312,7 @@ fn key_judged(
     ensures over { IfOk result (IsStepOf s.now) }
 {
     match key_of(u, s, block, at) {
-        Found::Is(key) => {
-            let step = judged_key(alloc, u, s, block, at, node, key)?;
-            Ok(step)
-        }
+        Found::Is(key) => judged_key(alloc, u, s, block, at, node, key),
         Found::Wait(item) => Ok(Step::Waits(item)),
     }
 }
@@ -330,14 +333,8 @@ pub fn judged(
     ensures over { IfOk result (IsStepOf s.now) }
 {
     match role {
-        Role::Part => {
-            let step = judged_in(alloc, u, s, block, at, node)?;
-            Ok(step)
-        }
-        Role::Key => {
-            let step = key_judged(alloc, u, s, block, at, node)?;
-            Ok(step)
-        }
+        Role::Part => judged_in(alloc, u, s, block, at, node),
+        Role::Key => key_judged(alloc, u, s, block, at, node),
         Role::Declared => Ok(declared_name(u, s, at)),
         Role::Blank => Ok(nothing(s)),
         Role::Untold => Ok(silent()),

@@ -17,6 +17,7 @@ mod reads;
 mod role;
 mod statements;
 mod types;
+mod uses;
 mod wants;
 mod whole;
 

@@ -46,8 +46,7 @@ fn object_beside(
     ensures over { IfOk result (IsStepOf s.now) }
 {
     if is_late(around.kind) {
-        let step = judge_object(alloc, u, s, at)?;
-        Ok(step)
+        judge_object(alloc, u, s, at)
     } else {
         Ok(silent())
     }
@@ -69,10 +68,7 @@ fn object_in_place(
         node: p.around,
     };
     match u.node_at(whole) {
-        Some(around) => {
-            let step = object_beside(alloc, u, s, at, around)?;
-            Ok(step)
-        }
+        Some(around) => object_beside(alloc, u, s, at, around),
         None => Ok(silent()),
     }
 }
@@ -83,10 +79,7 @@ fn object_of_part(alloc: Global, u: &Subject, s: &State, at: NodeRef) -> Result<
     ensures over { IfOk result (IsStepOf s.now) }
 {
     match u.place_at(at) {
-        Some(p) => {
-            let step = object_in_place(alloc, u, s, at, p)?;
-            Ok(step)
-        }
+        Some(p) => object_in_place(alloc, u, s, at, p),
         None => Ok(silent()),
     }
 }
@@ -106,8 +99,7 @@ fn object_of(
     if is_type_clause(node.kind) {
         return Ok(judge_clause_object(u, s, at, node));
     }
-    let step = object_of_part(alloc, u, s, at)?;
-    Ok(step)
+    object_of_part(alloc, u, s, at)
 }
 
 fn object_as(
@@ -123,15 +115,9 @@ fn object_as(
     ensures over { IfOk result (IsStepOf s.now) }
 {
     match role {
-        Role::Part => {
-            let step = object_of(alloc, u, s, at, node)?;
-            Ok(step)
-        }
+        Role::Part => object_of(alloc, u, s, at, node),
         Role::Key => Ok(silent()),
-        Role::Declared => {
-            let step = judge_declared(alloc, u, s, at)?;
-            Ok(step)
-        }
+        Role::Declared => judge_declared(alloc, u, s, at),
         Role::Blank => Ok(silent()),
         Role::Untold => Ok(silent()),
     }
@@ -152,8 +138,7 @@ pub fn object(
     ensures over { IfOk result (IsStepOf s.now) }
 {
     if block == at.file as usize {
-        let step = object_as(alloc, u, s, role, at, node)?;
-        Ok(step)
+        object_as(alloc, u, s, role, at, node)
     } else {
         Ok(silent())
     }

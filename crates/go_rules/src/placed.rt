@@ -38,8 +38,7 @@ fn placed_with(alloc: Global, u: &Subject, s: &State, j: Mark, m: Mark) -> Resul
     ensures over { IfOk result (IsStepOf s.now) }
 {
     let w = wanted_by(s, m);
-    let step = judge_placed(alloc, u, s, w, j)?;
-    Ok(step)
+    judge_placed(alloc, u, s, w, j)
 }
 
 #[tactic(auto, using(type_answers::proofs::ComingLaws::bind_comes, type_answers::proofs::ComingLaws::bind_waits))]
@@ -57,10 +56,7 @@ fn placed_plain(
     ensures over { IfOk result (IsStepOf s.now) }
 {
     match ask_mark(u, s, Stage::Wanted, block, at.node) {
-        Found::Is(m) => {
-            let step = placed_with(alloc, u, s, j, m)?;
-            Ok(step)
-        }
+        Found::Is(m) => placed_with(alloc, u, s, j, m),
         Found::Wait(item) => Ok(Step::Waits(item)),
     }
 }
@@ -93,8 +89,7 @@ fn embedded_good(
     ensures over { IfOk result (IsStepOf s.now) }
 {
     if is_type(x.mode) {
-        let step = judge_element(alloc, u, s, block, at.file, around, p.slot, Mark::Good(x))?;
-        Ok(step)
+        judge_element(alloc, u, s, block, at.file, around, p.slot, Mark::Good(x))
     } else {
         Ok(broken(NOT_A_TYPE))
     }
@@ -116,10 +111,7 @@ fn placed_embedded(
     ensures over { IfOk result (IsStepOf s.now) }
 {
     match j {
-        Mark::Good(x) => {
-            let step = embedded_good(alloc, u, s, block, at, p, around, x)?;
-            Ok(step)
-        }
+        Mark::Good(x) => embedded_good(alloc, u, s, block, at, p, around, x),
         Mark::Bad(rule) => Ok(broken(rule)),
         Mark::Outside(limit) => Ok(beyond(limit)),
         Mark::Silent => Ok(silent()),
@@ -148,11 +140,9 @@ fn placed_argument(
     ensures over { IfOk result (IsStepOf s.now) }
 {
     if is_passed(s, around, p.slot, j) {
-        let step = judge_passed(alloc, u, s, block, around, j)?;
-        return Ok(step);
+        return judge_passed(alloc, u, s, block, around, j);
     }
-    let step = placed_plain(alloc, u, s, block, at, j)?;
-    Ok(step)
+    placed_plain(alloc, u, s, block, at, j)
 }
 
 // ---- one value for several variables
@@ -178,8 +168,7 @@ fn placed_shared(
         let step = judge_shared(alloc, u, s, block, u.nodes_at(at.file), around, j)?;
         return Ok(step);
     }
-    let step = placed_plain(alloc, u, s, block, at, j)?;
-    Ok(step)
+    placed_plain(alloc, u, s, block, at, j)
 }
 
 // ---- statements
@@ -201,8 +190,7 @@ fn stated_good(
     ensures over { IfOk result (IsStepOf s.now) }
 {
     let j = Mark::Good(x);
-    let step = judge_statement_placed(alloc, u, s, block, at.file, p, around, at.node, j, placing)?;
-    Ok(step)
+    judge_statement_placed(alloc, u, s, block, at.file, p, around, at.node, j, placing)
 }
 
 /// A part of a statement that makes more of it than what it wants.
@@ -224,10 +212,7 @@ fn placed_stated(
     ensures over { IfOk result (IsStepOf s.now) }
 {
     match j {
-        Mark::Good(x) => {
-            let step = stated_good(alloc, u, s, block, at, p, around, placing, x)?;
-            Ok(step)
-        }
+        Mark::Good(x) => stated_good(alloc, u, s, block, at, p, around, placing, x),
         Mark::Bad(rule) => Ok(broken(rule)),
         Mark::Outside(limit) => Ok(beyond(limit)),
         Mark::Silent => Ok(silent()),
@@ -249,8 +234,7 @@ fn placed_body(alloc: Global, u: &Subject, s: &State, j: Mark) -> Result<Step, N
         demand: Demand::Nothing,
         want: Want::Free,
     };
-    let step = judge_placed(alloc, u, s, nothing, j)?;
-    Ok(step)
+    judge_placed(alloc, u, s, nothing, j)
 }
 
 // ---- all
@@ -273,30 +257,12 @@ fn placed_as(
     ensures over { IfOk result (IsStepOf s.now) }
 {
     match placing {
-        Placing::Plain => {
-            let step = placed_plain(alloc, u, s, block, at, j)?;
-            Ok(step)
-        }
-        Placing::Embedded => {
-            let step = placed_embedded(alloc, u, s, block, at, p, around, j)?;
-            Ok(step)
-        }
-        Placing::Argument => {
-            let step = placed_argument(alloc, u, s, block, at, p, around, j)?;
-            Ok(step)
-        }
-        Placing::Shared => {
-            let step = placed_shared(alloc, u, s, block, at, p, around, j)?;
-            Ok(step)
-        }
-        Placing::Body => {
-            let step = placed_body(alloc, u, s, j)?;
-            Ok(step)
-        }
-        Placing::Stated(placing) => {
-            let step = placed_stated(alloc, u, s, block, at, p, around, j, placing)?;
-            Ok(step)
-        }
+        Placing::Plain => placed_plain(alloc, u, s, block, at, j),
+        Placing::Embedded => placed_embedded(alloc, u, s, block, at, p, around, j),
+        Placing::Argument => placed_argument(alloc, u, s, block, at, p, around, j),
+        Placing::Shared => placed_shared(alloc, u, s, block, at, p, around, j),
+        Placing::Body => placed_body(alloc, u, s, j),
+        Placing::Stated(placing) => placed_stated(alloc, u, s, block, at, p, around, j, placing),
     }
 }
 
@@ -317,8 +283,7 @@ fn placed_beside(
     ensures over { IfOk result (IsStepOf s.now) }
 {
     let placing = placing_at(u, at, node, p, around);
-    let step = placed_as(alloc, u, s, placing, block, at, p, around, j)?;
-    Ok(step)
+    placed_as(alloc, u, s, placing, block, at, p, around, j)
 }
 
 #[tactic(auto, using(type_answers::proofs::ComingLaws::same_comes))]
@@ -342,14 +307,8 @@ fn placed_at(
         node: p.around,
     };
     match u.node_at(whole) {
-        Some(around) => {
-            let step = placed_beside(alloc, u, s, block, at, node, j, p, around)?;
-            Ok(step)
-        }
-        None => {
-            let step = placed_plain(alloc, u, s, block, at, j)?;
-            Ok(step)
-        }
+        Some(around) => placed_beside(alloc, u, s, block, at, node, j, p, around),
+        None => placed_plain(alloc, u, s, block, at, j),
     }
 }
 
@@ -369,14 +328,8 @@ fn placed_after(
     ensures over { IfOk result (IsStepOf s.now) }
 {
     match u.place_at(at) {
-        Some(p) => {
-            let step = placed_at(alloc, u, s, block, at, node, j, p)?;
-            Ok(step)
-        }
-        None => {
-            let step = placed_plain(alloc, u, s, block, at, j)?;
-            Ok(step)
-        }
+        Some(p) => placed_at(alloc, u, s, block, at, node, j, p),
+        None => placed_plain(alloc, u, s, block, at, j),
     }
 }
 
@@ -395,10 +348,7 @@ pub fn placed(
     ensures over { IfOk result (IsStepOf s.now) }
 {
     match ask_mark(u, s, Stage::Judged, block, at.node) {
-        Found::Is(j) => {
-            let step = placed_after(alloc, u, s, block, at, node, j)?;
-            Ok(step)
-        }
+        Found::Is(j) => placed_after(alloc, u, s, block, at, node, j),
         Found::Wait(item) => Ok(Step::Waits(item)),
     }
 }

@@ -244,6 +244,10 @@ pub fn role_at(u: &Subject, at: NodeRef, node: &Node) -> Role
     requires { IsRead u.now }
     ensures { result ≡ role_at (unit_of u.now) at node.now }
 {
+    // most nodes are no names, and these need no look at their place
+    if !is_name(node.kind) {
+        return Role::Part;
+    }
     match u.place_at(at) {
         Some(p) => role_beside(u, at, node, p),
         None => Role::Part,

@@ -79,8 +79,7 @@ fn declared_in(
     if states_names(around.kind, p.slot) {
         return Ok(stated_object(u, s, name, p, around));
     }
-    let step = judge_object(alloc, u, s, name)?;
-    Ok(step)
+    judge_object(alloc, u, s, name)
 }
 
 fn declared_beside(
@@ -99,10 +98,7 @@ fn declared_beside(
         node: p.around,
     };
     match u.node_at(whole) {
-        Some(around) => {
-            let step = declared_in(alloc, u, s, name, p, around)?;
-            Ok(step)
-        }
+        Some(around) => declared_in(alloc, u, s, name, p, around),
         None => Ok(silent()),
     }
 }
@@ -119,10 +115,7 @@ pub fn judge_declared(
     ensures over { IfOk result (IsStepOf s.now) }
 {
     match u.place_at(name) {
-        Some(p) => {
-            let step = declared_beside(alloc, u, s, name, p)?;
-            Ok(step)
-        }
+        Some(p) => declared_beside(alloc, u, s, name, p),
         None => Ok(silent()),
     }
 }

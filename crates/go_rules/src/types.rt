@@ -40,6 +40,5 @@ pub fn judge_type(
     if is_receiving(u, at, node) {
         return Ok(chan(s, Dir::Receive, part_at(s, parts, 0)));
     }
-    let step = judge_decl(alloc, u, s, block, at, node, parts, w)?;
-    Ok(step)
+    judge_decl(alloc, u, s, block, at, node, parts, w)
 }

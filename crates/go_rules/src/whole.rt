@@ -18,8 +18,7 @@ impl Rules for GoRules {
     ghost rule = { rule };
 
     fn judge(&self, alloc: Global, u: &Subject, s: &State, item: Item) -> Result<Step, NoMemory> {
-        let step = judge_item(alloc, u, s, item)?;
-        Ok(step)
+        judge_item(alloc, u, s, item)
     }
 
     fn declare(

@@ -1,5 +1,5 @@
 -- One step of a walk: what waits, and how often it may still be looked at.
-use Rattle.std.proofs.Common.{◌≡◌, ℕ, zero, suc, ◌+◌, ◌-◌, ◌<◌, ◌≤◌, ◌⊎◌, Bool, true, false, List, [], ◌∷◌, ◌++◌, length, set, slice_get, Option, Some, None, refl, sym, ap, ◌∙◌, subst, inl, inr, arith}
+use Rattle.std.proofs.Common.{◌≡◌, ℕ, zero, suc, ◌+◌, ◌-◌, ◌<◌, ◌≤◌, ◌⊎◌, Bool, true, false, List, [], ◌∷◌, ◌++◌, length, set, slice_get, Option, Some, None, refl, sym, ap, ◌∙◌, subst, inl, inr, arith, option_to_list}
 use Rattle.std.proofs.lemmas.Option.{slice_get_within}
 use Rattle.gv_base.proofs.Lists.{same_some, some_once, got, push_left, push_cases, at_end, get_last, get_set_same, set_cases}
 use Rattle.mark_walk.specs.Asks.{Ask, Awaits, Lasting, Adds, Stays, IsMarked, IsChain, WaitsFor}
@@ -298,6 +298,13 @@ module _ {I M : Type 0} (IsItem : I → Type 0) (number : I → ℕ) (count : �
   } where
     nowhere : (k : ℕ) (x : I) → slice_get [] k ≡ Some x → ⊥
     nowhere k x e = absurd cc
+
+  -- none is left that waits
+  pub none_left : (walk : Walk I) (next : Option I) → next ≡ None → walk.waiting.items ≡ [] → Waits IsItem number count awaits so_far (walk.waiting.items ++ option_to_list next) walk.met.items
+      → Rests IsItem number count so_far walk
+  none_left walk next none idle waits =
+      let same : walk.waiting.items ++ option_to_list next ≡ walk.waiting.items = ap (λ (o : Option I). walk.waiting.items ++ option_to_list o) none ∙ ap (λ (l : List I). l ++ []) idle ∙ sym idle in
+      at_rest walk idle (subst (λ (l : List I). Waits IsItem number count awaits so_far l walk.met.items) same waits)
 
 -- what isn't marked has no mark
 pub not_marked : {I M : Type 0} (so_far : I → Option M) (i : I) (b : Bool) → b ≡ false → (IsMarked so_far i → b ≡ true) → so_far i ≡ None

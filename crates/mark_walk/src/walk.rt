@@ -1,5 +1,5 @@
 //! The walk over items that wait for one another.
-ghost use Rattle.std.specs.Prelude.{◌≡◌, ◌++◌, ◌∷◌, ◌<◌, ◌≤◌, [], ℕ, Some, None, false, true, length, slice_get, replicate, set, OnOk, IfOk};
+ghost use Rattle.std.specs.Prelude.{◌≡◌, ◌++◌, ◌∷◌, ◌<◌, ◌≤◌, [], ℕ, Some, None, false, true, length, option_to_list, slice_get, replicate, set, OnOk, IfOk};
 ghost use Rattle.mark_walk.specs.Asks.{Awaits};
 ghost use Rattle.mark_walk.specs.Marking.{Goes};
 ghost use Rattle.mark_walk.specs.Waiting.{Rests, Waits, Ends, NotesStay, IsCircle, left_to_do};
@@ -120,15 +120,12 @@ fn step<K: Marking>(
     }
 }
 
-/// The first item waits.
-fn begin<I: Copy + Drop>(walk: &mut Walk<I>, item: I, number: usize) -> Result<(), NoMemory>
-    requires { number < length walk.old.met.items }
-    ensures waiting { OnOk result (walk.new.waiting.items ≡ walk.old.waiting.items ++ item ∷ []) }
-    ensures met { OnOk result (walk.new.met.items ≡ set walk.old.met.items number true) }
+/// The last one that waits, which waits no more.
+fn last<I: Copy + Drop>(waiting: &mut Vec<I>) -> Option<I>
+    ensures items { waiting.old.items ≡ waiting.new.items ++ option_to_list result }
+    ensures idle { result ≡ None → waiting.new.items ≡ [] }
 {
-    note(&mut walk.met, number);
-    wait(&mut walk.waiting, item)?;
-    Ok(())
+    waiting.pop()
 }
 
 /// Marks an item, unless it is marked, and what its rule waits for. Each item waits once at most in all that a walk marks.
@@ -149,12 +146,14 @@ pub fn mark<K: Marking>(
     if kit.is_marked(item) {
         return Ok(Walked::Marked);
     }
-    begin(walk, item, kit.number(item))?;
-    while let Some(top) = walk.waiting.pop() {
+    note(&mut walk.met, kit.number(item));
+    let mut next = Some(item);
+    while let Some(top) = next {
         let circle = step(kit, &mut walk.waiting, &mut walk.met, top)?;
         if let Some(other) = circle {
             return Ok(Walked::Circle(other));
         }
+        next = last(&mut walk.waiting);
     }
     Ok(Walked::Marked)
 }

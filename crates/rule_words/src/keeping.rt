@@ -16,8 +16,8 @@ use typed_marks::{Facts, Item, Mark, State};
 use typed_tree::{Limit, Mode};
 use unit_read::Subject;
 
-/// Marks an item with a mark that declares no type.
-fn keep_mark(u: &Subject, s: &mut State, item: Item, mark: Mark) -> Result<(), NoMemory>
+#[inline(always)]
+fn keep_plain(u: &Subject, s: &mut State, item: Item, mark: Mark) -> Result<(), NoMemory>
     requires scene { IsScene u.now s.old }
     requires item { IsItem s.old.blocks.items item }
     requires unmarked { so_far s.old item ≡ None }
@@ -30,6 +30,35 @@ fn keep_mark(u: &Subject, s: &mut State, item: Item, mark: Mark) -> Result<(), N
 {
     s.keep(item, mark)?;
     Ok(())
+}
+
+/// Marks an item with a mark that declares no type. The two kinds of marks that most items have are kept each by code of its own.
+#[inline(always)]
+fn keep_mark(u: &Subject, s: &mut State, item: Item, mark: Mark) -> Result<(), NoMemory>
+    requires scene { IsScene u.now s.old }
+    requires item { IsItem s.old.blocks.items item }
+    requires unmarked { so_far s.old item ≡ None }
+    requires over { IsMarkOf s.old mark }
+    requires plain { is_plain mark ≡ true }
+    ensures scene { OnOk result (IsScene u.now s.new) }
+    ensures adds { OnOk result (Adds (so_far s.old) (so_far s.new) item (said s.old mark)) }
+    ensures blocks { s.new.blocks ≡ s.old.blocks }
+    ensures cells { length s.new.cells.items ≡ length s.old.cells.items }
+{
+    match mark {
+        Mark::Silent => {
+            keep_plain(u, s, item, Mark::Silent)?;
+            Ok(())
+        }
+        Mark::Good(facts) => {
+            keep_plain(u, s, item, Mark::Good(facts))?;
+            Ok(())
+        }
+        mark => {
+            keep_plain(u, s, item, mark)?;
+            Ok(())
+        }
+    }
 }
 
 /// The mark of a type that was added.
@@ -48,6 +77,7 @@ fn mark_of(mode: Mode, added: Added) -> Mark
 }
 
 /// Marks an item as good, of a type that may be new.
+#[inline(never)]
 fn keep_type(u: &Subject, s: &mut State, item: Item, mode: Mode, term: Term) -> Result<(), NoMemory>
     requires scene { IsScene u.now s.old }
     requires item { IsItem s.old.blocks.items item }
@@ -65,6 +95,7 @@ fn keep_type(u: &Subject, s: &mut State, item: Item, mode: Mode, term: Term) -> 
 }
 
 /// Marks an item as a constant.
+#[inline(never)]
 fn keep_constant(
     u: &Subject,
     s: &mut State,
@@ -95,6 +126,7 @@ fn keep_constant(
 }
 
 /// Marks an item that has no mark with what its rule gives.
+#[inline(always)]
 pub fn keep(u: &Subject, s: &mut State, item: Item, answer: Answer) -> Result<(), NoMemory>
     requires scene { IsScene u.now s.old }
     requires item { IsItem s.old.blocks.items item }

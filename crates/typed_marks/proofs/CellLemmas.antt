@@ -1,5 +1,5 @@
 -- Cells: none is filled, one is.
-use Rattle.std.proofs.Common.{◌≡◌, ◌⊎◌, ℕ, zero, suc, ◌+◌, ◌-◌, ◌*◌, ◌≤◌, take, ◌<◌, Bool, true, false, List, [], ◌∷◌, ◌++◌, length, set, slice_get, Option, Some, None, option_map, option_and_then, if◌then◌else◌, refl, sym, ap, ◌∙◌, subst, inl, inr, arith}
+use Rattle.std.proofs.Common.{◌≡◌, ◌⊎◌, ℕ, zero, suc, ◌+◌, ◌-◌, ◌*◌, ◌≤◌, take, ◌<◌, Bool, true, false, List, [], ◌∷◌, ◌++◌, length, set, slice_get, Option, Some, None, option_map, option_and_then, is_some, if◌then◌else◌, refl, sym, ap, ◌∙◌, subst, inl, inr, arith}
 use Rattle.gv_base.specs.declared.constant.Const.{Const}
 use Rattle.gv_base.proofs.Lists.{push_cases, get_set_same, get_set_other, same_some}
 use Rattle.mark_walk.specs.Asks.{Adds, Stays}
@@ -73,6 +73,11 @@ same_or_not a b = elim (order a b) [
 -- what is kept of an item, by whether there is one
 kept_true : (blocks : List Block) (cells : List (Option Mark)) (i : Item) → IsItem blocks i → kept blocks cells i ≡ cell cells (number_of blocks i)
 kept_true blocks cells i is = ap (λ (b : Bool). if b then cell cells (number_of blocks i) else Some Silent) is
+
+-- what is kept of an item is said of it
+pub kept_said : {A B : Type 0} (says : A → B) (o : Option A) (b : Bool) → b ≡ is_some o → (b ≡ true → (m : B) × (option_map says o ≡ Some m)) × (((m : B) × (option_map says o ≡ Some m)) → b ≡ true)
+kept_said says None b e = ((λ t. absurd (let never : false ≡ true = sym e ∙ t in cc)), (λ m. absurd (let never = m.1 in cc)))
+kept_said says (Some a) b e = ((λ t. (says a, refl)), (λ m. e))
 
 -- a mark that is over the tables still when it is set
 pub over_set : (t : TypeTable) (constants : List Const) (cells : List (Option Mark)) (n : ℕ) (mark : Mark) → n < length cells

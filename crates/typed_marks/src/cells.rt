@@ -1,5 +1,5 @@
 //! Cells with marks. Most marks are met again and again and stand once: a cell has the number of its mark.
-ghost use Rattle.std.specs.Prelude.{◌≡◌, ◌<◌, ◌+◌, Some, [], IfOk, OnOk, IsTrue, MatchResult, length, set};
+ghost use Rattle.std.specs.Prelude.{◌≡◌, ◌<◌, ◌+◌, Some, [], IfOk, OnOk, IsTrue, MatchResult, is_some, length, nat_lt, set, slice_get};
 ghost use Rattle.typed_marks.specs.Cells.{cell, filled, AllNone, AreNumbered, Holds};
 
 use crate::mark::Mark;
@@ -25,6 +25,7 @@ fn mark_at(marks: &Vec<Option<Mark>>, number: usize) -> Option<Mark>
 }
 
 /// Whether a mark has this number.
+#[inline(always)]
 fn has_number(marks: &Vec<Option<Mark>>, number: u32, mark: Mark) -> bool
     ensures { IsTrue result → cell marks.now.items number ≡ Some mark }
 {
@@ -35,6 +36,7 @@ fn has_number(marks: &Vec<Option<Mark>>, number: u32, mark: Mark) -> bool
 }
 
 /// One mark more; what would be 2^32 is answered as want of memory.
+#[inline(never)]
 fn add_mark(marks: &mut Vec<Option<Mark>>, mark: Mark) -> Result<u32, NoMemory>
     ensures { MatchResult result (λ number. Holds marks.old.items marks.new.items mark number) (λ _. marks.new.items ≡ marks.old.items) }
 {
@@ -60,6 +62,7 @@ fn remember(recent: &mut Vec<u32>, place: usize, number: u32) {
 }
 
 /// The number of a mark: the one that is remembered of it, or a new one. Nothing but time and memory rests on what is remembered.
+#[inline(always)]
 fn number_for(
     marks: &mut Vec<Option<Mark>>,
     recent: &mut Vec<u32>,
@@ -77,6 +80,19 @@ fn number_for(
     Ok(number)
 }
 
+fn number_at(numbers: &Vec<u32>, place: usize) -> Option<u32>
+    ensures { result ≡ slice_get numbers.now.items place }
+{
+    numbers.get(place).copied()
+}
+
+/// Whether a number is that of a mark.
+fn is_number(number: u32) -> bool
+    ensures { result ≡ nat_lt 0 number }
+{
+    0 < number
+}
+
 fn put(numbers: &mut Vec<u32>, place: usize, number: u32)
     requires { place < length numbers.old.items }
     ensures { numbers.new.items ≡ set numbers.old.items place number }
@@ -84,7 +100,7 @@ fn put(numbers: &mut Vec<u32>, place: usize, number: u32)
     numbers[place] = number;
 }
 
-/// Cells, each with a mark or none. A contract sees what they have. The first of `marks` is none, so that a number of 0 is none;
+/// Cells, each with a mark or none. A contract sees what they have. The first of `marks` is none, and no other is, so that a number of 0 is none;
 /// `recent` has numbers of marks that were met, each at the place that its mark gives.
 #[derive(Drop)]
 pub struct Cells {
@@ -149,7 +165,18 @@ impl Cells {
         }
     }
 
+    /// Whether a cell has a mark.
+    pub fn has(&self, place: usize) -> bool
+        ensures { result ≡ is_some (cell self.now.items place) }
+    {
+        match number_at(&self.numbers, place) {
+            Some(number) => is_number(number),
+            None => false,
+        }
+    }
+
     /// Gives a cell this mark.
+    #[inline(always)]
     pub fn set(&mut self, place: usize, mark: Mark) -> Result<(), NoMemory>
         requires { place < length self.old.items }
         ensures { MatchResult result (λ _. self.new.items ≡ set self.old.items place (Some mark)) (λ _. self.new.items ≡ self.old.items) }

@@ -23,6 +23,7 @@ fn same_wish(a: Demand, of: Want, b: Demand, other: Want) -> bool
 }
 
 /// Whether two marks are the same, of those that many items have; of others false may be answered all the same.
+#[inline(always)]
 pub fn is_same(a: Mark, b: Mark) -> bool
     ensures { IsTrue result → a ≡ b }
 {
@@ -56,6 +57,7 @@ fn of_want(want: Want) -> u32 {
 }
 
 /// A number by which most marks that differ are told apart. Nothing but time and memory rests on it.
+#[inline(always)]
 pub fn spread(mark: Mark) -> u32 {
     match mark {
         Mark::Good(facts) => of_facts(facts),

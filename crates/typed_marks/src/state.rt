@@ -1,5 +1,5 @@
 //! The marks so far, with the types and constants that stand in them.
-ghost use Rattle.std.specs.Prelude.{◌≡◌, ◌<◌, ◌≤◌, ◌+◌, ◌-◌, ◌*◌, ◌++◌, ◌∷◌, [], ℕ, Some, None, false, length, map, option_map, set, slice_get, IfOk, IfSome, OnOk, IsTrue, ◌↔◌};
+ghost use Rattle.std.specs.Prelude.{◌≡◌, ◌<◌, ◌≤◌, ◌+◌, ◌-◌, ◌*◌, ◌++◌, ◌∷◌, [], ℕ, Some, None, false, length, map, option_map, set, slice_get, IfOk, IfSome, OnOk, IsTrue, is_some, ◌↔◌};
 ghost use Rattle.gv_base.specs.declared.constant.Const.{Const};
 ghost use Rattle.mark_walk.specs.Asks.{Adds, Stays, IsMarked};
 ghost use Rattle.type_model.specs.GoTypes.{IsOver, MethodsBelow, DefinedType, is_defined, nodes, type_at, type_of};
@@ -113,6 +113,18 @@ impl State {
         }
     }
 
+    fn is_kept(&self, item: Item) -> bool
+        requires { IsState self.now }
+        ensures { result ≡ is_some (kept self.now.blocks.items self.now.cells.items item) }
+    {
+        if is_item(&self.blocks, item) {
+            self.cells
+                .has(number_of(&self.blocks, item, self.cells.len()))
+        } else {
+            true
+        }
+    }
+
     /// The mark of an item; None exactly where it has none. Of what is no item nothing is said.
     pub fn see(&self, item: Item) -> Option<Mark>
         requires { IsState self.now }
@@ -127,10 +139,11 @@ impl State {
         requires { IsState self.now }
         ensures { IsTrue result ↔ IsMarked (so_far self.now) item }
     {
-        self.see(item).is_some()
+        self.is_kept(item)
     }
 
     /// Marks an item that has no mark.
+    #[inline(always)]
     pub fn keep(&mut self, item: Item, mark: Mark) -> Result<(), NoMemory>
         requires state { IsState self.old }
         requires item { IsItem self.old.blocks.items item }

@@ -5,7 +5,7 @@ use Rattle.rule_words.specs.Asking.{item}
 use Rattle.elaborate.specs.Covering.{AreStagesMarked}
 use Rattle.mark_walk.specs.Asks.{IsMarked}
 use Rattle.elaborate.proofs.WalkLemmas.{went_itself, went_then, stages_still}
-use Rattle.elaborate.proofs.CoverLemmas.{rest_at, rest_from, item_at, early, ended_well, next_stage, stages_to, no_stage}
+use Rattle.elaborate.proofs.CoverLemmas.{rest_at, rest_from, item_at, early, ended_well, next_stage, stages_to}
 use Rattle.elaborate.proofs.nodes.mark_node.Goals as goal
 
 pub loop-number-init : goal.loop-number-init
@@ -14,7 +14,7 @@ loop-number-init g c =
     record {
       went = went_itself g.R.Rules.rule work.subject.now work.state c.requires.work;
       rests = c.requires.rests;
-      marked = no_stage c.args.block c.args.node (so_far work.state);
+      marked = c.requires.marked;
     }
 
 pub mark_one-requires-clause-work : goal.mark_one-requires-clause-work

@@ -2,7 +2,7 @@ use Rattle.std.proofs.Common.{arith}
 use Rattle.typed_marks.specs.States.{so_far}
 use Rattle.unit_read.specs.Subjects.{unit_of}
 use Rattle.elaborate.specs.Covering.{AreStagesMarked, AreStagesOfNodes}
-use Rattle.elaborate.proofs.WalkLemmas.{went_itself, went_then, staged_still}
+use Rattle.elaborate.proofs.WalkLemmas.{went_itself, went_then, stages_still, staged_still}
 use Rattle.elaborate.proofs.CoverLemmas.{rest_at, rest_from, node_at, early, ended_well, next_staged, staged_to, none_staged}
 use Rattle.elaborate.proofs.nodes.mark_nodes.Goals as goal
 
@@ -22,6 +22,11 @@ pub mark_node-requires-clause-node : goal.mark_node-requires-clause-node
 mark_node-requires-clause-node g c =
     node_at (unit_of c.args.work.now.subject.now) (unit_of c.loop-node.work.subject.now) c.args.block c.loop-node.node c.loop-node.invariant.went.unit
     (c.requires.nodes c.loop-node.node (omega arith) (omega arith))
+
+pub mark_node-requires-clause-marked : goal.mark_node-requires-clause-marked
+mark_node-requires-clause-marked g c =
+    stages_still c.args.block c.loop-node.node c.args.marked (so_far c.args.work.now.state) (so_far c.loop-node.work.state) c.loop-node.invariant.went.goes.keeps
+    (c.requires.marked c.loop-node.node (omega arith) (omega arith))
 
 pub mark_node-requires-clause-rests : goal.mark_node-requires-clause-rests
 mark_node-requires-clause-rests g c =

@@ -2,7 +2,7 @@ use Rattle.std.proofs.Common.{◌≡◌, ◌∙◌, refl, ap, slice_get}
 use Rattle.unit_read.specs.Units.{Unit}
 use Rattle.unit_read.specs.Subjects.{unit_of}
 use Rattle.elaborate.specs.Walks.{blocks_of}
-use Rattle.elaborate.specs.Covering.{IsAnything, AreNodesMarked}
+use Rattle.elaborate.specs.Covering.{AreStagesOfNodes, AreNodesMarked}
 use Rattle.elaborate.proofs.WalkLemmas.{went_then, ended_for}
 use Rattle.elaborate.proofs.CoverLemmas.{early, rest_at}
 use Rattle.elaborate.proofs.whole.mark_block.Goals as goal
@@ -13,6 +13,9 @@ mark_whole-requires-clause-work g c = c.in_ok-early.ensures.went.work
 pub mark_whole-requires-clause-block : goal.mark_whole-requires-clause-block
 mark_whole-requires-clause-block g c = ap (λ (u : Unit). slice_get (blocks_of u) c.args.number) c.in_ok-early.ensures.went.unit ∙ c.requires.block
 
+pub mark_whole-requires-clause-early : goal.mark_whole-requires-clause-early
+mark_whole-requires-clause-early g c = c.in_ok-early.ensures.ended.marked c.in_default.is
+
 pub mark_whole-requires-clause-rests : goal.mark_whole-requires-clause-rests
 mark_whole-requires-clause-rests g c =
     let now = c.mark_early.new in
@@ -21,7 +24,7 @@ mark_whole-requires-clause-rests g c =
 pub returns-in-Some-clause-ended : goal.returns-in-Some-clause-ended
 returns-in-Some-clause-ended g c =
     let now = c.mark_early.new in
-    early g.R.Rules.rule (unit_of c.args.work.now.subject.now) (unit_of c.args.work.now.subject.now) now.work.state now.walk IsAnything (AreNodesMarked c.args.number c.args.block.low c.args.block.end)
+    early g.R.Rules.rule (unit_of c.args.work.now.subject.now) (unit_of c.args.work.now.subject.now) now.work.state now.walk (AreStagesOfNodes c.args.number c.args.block.low c.args.block.end 4) (AreNodesMarked c.args.number c.args.block.low c.args.block.end)
     c.in_ok-early.early c.in-Some.other refl c.in-Some.is c.in_ok-early.ensures.ended
 
 pub returns-clause-went : goal.returns-clause-went

@@ -9,6 +9,9 @@ use Rattle.elaborate.proofs.whole.mark_whole.Goals as goal
 pub mark_nodes-requires-clause-nodes : goal.mark_nodes-requires-clause-nodes
 mark_nodes-requires-clause-nodes g c = nodes_in (unit_of c.args.work.now.subject.now) c.args.number c.args.block c.requires.block
 
+pub mark_nodes-requires-clause-marked : goal.mark_nodes-requires-clause-marked
+mark_nodes-requires-clause-marked g c = c.requires.early
+
 pub returns-clause-ended : goal.returns-clause-ended
 returns-clause-ended g c =
     let next = c.mark_nodes.new in

@@ -1,30 +1,63 @@
-use Rattle.std.proofs.Common.{refl, ◌∙◌, subst, ap, set, true}
+use Rattle.std.proofs.Common.{◌++◌, ◌∷◌, [], refl, sym, ◌∙◌, subst, ap, set, true, option_to_list, Option}
 use Rattle.mark_walk.specs.Asks.{Awaits, WaitsFor}
-use Rattle.mark_walk.proofs.AskLaws.{goes_itself}
+use Rattle.mark_walk.specs.Marking.{Goes}
+use Rattle.mark_walk.specs.Waiting.{Waits}
+use Rattle.mark_walk.proofs.AskLaws.{goes_itself, goes_then}
 use Rattle.mark_walk.proofs.WaitLemmas.{first_waits, first_noted, not_marked, circle_of}
 use Rattle.mark_walk.proofs.walk.mark.Goals as goal
 
-pub loop-top-init : goal.loop-top-init
-loop-top-init g c =
+pub loop-next-init : goal.loop-next-init
+loop-next-init g c =
     let k = g.K.Marking in
     let kit = c.args.kit.now in
     let s = k.subject kit in
     let walk = c.args.walk.now in
     let none = not_marked (k.so_far kit) c.args.item c.is_marked.result c.if-is_marked.false c.is_marked.ensures.1 in
-    let met = c.in_ok-begin.ensures.met ∙ ap (λ n. set walk.met.items n true) c.number.ensures in
+    let met = c.note.ensures ∙ ap (λ n. set walk.met.items n true) c.number.ensures in
     record {
       state = c.requires.state;
       subject = refl;
       goes = goes_itself (k.says s) (k.rule s) (k.so_far kit);
       waits = first_waits (k.IsItem s) (k.number s) (k.count s) (k.numbers s) (λ x. Awaits (k.says s) (k.pends s) (k.so_far kit) (k.rule s x)) (k.so_far kit) walk c.args.item c.requires.rests c.requires.item none
-          c.begin.new.walk.waiting.items c.in_ok-begin.ensures.waiting c.begin.new.walk.met.items met;
+          (walk.waiting.items ++ c.args.item ∷ []) refl c.note.new.met.items met;
+      idle = λ never. absurd cc;
       noted = first_noted (k.IsItem s) (k.number s) (k.count s) (k.numbers s) (λ x. Awaits (k.says s) (k.pends s) (k.so_far kit) (k.rule s x)) (k.so_far kit) walk c.args.item c.requires.rests c.requires.item
-          c.begin.new.walk.met.items met;
+          c.note.new.met.items met;
+    }
+
+pub step-requires-clause-waits : goal.step-requires-clause-waits
+step-requires-clause-waits g c =
+    let k = g.K.Marking in
+    let kit = c.loop-next.kit in
+    let was = c.loop-next.invariant in
+    let s = k.subject kit in
+    let here = subst (λ (x : k.Subject). Waits (k.IsItem x) (k.number x) (k.count x) (λ y. Awaits (k.says x) (k.pends x) (k.so_far kit) (k.rule x y)) (k.so_far kit)
+    (c.loop-next.walk.waiting.items ++ option_to_list c.loop-next.next) c.loop-next.walk.met.items) (sym was.subject) was.waits in
+    subst (λ (o : Option _). Waits (k.IsItem s) (k.number s) (k.count s) (λ y. Awaits (k.says s) (k.pends s) (k.so_far kit) (k.rule s y)) (k.so_far kit)
+    (c.loop-next.walk.waiting.items ++ option_to_list o) c.loop-next.walk.met.items) c.in-Some.is here
+
+pub loop-next-preserved : goal.loop-next-preserved
+loop-next-preserved g c =
+    let k = g.K.Marking in
+    let s = k.subject c.args.kit.now in
+    let was = c.loop-next.invariant in
+    let made = c.in_ok-circle.ensures in
+    let so = k.so_far c.loop-next.kit in
+    let next = k.so_far c.step.new.kit in
+    let waits = subst (λ (x : k.Subject). Waits (k.IsItem x) (k.number x) (k.count x) (λ y. Awaits (k.says x) (k.pends x) next (k.rule x y)) next c.step.new.waiting.items c.step.new.met.items)
+    was.subject (made.waits c.in_default-circle.is) in
+    record {
+      state = made.state;
+      subject = made.subject ∙ was.subject;
+      goes = goes_then (k.says s) (k.rule s) (k.so_far c.args.kit.now) so next was.goes (subst (λ (x : k.Subject). Goes (k.says x) (k.rule x) so next) was.subject made.goes);
+      waits = subst (λ l. Waits (k.IsItem s) (k.number s) (k.count s) (λ y. Awaits (k.says s) (k.pends s) next (k.rule s y)) next l c.step.new.met.items) c.last-next.ensures.items waits;
+      idle = c.last-next.ensures.idle;
+      noted = made.notes c.in_default-circle.is (k.number s c.args.item) was.noted;
     }
 
 pub returns-in-Some-circle-clause-ends : goal.returns-in-Some-circle-clause-ends
 returns-in-Some-circle-clause-ends g c =
     let k = g.K.Marking in
-    let at = k.subject c.loop-top.kit in
+    let at = k.subject c.loop-next.kit in
     let made = circle_of (λ x. Awaits (k.says at) (k.pends at) (k.so_far c.step.new.kit) (k.rule at x)) c.in_ok-circle.circle c.in-Some-circle.other c.in-Some-circle.is c.in_ok-circle.ensures.circle in
-    subst (λ (s : k.Subject). WaitsFor (λ x. Awaits (k.says s) (k.pends s) (k.so_far c.step.new.kit) (k.rule s x)) c.in-Some-circle.other c.in-Some-circle.other) c.loop-top.invariant.subject made
+    subst (λ (s : k.Subject). WaitsFor (λ x. Awaits (k.says s) (k.pends s) (k.so_far c.step.new.kit) (k.rule s x)) c.in-Some-circle.other c.in-Some-circle.other) c.loop-next.invariant.subject made

@@ -1,5 +1,5 @@
 use Rattle.rule_words.proofs.KeepLemmas.{kept_scene}
-use Rattle.rule_words.proofs.keeping.keep_mark.Goals as goal
+use Rattle.rule_words.proofs.keeping.keep_plain.Goals as goal
 
 pub returns-clause-scene : goal.returns-clause-scene
 returns-clause-scene c =
