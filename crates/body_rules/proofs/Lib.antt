@@ -4,3 +4,5 @@ pub mod BranchLemmas
 pub mod FileLemmas
 pub mod ViewLemmas
 pub mod StrayLemmas
+pub mod KindLemmas
+pub mod AskedLemmas

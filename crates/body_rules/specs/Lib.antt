@@ -8,3 +8,4 @@ pub mod Hands
 pub mod Given
 pub mod Files
 pub mod Views
+pub mod Asked

@@ -3,7 +3,9 @@ use Rattle.std.specs.Prelude.{ℕ, ◌≡◌, Bool, List, length}
 use Rattle.std.specs.List.{Contains}
 use Rattle.node_values.specs.Parents.{AreParents}
 use Rattle.node_values.specs.Ranges.{starts}
-use Rattle.node_values.specs.Trees.{AreInnermost}
+use Rattle.go_tree.specs.declared.tree.Node.{Node}
+use Rattle.go_tree.specs.declared.tree.NodeKind.{NodeKind}
+use Rattle.node_values.specs.Trees.{IsOfKind, AreInnermost}
 use Rattle.body_rules.specs.declared.branches.Branch.TheVariants as w
 use Rattle.body_rules.specs.declared.endings.Ending.{Ending}
 use Rattle.body_rules.specs.declared.file.File.{File}
@@ -15,7 +17,7 @@ use Rattle.late_list.specs.declared.late.LateRule.{LateRule}
 use Rattle.body_rules.specs.Files.{IsFile, AreRead, IsFaultIn, node_count}
 use Rattle.body_rules.specs.Given.{Given, given}
 use Rattle.body_rules.specs.Hands.{AreClauseEnds}
-use Rattle.body_rules.specs.Kinds.{is_block}
+use Rattle.body_rules.specs.Kinds.{is_block, is_goto, is_fall}
 use Rattle.body_rules.specs.Latest.{AreLatest}
 
 -- how each node of the file ends
@@ -24,17 +26,21 @@ pub record AreEndings (f : Given) (found : List Ending) : Type 0 where
   pub are_left : AreLeft f.nodes f.labels left
   pub same : found ≡ endings (flag_of left) (flag_of f.panics) f.nodes
 
--- what a view holds is right
+-- what is so where some node is of such a kind
+abbrev pub IfAny : (NodeKind → Bool) → List Node → Type 0 → Type 0
+IfAny kinds nodes P = (n : ℕ) → IsOfKind kinds nodes n → P
+
+-- What a view holds is right. What only a `goto` or a `fallthrough` asks for is there where there is one.
 pub record IsRead (v : View) : Type 0 where
   pub file : IsFile (given v.file.now)
   pub parents : AreParents v.file.now.nodes.now (length v.file.now.nodes.now) v.parents.items
   pub begins : v.begins.items ≡ starts v.file.now.nodes.now
-  pub blocks : AreInnermost is_block v.file.now.nodes.now v.blocks.items
+  pub blocks : IfAny is_goto v.file.now.nodes.now (AreInnermost is_block v.file.now.nodes.now v.blocks.items)
   pub breaks : AreInnermost (stops w.Break) v.file.now.nodes.now v.breaks.items
   pub continues : AreInnermost (stops w.Continue) v.file.now.nodes.now v.continues.items
-  pub latest : AreLatest v.file.now.nodes.now v.blocks.items (length v.file.now.nodes.now) v.latest.items
+  pub latest : IfAny is_goto v.file.now.nodes.now (AreLatest v.file.now.nodes.now v.blocks.items (length v.file.now.nodes.now) v.latest.items)
   pub endings : AreEndings (given v.file.now) v.endings.items
-  pub clause_ends : AreClauseEnds v.file.now.nodes.now v.clause_ends.items
+  pub clause_ends : IfAny is_fall v.file.now.nodes.now (AreClauseEnds v.file.now.nodes.now v.clause_ends.items)
   pub read : AreRead (given v.file.now) v.read.items
 
 -- each view is right and of one of the files, and each file has one

@@ -67,16 +67,25 @@ fn stops(which: Branch, kind: NodeKind) -> bool
     can_leave(which, kind)
 }
 
-#[derive(Clone, Copy, Drop)]
-struct Round {
-    which: Branch,
-}
+/// What a `break` leaves, and functions.
+struct Breaks;
 
-impl Stops for Round {
-    ghost kinds = { λ s. stops s.which };
+impl Stops for Breaks {
+    ghost kinds = { λ s. stops w.Break };
 
     fn is_one(&self, kind: NodeKind) -> bool {
-        stops(self.which, kind)
+        stops(Branch::Break, kind)
+    }
+}
+
+/// What a `continue` goes on with, and functions.
+struct Continues;
+
+impl Stops for Continues {
+    ghost kinds = { λ s. stops w.Continue };
+
+    fn is_one(&self, kind: NodeKind) -> bool {
+        stops(Branch::Continue, kind)
     }
 }
 
@@ -91,8 +100,16 @@ pub(crate) fn nearest_of(
     requires parents { AreParents nodes.now (length nodes.now) parents.now }
     ensures { IfOk result (λ found. AreInnermost (stops which) nodes.now found.items) }
 {
-    let found = innermost(alloc, &Round { which }, nodes, parents)?;
-    Ok(found)
+    match which {
+        Branch::Break => {
+            let found = innermost(alloc, &Breaks, nodes, parents)?;
+            Ok(found)
+        }
+        Branch::Continue => {
+            let found = innermost(alloc, &Continues, nodes, parents)?;
+            Ok(found)
+        }
+    }
 }
 
 /// A node that such a word can leave.

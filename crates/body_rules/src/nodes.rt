@@ -2,6 +2,7 @@
 ghost use Rattle.std.specs.Prelude.{◌≡◌, ◌<◌, ◌&&◌, ℕ, Bool, true, not, cond, nat_lt, Option, Some, None, length, get_or, slice_get, option_and_then};
 ghost use Rattle.std.specs.Option.{option_map_or};
 ghost use Rattle.go_tree.specs.declared.tree.Node.{Node};
+ghost use Rattle.body_rules.specs.Asked.{acts, acts_at};
 ghost use Rattle.body_rules.specs.Branches.{branch_of};
 ghost use Rattle.body_rules.specs.Endings.{kind_of, from_last};
 ghost use Rattle.body_rules.specs.Files.{goto_label, is_none, lacks_label, is_undefined, branch_at, bare_parts, is_nil, has_none, returns_by, body_of, falls_at, brace_of};
@@ -103,6 +104,29 @@ pub(crate) fn falls_at(f: &File, n: usize) -> bool
 {
     match f.nodes.get(n) {
         Some(node) => is_fall(node.kind),
+        None => false,
+    }
+}
+
+/// A function, a jump or a `fallthrough`.
+fn acts(kind: NodeKind) -> bool
+    ensures { result ≡ acts kind }
+{
+    if is_function(kind) {
+        return true;
+    }
+    if is_jump(kind) {
+        return true;
+    }
+    is_fall(kind)
+}
+
+/// Whether a node is one of these.
+pub(crate) fn acts_at(f: &File, n: usize) -> bool
+    ensures { result ≡ acts_at (given f.now) n }
+{
+    match f.nodes.get(n) {
+        Some(node) => acts(node.kind),
         None => false,
     }
 }

@@ -1,9 +1,12 @@
 //! The late rules of bodies, each as a test of a node.
-ghost use Rattle.std.specs.Prelude.{◌≡◌, ◌<◌, ◌↔◌, ℕ, IsTrue, Option, length};
+ghost use Rattle.std.specs.Prelude.{◌≡◌, ◌<◌, ◌↔◌, ℕ, IsTrue, false, Option, length};
 ghost use Rattle.node_values.specs.Flagged.{IsOnly};
 ghost use Rattle.node_values.specs.Trees.{AreInnermost};
 ghost use Rattle.late_list.specs.Late.{IsAnswer};
+ghost use Rattle.late_list.specs.declared.late.LateRule.{LateRule};
 ghost use Rattle.late_list.specs.declared.late.LateRule.TheVariants as r;
+ghost use Rattle.gv_base.specs.declared.place.Place.{Place};
+ghost use Rattle.body_rules.specs.Asked.{acts_at, is_marked, is_asked};
 ghost use Rattle.body_rules.specs.Branches.{stops, Leaves};
 ghost use Rattle.body_rules.specs.Endings.{flag_of};
 ghost use Rattle.body_rules.specs.Files.{GoesOver, GoesInto, IsStray, IsUnfinished, IsMisplacedFall, IsUnused, IsFaultIn};
@@ -12,9 +15,9 @@ ghost use Rattle.body_rules.specs.Views.{IsRead};
 
 use crate::branches::{Branch, Jumping, left_of};
 use crate::endings::{ending_at, flag_at, is_closed};
-use crate::file::{name_of, place_if, place_of};
+use crate::file::{File, name_of, place_if, place_of};
 use crate::jumps::{jumps_into, jumps_over};
-use crate::nodes::{body_of, brace_of, branch_at, falls_at, goto_label, is_undefined};
+use crate::nodes::{acts_at, body_of, brace_of, branch_at, falls_at, goto_label, is_undefined};
 use crate::view::View;
 use gv_base::Place;
 use late_list::{Finds, LateRule};
@@ -218,6 +221,39 @@ fn find(v: &View, rule: LateRule, n: usize) -> Option<Place>
     }
 }
 
+// ---- of which nodes rules are asked
+
+fn is_marked(f: &File, n: usize) -> bool
+    ensures { result ≡ is_marked (given f.now) n }
+{
+    if flag_at(f.repeated, n) {
+        return true;
+    }
+    if flag_at(f.unused, n) {
+        return true;
+    }
+    if flag_at(f.shadowed, n) {
+        return true;
+    }
+    flag_at(f.variables, n)
+}
+
+fn is_asked(f: &File, n: usize) -> bool
+    ensures { result ≡ is_asked (given f.now) n }
+{
+    if acts_at(f, n) {
+        return true;
+    }
+    is_marked(f, n)
+}
+
+/// Whether some rule may find a fault of a node.
+fn may_fail(v: &View, n: usize) -> bool
+    ensures { result ≡ false → (rule : LateRule) → (place : Place) → IsFaultIn (given v.now.file.now) rule n place → ⊥ }
+{
+    is_asked(v.file, n)
+}
+
 impl<'a> Finds for View<'a> {
     ghost IsState = { λ v. IsRead v };
 
@@ -227,6 +263,10 @@ impl<'a> Finds for View<'a> {
 
     fn count(&self) -> usize {
         self.file.nodes.len()
+    }
+
+    fn is_asked(&self, n: usize) -> bool {
+        may_fail(self, n)
     }
 
     fn find(&self, rule: LateRule, n: usize) -> Option<Place> {

@@ -1,22 +1,24 @@
 //! What is read of a file before its rules are asked.
-ghost use Rattle.std.specs.Prelude.{◌≡◌, ◌<◌, ℕ, Bool, true, IfOk, IsTrue, Option, length, get_or};
+ghost use Rattle.std.specs.Prelude.{◌≡◌, ◌<◌, ◌≤◌, ◌^◌, ℕ, Bool, true, false, IfOk, IsTrue, Option, length, get_or};
 ghost use Rattle.node_values.specs.Parents.{AreParents};
 ghost use Rattle.node_values.specs.Ranges.{starts};
-ghost use Rattle.node_values.specs.Trees.{AreInnermost};
+ghost use Rattle.node_values.specs.Trees.{IsTree, IsOfKind, AreInnermost};
 ghost use Rattle.body_rules.specs.declared.branches.Branch.TheVariants as w;
 ghost use Rattle.body_rules.specs.Branches.{stops};
 ghost use Rattle.body_rules.specs.Files.{IsFile, Reads, AreRead};
 ghost use Rattle.body_rules.specs.Given.{given};
-ghost use Rattle.body_rules.specs.Kinds.{is_block};
-ghost use Rattle.body_rules.specs.Views.{AreEndings, IsRead};
+ghost use Rattle.body_rules.specs.Hands.{AreClauseEnds};
+ghost use Rattle.body_rules.specs.Kinds.{is_block, is_goto, is_fall};
+ghost use Rattle.body_rules.specs.Latest.{AreLatest};
+ghost use Rattle.body_rules.specs.Views.{AreEndings, IfAny, IsRead};
 
 use crate::branches::{Branch, Jumping, left_flags, nearest_of};
 use crate::endings::{Ending, Endings, endings_of, flag_at};
 use crate::file::File;
 use crate::hands::{alone_of, clause_ends};
-use crate::kinds::is_block;
+use crate::kinds::{is_block, is_fall, is_goto};
 use crate::latest::{latest_of, number_at};
-use go_tree::NodeKind;
+use go_tree::{Node, NodeKind};
 use gv_base::NoMemory;
 use node_values::{Stops, Targets, flag_targets, innermost, parents_of, starts_of};
 use std::alloc::Global;
@@ -86,6 +88,76 @@ impl Stops for Blocks {
     }
 }
 
+/// Whether there is a `goto`.
+fn has_goto(nodes: &[Node]) -> bool
+    ensures { result ≡ false → (n : ℕ) → IsOfKind is_goto nodes.now n → ⊥ }
+{
+    for n in 0..nodes.len() {
+        if is_goto(nodes[n].kind) {
+            return true;
+        }
+    }
+    false
+}
+
+/// Whether there is a `fallthrough`.
+fn has_fall(nodes: &[Node]) -> bool
+    ensures { result ≡ false → (n : ℕ) → IsOfKind is_fall nodes.now n → ⊥ }
+{
+    for n in 0..nodes.len() {
+        if is_fall(nodes[n].kind) {
+            return true;
+        }
+    }
+    false
+}
+
+/// The innermost block that holds each node, if there is a `goto` that asks for it.
+fn blocks_in(
+    alloc: Global,
+    nodes: &[Node],
+    parents: &[usize],
+) -> Result<Vec<Option<usize>>, NoMemory>
+    requires tree { IsTree nodes.now }
+    requires parents { AreParents nodes.now (length nodes.now) parents.now }
+    ensures { IfOk result (λ found. IfAny is_goto nodes.now (AreInnermost is_block nodes.now found.items)) }
+{
+    if !has_goto(nodes) {
+        return Ok(Vec::new(alloc));
+    }
+    let found = innermost(alloc, &Blocks, nodes, parents)?;
+    Ok(found)
+}
+
+/// The last declaration of variables before each node, in its block, likewise.
+fn latest_in(
+    alloc: Global,
+    nodes: &[Node],
+    blocks: &[Option<usize>],
+) -> Result<Vec<Option<usize>>, NoMemory>
+    requires few { length nodes.now ≤ 2 ^ 32 }
+    ensures { IfOk result (λ found. IfAny is_goto nodes.now (AreLatest nodes.now blocks.now (length nodes.now) found.items)) }
+{
+    if !has_goto(nodes) {
+        return Ok(Vec::new(alloc));
+    }
+    let found = latest_of(alloc, nodes, blocks)?;
+    Ok(found)
+}
+
+/// Where a `fallthrough` may stand, if there is one.
+fn clause_ends_in(alloc: Global, nodes: &[Node], parents: &[usize]) -> Result<Vec<bool>, NoMemory>
+    requires tree { IsTree nodes.now }
+    requires parents { AreParents nodes.now (length nodes.now) parents.now }
+    ensures { IfOk result (λ found. IfAny is_fall nodes.now (AreClauseEnds nodes.now found.items)) }
+{
+    if !has_fall(nodes) {
+        return Ok(Vec::new(alloc));
+    }
+    let found = clause_ends(alloc, nodes, parents)?;
+    Ok(found)
+}
+
 fn endings_in(
     alloc: Global,
     f: &File,
@@ -124,12 +196,12 @@ pub(crate) fn view_of<'a>(alloc: Global, f: &'a File<'a>) -> Result<View<'a>, No
 {
     let parents = parents_of(alloc, f.nodes)?;
     let begins = starts_of(alloc, f.nodes)?;
-    let blocks = innermost(alloc, &Blocks, f.nodes, &parents)?;
+    let blocks = blocks_in(alloc, f.nodes, &parents)?;
     let breaks = nearest_of(alloc, Branch::Break, f.nodes, &parents)?;
     let continues = nearest_of(alloc, Branch::Continue, f.nodes, &parents)?;
-    let latest = latest_of(alloc, f.nodes, &blocks)?;
+    let latest = latest_in(alloc, f.nodes, &blocks)?;
     let endings = endings_in(alloc, f, &parents, &begins, &breaks)?;
-    let clause_ends = clause_ends(alloc, f.nodes, &parents)?;
+    let clause_ends = clause_ends_in(alloc, f.nodes, &parents)?;
     let read = read_in(alloc, f, &parents)?;
     Ok(View {
         file: f,

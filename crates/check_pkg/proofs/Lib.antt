@@ -10,6 +10,9 @@ pub mod NameLemmas
 pub mod UsedLemmas
 pub mod ImportLemmas
 pub mod ReferenceLemmas
+pub mod FirstLemmas
+pub mod NamedLemmas
+pub mod LeadingLemmas
 pub mod InitialLemmas
 pub mod LateLemmas
 pub mod BodyLemmas

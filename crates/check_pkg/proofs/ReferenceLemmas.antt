@@ -1,5 +1,5 @@
 -- What nodes refer to, by tables of rows.
-use Rattle.std.proofs.Common.{◌≡◌, ◌⊎◌, ◌↔◌, Bool, true, false, if◌then◌else◌, List, length, Option, Some, None, refl, sym, ap, ◌∙◌, inl, inr}
+use Rattle.std.proofs.Common.{◌≡◌, ◌⊎◌, ◌↔◌, Bool, true, false, if◌then◌else◌, not, List, length, Option, Some, None, refl, sym, ap, ◌∙◌, inl, inr}
 use Rattle.std.proofs.Math.Path.{fun_ext}
 use Rattle.std.specs.Option.{option_or}
 use Rattle.std.specs.Global.{Vec}
@@ -91,3 +91,20 @@ same_option P (Some v) b p q = sym ((q v).1 ((p v).0 refl))
 -- there is one answer
 pub one_meant : (u : Unit) (marks : Item → Meaning) (a b : NodeRef → Option NodeRef) → AreReferences u marks a → AreReferences u marks b → a ≡ b
 one_meant u marks a b p q = fun_ext (λ (at : NodeRef). same_option (IsReference u marks at) (a at) (b at) (p at) (q at))
+
+-- ---- a name where it counts
+
+pub kept_if : (b c : Bool) (o : Option NodeRef) (name : NodeRef) → b ≡ c → o ≡ Some name → (if b then Some name else None) ≡ (if c then o else None)
+kept_if b c o name same is = ap (λ (x : Option NodeRef). if b then x else None) (sym is) ∙ ap (λ (x : Bool). if x then o else None) same
+
+pub none_if : (c : Bool) (o : Option NodeRef) → o ≡ None → None ≡ (if c then o else None)
+none_if true o is = sym is
+none_if false o is = refl
+
+pub kept_unless : (b c : Bool) (o : Option NodeRef) (name : NodeRef) → b ≡ not c → o ≡ Some name → (if b then Some name else None) ≡ (if c then None else o)
+kept_unless b true o name same is = ap (λ (x : Bool). if x then Some name else None) same
+kept_unless b false o name same is = ap (λ (x : Bool). if x then Some name else None) same ∙ sym is
+
+pub none_unless : (c : Bool) (o : Option NodeRef) → o ≡ None → None ≡ (if c then None else o)
+none_unless true o is = refl
+none_unless false o is = sym is

@@ -14,6 +14,7 @@ pub mod Exports
 pub mod Readings
 pub mod References
 pub mod Initial
+pub mod Leading
 pub mod InBodies
 pub mod Late
 pub mod Typings

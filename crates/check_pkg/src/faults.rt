@@ -1,5 +1,5 @@
 //! What the marks of items refuse.
-ghost use Rattle.std.specs.Prelude.{◌≡◌, OnOk};
+ghost use Rattle.std.specs.Prelude.{◌≡◌, None, true, OnOk};
 ghost use Rattle.mark_walk.specs.Asks.{filled};
 ghost use Rattle.typed_marks.specs.Meanings.{Quiet};
 ghost use Rattle.typed_marks.specs.States.{so_far, IsState};
@@ -38,6 +38,28 @@ fn fault_of(s: &State, item: Item) -> Option<Fault>
         Some(mark) => mark_fault(s, mark),
         None => None,
     }
+}
+
+/// Whether the mark of an item refuses nothing.
+fn is_quiet(s: &State, item: Item) -> bool
+    requires { IsState s.now }
+    ensures { result ≡ true → fault_in (filled Quiet (so_far s.now) item) ≡ None }
+{
+    match fault_of(s, item) {
+        Some(_) => false,
+        None => true,
+    }
+}
+
+/// Whether both do, as those of nearly all nodes.
+fn are_quiet(s: &State, placed: Item, object: Item) -> bool
+    requires { IsState s.now }
+    ensures { result ≡ true → (fault_in (filled Quiet (so_far s.now) placed) ≡ None) × (fault_in (filled Quiet (so_far s.now) object) ≡ None) }
+{
+    if !is_quiet(s, placed) {
+        return false;
+    }
+    is_quiet(s, object)
 }
 
 /// Adds what the mark of a node at a stage refuses. `value` is the value in which the node stands.
@@ -85,12 +107,15 @@ fn refuse_node(
         block,
         node,
     };
-    refuse_at(alloc, u, s, p, placed, value, list)?;
     let object = Item {
         stage: Stage::Object,
         block,
         node,
     };
+    if are_quiet(s, placed, object) {
+        return Ok(());
+    }
+    refuse_at(alloc, u, s, p, placed, value, list)?;
     refuse_at(alloc, u, s, p, object, value, list)?;
     Ok(())
 }

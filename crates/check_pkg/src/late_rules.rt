@@ -68,6 +68,7 @@ fn late_nodes(alloc: Global, u: &Subject, s: &State, late: Late) -> Result<Vec<N
     requires scene { IsScene u.now s.now }
     requires small { AreSmall u.now.trees.now }
     requires few { length u.now.trees.now ≤ 2 ^ 32 }
+    requires bodies { AreBodies (texts_of u.now.texts.now) u.now.trees.now }
     ensures { IfOk result (λ list. (at : OneNode) → Contains list.items at ↔ RefusesLate (unit_of u.now) (filled Quiet (so_far s.now)) late at) }
 {
     match late {
@@ -141,6 +142,7 @@ fn refuse_by(
     requires scene { IsScene u.now s.now }
     requires small { AreSmall u.now.trees.now }
     requires few { length u.now.trees.now ≤ 2 ^ 32 }
+    requires bodies { AreBodies (texts_of u.now.texts.now) u.now.trees.now }
     ensures { OnOk result (Gains (RefusedBy (unit_of u.now) (filled Quiet (so_far s.now)) late) list.old.items list.new.items) }
 {
     let nodes = late_nodes(alloc, u, s, late)?;
@@ -159,6 +161,7 @@ fn refuse_each(
     requires scene { IsScene u.now s.now }
     requires small { AreSmall u.now.trees.now }
     requires few { length u.now.trees.now ≤ 2 ^ 32 }
+    requires bodies { AreBodies (texts_of u.now.texts.now) u.now.trees.now }
     ensures { OnOk result (Gains (SomeBelow (length rules.now) (NthRefusedBy (unit_of u.now) (filled Quiet (so_far s.now)) rules.now)) list.old.items list.new.items) }
 {
     for late in rules {
@@ -177,6 +180,7 @@ fn refuse_rows(
     requires scene { IsScene u.now s.now }
     requires small { AreSmall u.now.trees.now }
     requires few { length u.now.trees.now ≤ 2 ^ 32 }
+    requires bodies { AreBodies (texts_of u.now.texts.now) u.now.trees.now }
     ensures { OnOk result (Gains (IsRefusedByRow (unit_of u.now) (filled Quiet (so_far s.now))) list.old.items list.new.items) }
 {
     let rules = lates(alloc)?;

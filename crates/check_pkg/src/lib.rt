@@ -14,6 +14,7 @@ mod in_bodies;
 mod initial;
 mod judging;
 mod late_rules;
+mod leading;
 mod order;
 mod places;
 mod read;

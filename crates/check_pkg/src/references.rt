@@ -1,5 +1,5 @@
 //! What nodes refer to: as references, and as uses of variables.
-ghost use Rattle.std.specs.Prelude.{◌≡◌, ◌≤◌, ◌^◌, IfOk, length};
+ghost use Rattle.std.specs.Prelude.{◌≡◌, ◌≤◌, ◌^◌, IfOk, Some, None, if◌then◌else◌, length};
 ghost use Rattle.mark_walk.specs.Asks.{filled};
 ghost use Rattle.object_order.specs.Spots.{place};
 ghost use Rattle.package_needs.specs.Worlds.{name_of};
@@ -165,16 +165,21 @@ fn named_at(u: &Subject, at: NodeRef) -> Option<NodeRef>
     }
 }
 
-/// The declared name to which a node is a reference.
-fn reference_at(u: &Subject, s: &State, at: NodeRef) -> Option<NodeRef>
+fn if_counts(counts: bool, name: NodeRef) -> Option<NodeRef>
+    ensures { result ≡ (if counts then Some name else None) }
+{
+    if counts { Some(name) } else { None }
+}
+
+/// The declared name to which a node is a reference. Most nodes denote nothing.
+pub fn reference_at(u: &Subject, s: &State, at: NodeRef) -> Option<NodeRef>
     requires read { IsRead u.now }
     requires state { IsState s.now }
     ensures { result ≡ reference_at (unit_of u.now) (filled Quiet (so_far s.now)) at }
 {
-    if refers(u, s, at) {
-        named_at(u, at)
-    } else {
-        None
+    match named_at(u, at) {
+        Some(name) => if_counts(refers(u, s, at), name),
+        None => None,
     }
 }
 
@@ -197,10 +202,9 @@ fn reads_at(u: &Subject, s: &State, at: NodeRef) -> Option<NodeRef>
     requires state { IsState s.now }
     ensures { result ≡ reads_at (unit_of u.now) (filled Quiet (so_far s.now)) at }
 {
-    if names_field(u, s, at) {
-        None
-    } else {
-        named_at(u, at)
+    match named_at(u, at) {
+        Some(name) => if_counts(!names_field(u, s, at), name),
+        None => None,
     }
 }
 
@@ -254,7 +258,7 @@ fn counted_row(
     requires few { end ≤ 2 ^ 32 }
     ensures { IfOk result (λ row. IsRow (λ n. counted_at (unit_of u.now) (filled Quiet (so_far s.now)) (cell methods.now.items) counted (place file n)) row.items end) }
 {
-    let mut row = Vec::new(alloc);
+    let mut row = Vec::with_capacity(alloc, end)?;
     for node in 0..end {
         let at = NodeRef {
             file,

@@ -1,6 +1,7 @@
 -- Which nodes are the first part of a label or a jump.
 use Rattle.std.proofs.Common.{◌≡◌, ℕ, ◌≤◌, ◌↔◌, Bool, true, false, List, [], ◌∷◌, length, slice_get, Option, Some, None, refl, sym, ap, ◌∙◌, subst, inl, inr, arith}
 use Rattle.std.specs.List.{Contains}
+use Rattle.std.specs.Option.{option_map_or}
 use Rattle.std.proofs.lemmas.Option.{slice_get_within}
 use Rattle.go_tree.specs.declared.tree.Node.{Node}
 use Rattle.go_tree.specs.declared.tree.NodeKind.{NodeKind}
@@ -55,3 +56,14 @@ pub heads_none : (kinds : NodeKind → Bool) (nodes : List Node) (n : ℕ) (o : 
 heads_none kinds nodes n o is head = by (subst (λ (x : Option NodeKind). HeadOf nodes n x) is head) where
   by : HeadOf nodes n None → (false ≡ true) ↔ Heads kinds nodes n
   by none = ((λ e. absurd (cc)), (λ h. absurd (none h.1.kind (h.0, h.1, h.2, refl, h.4))))
+
+-- where what a node is a part of is of no such kind
+pub no_heads_at : (kinds : NodeKind → Bool) (nodes : List Node) (n p : ℕ) → IsTree nodes → IsParent nodes (length nodes) n p → option_map_or (λ (node : Node). kinds node.kind) (slice_get nodes p) false ≡ false
+    → (false ≡ true) ↔ Heads kinds nodes n
+no_heads_at kinds nodes n p tree parent none = (
+  (λ e. absurd (cc)),
+  (λ h. absurd (
+      let at_p : h.0 ≡ p = parent_is nodes n p h.0 tree parent (part_of nodes h.0 n h.1 h.2 h.4) in
+      let e : false ≡ true = sym none ∙ (ap (λ (o : Option Node). option_map_or (λ (node : Node). kinds node.kind) o false) (ap (slice_get nodes) (sym at_p) ∙ h.2) ∙ h.3) in cc
+      )),
+)

@@ -1,5 +1,7 @@
 //! Which nodes are names of labels, and which are names behind `break`, `continue` and `goto`.
-ghost use Rattle.std.specs.Prelude.{◌≡◌, ◌<◌, ◌↔◌, true, length, option_map, bytes_eq, codes, slice_get, Some};
+ghost use Rattle.std.specs.Prelude.{◌≡◌, ◌<◌, ◌↔◌, true, false, length, option_map, bytes_eq, codes, slice_get, Some};
+ghost use Rattle.std.specs.Option.{option_map_or};
+ghost use Rattle.go_tree.specs.declared.tree.Node.{Node};
 ghost use Rattle.label_uses.specs.Labels.{is_label, is_jump, Heads, IsLabel, IsJump};
 ghost use Rattle.label_uses.specs.Names.{HeadOf, IsNameOf, unless_blank};
 ghost use Rattle.label_uses.specs.Parents.{AreParents, IsTree};
@@ -48,12 +50,35 @@ fn head_of(nodes: &[Node], parents: &[usize], n: usize) -> Option<NodeKind>
     None
 }
 
+/// Whether a node is a labeled statement.
+fn is_label_at(nodes: &[Node], p: usize) -> bool
+    ensures { result ≡ option_map_or (λ (node : Node). is_label node.kind) (slice_get nodes.now p) false }
+{
+    match nodes.get(p) {
+        Some(node) => is_label(node.kind),
+        None => false,
+    }
+}
+
+/// Whether a node is a statement that may name a label.
+fn is_jump_at(nodes: &[Node], p: usize) -> bool
+    ensures { result ≡ option_map_or (λ (node : Node). is_jump node.kind) (slice_get nodes.now p) false }
+{
+    match nodes.get(p) {
+        Some(node) => is_jump(node.kind),
+        None => false,
+    }
+}
+
 fn is_label_name(nodes: &[Node], parents: &[usize], n: usize) -> bool
     requires tree { IsTree nodes.now }
     requires parents { AreParents nodes.now (length nodes.now) parents.now }
     requires n { n < length nodes.now }
     ensures { (result ≡ true) ↔ Heads is_label nodes.now n }
 {
+    if !is_label_at(nodes, at(parents, n)) {
+        return false;
+    }
     match head_of(nodes, parents, n) {
         Some(kind) => is_label(kind),
         None => false,
@@ -66,6 +91,9 @@ fn is_jump_name(nodes: &[Node], parents: &[usize], n: usize) -> bool
     requires n { n < length nodes.now }
     ensures { (result ≡ true) ↔ Heads is_jump nodes.now n }
 {
+    if !is_jump_at(nodes, at(parents, n)) {
+        return false;
+    }
     match head_of(nodes, parents, n) {
         Some(kind) => is_jump(kind),
         None => false,

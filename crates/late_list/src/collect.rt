@@ -41,11 +41,14 @@ fn try_rules<V: Finds>(
     Ok(())
 }
 
-/// Adds what all rules find at a node.
+/// Adds what all rules find at a node, if any may.
 fn find_at<V: Finds>(view: &V, n: usize, list: &mut Vec<LateFault>) -> Result<(), NoMemory>
     requires { V.IsState view.now }
     ensures { OnOk result (Gains (IsFoundAt V.IsFault view.now n) list.old.items list.new.items) }
 {
+    if !view.is_asked(n) {
+        return Ok(());
+    }
     try_rules(view, n, &RULES, list)?;
     Ok(())
 }

@@ -1,5 +1,5 @@
 //! The late rules, and a view of a file that answers them.
-ghost use Rattle.std.specs.Prelude.{◌≡◌, ◌<◌, ℕ};
+ghost use Rattle.std.specs.Prelude.{◌≡◌, ◌<◌, ℕ, false};
 ghost use Rattle.late_list.specs.Late.{rule_number, IsAnswer};
 ghost use Rattle.gv_base.specs.declared.place.Place.{Place};
 ghost use Rattle.late_list.specs.declared.late.LateRule.{LateRule};
@@ -83,6 +83,11 @@ pub trait Finds {
 
     fn count(&self) -> usize
         ensures { result ≡ count self.now };
+
+    /// Whether rules are asked of a node. Of the others, which are most, none finds anything.
+    fn is_asked(&self, n: usize) -> bool
+        requires { IsState self.now }
+        ensures { result ≡ false → (rule : LateRule) → (place : Place) → IsFault self.now rule n place → ⊥ };
 
     fn find(&self, rule: LateRule, n: usize) -> Option<Place>
         requires { IsState self.now }

@@ -1,8 +1,9 @@
 -- Values that are handed down.
-use Rattle.std.proofs.Common.{◌≡◌, ◌≢◌, ℕ, zero, suc, ◌<◌, ◌+◌, ◌≤◌, ◌⊎◌, List, [], ◌∷◌, length, set, get_or, slice_get, Some, None, refl, sym, ap, ◌∙◌, inl, inr, arith, get_or-set_same, get_or-set_other}
+use Rattle.std.proofs.Common.{◌≡◌, ◌≢◌, ℕ, zero, suc, ◌<◌, ◌+◌, ◌≤◌, ◌⊎◌, List, [], ◌∷◌, length, replicate, set, get_or, slice_get, Some, None, refl, sym, ap, ◌∙◌, inl, inr, arith, get_or-set_same, get_or-set_other}
 use Rattle.std.specs.List.{Contains}
 use Rattle.std.specs.Option.{option_map_or}
 use Rattle.std.proofs.Math.ListN.{length-set}
+use Rattle.std.proofs.lemmas.List.{length-replicate}
 use Rattle.std.proofs.lemmas.Option.{slice_get_within}
 use Rattle.go_tree.specs.declared.tree.Node.{Node}
 use Rattle.node_values.specs.Trees.{IsPart, IsTree}
@@ -100,3 +101,15 @@ one_value rule top nodes a b tree x y n = elim (below_or_not n (length nodes)) [
   | inl low ↦ one_handed rule top nodes x.parents a b tree x.are_parents x.handed y.handed (length nodes) n low (omega arith)
   | inr past ↦ default_past a n top (let s = x.handed.size in omega arith) ∙ sym (default_past b n top (let s = y.handed.size in omega arith))
 ]
+
+-- so many times the same value
+top_of : {A : Type 0} (count n : ℕ) (top : A) → get_or (replicate count top) n top ≡ top
+top_of zero n top = refl
+top_of (suc count) zero top = refl
+top_of (suc count) (suc n) top = top_of count n top
+
+pub tops_are : {A : Type 0} (count : ℕ) (top : A) (found : List A) → found ≡ replicate count top → AreTops count top found
+tops_are {A} count top found is = record {
+  size = ap (λ (xs : List A). length xs) is ∙ length-replicate count top;
+  each = λ n. ap (λ (xs : List A). get_or xs n top) is ∙ top_of count n top;
+}

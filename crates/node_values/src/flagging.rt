@@ -1,5 +1,5 @@
 //! The numbers to which nodes lead, in one pass.
-ghost use Rattle.std.specs.Prelude.{◌≡◌, ◌<◌, ℕ, List, Bool, false, IfOk, length};
+ghost use Rattle.std.specs.Prelude.{◌≡◌, ◌<◌, ℕ, List, Bool, false, IfOk, length, replicate};
 ghost use Rattle.node_values.specs.Flagged.{AreFlagged, IsOnly, Marks};
 ghost use Rattle.node_values.specs.Handed.{AreTops};
 
@@ -33,13 +33,17 @@ fn mark(flags: &mut Vec<bool>, t: Option<usize>)
     }
 }
 
+fn all_false(alloc: Global, count: usize) -> Result<Vec<bool>, NoMemory>
+    ensures { IfOk result (λ flags. flags.items ≡ replicate count false) }
+{
+    let flags = vec![in alloc; false; count]?;
+    Ok(flags)
+}
+
 fn no_flags(alloc: Global, count: usize) -> Result<Vec<bool>, NoMemory>
     ensures { IfOk result (λ flags. AreTops count false flags.items) }
 {
-    let mut flags = Vec::with_capacity(alloc, count)?;
-    for n in 0..count {
-        flags.push(false)?;
-    }
+    let flags = all_false(alloc, count)?;
     Ok(flags)
 }
 

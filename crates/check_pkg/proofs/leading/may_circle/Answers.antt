@@ -1,0 +1,10 @@
+use Rattle.mark_walk.specs.Asks.{filled}
+use Rattle.typed_marks.specs.Meanings.{Quiet}
+use Rattle.typed_marks.specs.States.{so_far}
+use Rattle.unit_read.specs.Subjects.{unit_of}
+use Rattle.check_pkg.proofs.LeadingLemmas.{no_circle}
+use Rattle.check_pkg.proofs.leading.may_circle.Goals as goal
+
+pub returns : goal.returns
+returns c = λ still at fault.
+    no_circle (unit_of c.args.u.now) (filled Quiet (so_far c.args.s.now)) c.in_ok-rows.rows.items c.in_ok-rows.ensures (c.values_lead.ensures still) at fault
