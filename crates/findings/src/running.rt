@@ -1,9 +1,9 @@
 //! What is reported of all nodes of a package.
-ghost use Rattle.std.specs.Prelude.{◌≡◌, ◌≤◌, ◌^◌, List, length, IfOk, OnOk};
+ghost use Rattle.std.specs.Prelude.{◌≡◌, ◌≤◌, ◌^◌, List, Some, length, IfOk, OnOk};
 ghost use Rattle.analysis_core.specs.declared.diagnostic.Diagnostic.{Diagnostic as OneDiagnostic};
 ghost use Rattle.typed_marks.specs.declared.item.Item.{Item};
 ghost use Rattle.typed_marks.specs.Meanings.{Meaning};
-ghost use Rattle.unit_read.specs.Units.{Unit, nodes_at};
+ghost use Rattle.unit_read.specs.Units.{Unit, node_at, nodes_at};
 ghost use Rattle.findings.specs.Gains.{Gains};
 ghost use Rattle.findings.specs.Passes.{unit_in, marks_in, IsPass};
 ghost use Rattle.findings.specs.Reported.{AreFindings};
@@ -12,36 +12,34 @@ ghost use Rattle.findings.specs.InCode.{reported_at, reported_in, reported_below
 use crate::passing::Pass;
 use crate::reporting::Reports;
 use analysis_core::{Diagnostic, settle_findings};
-use go_tree::NodeRef;
+use go_tree::{Node, NodeRef};
 use gv_base::NoMemory;
 use std::alloc::Global;
 
-fn node_count(pass: &Pass, file: u32) -> usize
+/// The nodes of a file.
+fn nodes_in<'a>(pass: &Pass<'a>, file: u32) -> &'a [Node]
     requires { IsPass pass.now }
-    ensures count { result ≡ length (nodes_at (unit_in pass.now) file) }
-    ensures small { result ≤ 2 ^ 32 }
+    ensures nodes { result.now ≡ nodes_at (unit_in pass.now) file }
+    ensures small { length result.now ≤ 2 ^ 32 }
 {
-    pass.subject.nodes_at(file).len()
+    pass.subject.nodes_at(file)
 }
 
-fn report_nth<R: Reports>(
+fn report_node<R: Reports>(
     alloc: Global,
     rule: &R,
     pass: &Pass,
     at: NodeRef,
+    node: &Node,
     found: &mut Vec<Diagnostic>,
 ) -> Result<(), NoMemory>
     requires pass { IsPass pass.now }
     requires fits { R.fits rule.now (unit_in pass.now) (marks_in pass.now) }
+    requires node { node_at (unit_in pass.now) at ≡ Some node.now }
     ensures { OnOk result (Gains (reported_at (R.reported rule.now) (unit_in pass.now) (marks_in pass.now) at) found.old.items found.new.items) }
 {
-    match pass.subject.node_at(at) {
-        Some(node) => {
-            rule.report_at(alloc, pass, at, node, found)?;
-            Ok(())
-        }
-        None => Ok(()),
-    }
+    rule.report_at(alloc, pass, at, node, found)?;
+    Ok(())
 }
 
 fn report_file<R: Reports>(
@@ -55,13 +53,13 @@ fn report_file<R: Reports>(
     requires fits { R.fits rule.now (unit_in pass.now) (marks_in pass.now) }
     ensures { OnOk result (Gains (reported_in (R.reported rule.now) (unit_in pass.now) (marks_in pass.now) file) found.old.items found.new.items) }
 {
-    let count = node_count(pass, file);
-    for node in 0..count {
+    let nodes = nodes_in(pass, file);
+    for node in 0..nodes.len() {
         let at = NodeRef {
             file,
             node: node as u32,
         };
-        report_nth(alloc, rule, pass, at, found)?;
+        report_node(alloc, rule, pass, at, &nodes[node], found)?;
     }
     Ok(())
 }

@@ -53,6 +53,36 @@ visit_marks at seen new found newer v = by_bool (seen at)
     (λ old. v.seen_same old at ∙ old)
     (λ fresh. v.seen_more fresh at ∙ taken (nat_eq at at) true (seen at) (self_nat at))
 
+not_true : (b c : Bool) → b ≡ true → b ≡ not c → c ≡ false
+not_true b true is e = no_truth (sym e ∙ is)
+not_true b false is e = refl
+
+not_false : (b c : Bool) → b ≡ false → b ≡ not c → c ≡ true
+not_false b true is e = refl
+not_false b false is e = no_truth (sym is ∙ e)
+
+-- a point is marked, and listed since it wasn't marked
+pub visited_new : (at : ℕ) (added : Bool) (seen new : ℕ → Bool) (found newer : List ℕ) → added ≡ true → added ≡ not (seen at)
+    → ((q : ℕ) → new q ≡ cond (nat_eq at q) true (seen q)) → newer ≡ found ++ at ∷ [] → IsVisited at seen found new newer
+visited_new at added seen new found newer is e marks lists = let fresh = not_true added (seen at) is e in record {
+  seen_same = λ old. no_truth (sym fresh ∙ old);
+  found_same = λ old. no_truth (sym fresh ∙ old);
+  seen_more = λ out. marks;
+  found_more = λ out. lists;
+}
+
+-- a point that was marked is marked again
+pub visited_old : (at : ℕ) (added : Bool) (seen new : ℕ → Bool) (found : List ℕ) → added ≡ false → added ≡ not (seen at)
+    → ((q : ℕ) → new q ≡ cond (nat_eq at q) true (seen q)) → IsVisited at seen found new found
+visited_old at added seen new found is e marks = let old = not_false added (seen at) is e in record {
+  seen_same = λ same q. marks q ∙ by_bool (nat_eq at q)
+      (λ here. taken (nat_eq at q) true (seen q) here ∙ (sym old ∙ ap seen (same_nat at q here)))
+      (λ apart. left_out (nat_eq at q) true (seen q) apart);
+  found_same = λ same. refl;
+  seen_more = λ out. no_truth (sym out ∙ old);
+  found_more = λ out. no_truth (sym out ∙ old);
+}
+
 unseen_less : (seen new : ℕ → Bool) → ((q : ℕ) → seen q ≡ true → new q ≡ true) → (ts : List ℕ) → unseen new ts ≤ unseen seen ts
 unseen_less seen new kept [] = omega arith
 unseen_less seen new kept (t ∷ ts) =

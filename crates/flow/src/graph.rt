@@ -62,7 +62,7 @@ fn edges_of_nodes(
     ensures { IfOk result (λ edges. edges.items ≡ edges_from tree.now labels.now table.now 0 tree.now.nodes) }
 {
     let nodes = tree.nodes.as_slice();
-    let mut edges = Vec::new(alloc);
+    let mut edges = Vec::with_capacity(alloc, 2 * nodes.len())?;
     for n in 0..nodes.len() {
         add_node(&mut edges, tree, labels, table, n as u32, &nodes[n])?;
     }
@@ -84,6 +84,6 @@ pub fn graph_of(alloc: Global, tree: &FileTree, labels: &[Option<u32>]) -> Resul
 {
     let table = around_of(alloc, tree)?;
     let edges = edges_of_nodes(alloc, tree, labels, &table)?;
-    let rows = rows_of(alloc, &edges)?;
+    let rows = rows_of(alloc, &edges, 2 * tree.nodes.as_slice().len())?;
     Ok(made(rows))
 }

@@ -88,11 +88,11 @@ fn add_target(rows: &mut Vec<Targets>, e: Edge) -> Result<(), NoMemory>
 }
 
 /// For each point those to which an edge leads from it. There is no row behind the last point from
-/// which one leads.
-pub(crate) fn rows_of(alloc: Global, edges: &[Edge]) -> Result<Vec<Targets>, NoMemory>
+/// which one leads. There is room for so many rows from the start.
+pub(crate) fn rows_of(alloc: Global, edges: &[Edge], room: usize) -> Result<Vec<Targets>, NoMemory>
     ensures { IfOk result (λ rows. (p q : ℕ) → StepsBy rows.items p q ↔ Contains edges.now (edge p q)) }
 {
-    let mut rows = Vec::with_capacity(alloc, edges.len())?;
+    let mut rows = Vec::with_capacity(alloc, room)?;
     for e in edges {
         grow(alloc, &mut rows, e.from)?;
         add_target(&mut rows, *e)?;

@@ -1,5 +1,5 @@
 //! What is reached from a point. The cost is in step with what is reached, and not with the file.
-ghost use Rattle.std.specs.Prelude.{◌≡◌, ◌++◌, ◌∷◌, [], ◌<◌, ◌↔◌, ℕ, true, IfOk, OnOk, length, if◌then◌else◌, ◌||◌, nat_eq, Contains, cond, slice_index_or, get_or, false};
+ghost use Rattle.std.specs.Prelude.{◌≡◌, ◌++◌, ◌∷◌, [], ◌<◌, ◌↔◌, ℕ, true, not, IfOk, OnOk, length, if◌then◌else◌, ◌||◌, nat_eq, Contains, cond, slice_index_or, get_or, false};
 ghost use Rattle.flow.specs.Flow.{Reached, stops_by, call_at, stops_of, is_stopped};
 ghost use Rattle.flow.specs.Search.{row_at, targets_from, has, IsVisited, IsFollowed};
 
@@ -9,17 +9,13 @@ use gv_base::NoMemory;
 use std::alloc::Global;
 use std::collections::HashSet;
 
-fn has(seen: &HashSet<usize>, at: usize) -> bool
-    ensures { result ≡ has seen.now at }
+/// Marks a point, and says whether it wasn't yet.
+fn mark(seen: &mut HashSet<usize>, at: usize) -> Result<bool, NoMemory>
+    ensures added { IfOk result (λ added. added ≡ not (has seen.old at)) }
+    ensures marked { OnOk result ((q : ℕ) → has seen.new q ≡ cond (nat_eq at q) true (has seen.old q)) }
 {
-    seen.contains(&at)
-}
-
-fn mark(seen: &mut HashSet<usize>, at: usize) -> Result<(), NoMemory>
-    ensures { OnOk result ((q : ℕ) → has seen.new q ≡ cond (nat_eq at q) true (has seen.old q)) }
-{
-    seen.insert(at)?;
-    Ok(())
+    let added = seen.insert(at)?;
+    Ok(added)
 }
 
 fn push(found: &mut Vec<usize>, at: usize) -> Result<(), NoMemory>
@@ -33,11 +29,11 @@ fn push(found: &mut Vec<usize>, at: usize) -> Result<(), NoMemory>
 fn visit(seen: &mut HashSet<usize>, found: &mut Vec<usize>, at: usize) -> Result<(), NoMemory>
     ensures { OnOk result (IsVisited at (has seen.old) found.old.items (has seen.new) found.new.items) }
 {
-    if has(seen, at) {
+    let added = mark(seen, at)?;
+    if added {
+        push(found, at)?;
         return Ok(());
     }
-    mark(seen, at)?;
-    push(found, at)?;
     Ok(())
 }
 

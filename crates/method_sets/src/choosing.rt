@@ -14,7 +14,7 @@ ghost use Rattle.method_sets.specs.Replies.{AreKnownBefore, AreKnownBeside, IsMi
 use crate::look::{Held, look};
 use crate::opening::{defined_pointer, is_closed};
 use crate::search::Entry;
-use crate::selecting::{settle, without_methods};
+use crate::selecting::{settle, settle_here, without_methods};
 use crate::selection::Selection;
 use crate::walk::{base_of, begin, expand};
 use gv_base::NoMemory;
@@ -105,6 +105,35 @@ fn search_levels(
     Ok(Reply::Is(Selection::Absent))
 }
 
+/// The same. Most names are those of the type's own fields and methods: then nothing is searched.
+fn choose_from(
+    alloc: Global,
+    t: &TypeTable,
+    at: TypeId,
+    name: &str,
+    from: &str,
+) -> Result<Reply<Selection>, NoMemory>
+    requires table { IsTable t.now }
+    requires within { at.0 < count t.now }
+    ensures { IfOk result (IsReplyFrom t.now (type_at (types_in t.now) at) (selector name.now from.now)) }
+{
+    let missing = is_missing(t, at);
+    if missing {
+        let waits = search_levels(alloc, t, at, name, from)?;
+        return Ok(waits);
+    }
+    match look(t, at, name, from) {
+        Some(held) => {
+            let here = settle_here(alloc, t, at, held, name, from)?;
+            Ok(Reply::Is(here))
+        }
+        None => {
+            let found = search_levels(alloc, t, at, name, from)?;
+            Ok(found)
+        }
+    }
+}
+
 fn choose_opened(
     alloc: Global,
     t: &TypeTable,
@@ -119,7 +148,7 @@ fn choose_opened(
     if is_closed(t, of) {
         return Ok(Reply::Is(Selection::Absent));
     }
-    let found = search_levels(alloc, t, base_of(t, of), name, from)?;
+    let found = choose_from(alloc, t, base_of(t, of), name, from)?;
     Ok(found)
 }
 

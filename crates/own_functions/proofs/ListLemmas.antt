@@ -1,11 +1,14 @@
 -- Lists of declared functions.
-use Rattle.std.proofs.Common.{◌≡◌, ◌++◌, ℕ, zero, suc, List, [], ◌∷◌, map, length, Option, Some, option_map, slice_get, refl, sym, ap, ◌∙◌}
+use Rattle.std.proofs.Common.{◌≡◌, ◌++◌, ℕ, zero, suc, Bool, false, List, [], ◌∷◌, map, length, Option, Some, None, option_map, slice_get, refl, sym, ap, ◌∙◌}
 use Rattle.std.specs.Option.{option_map_or}
+use Rattle.go_tree.specs.declared.tree.Node.{Node}
+use Rattle.go_tree.specs.declared.tree.NodeKind.{NodeKind}
+use Rattle.go_tree.specs.declared.tree.NodeKind.TheVariants as k
 use Rattle.go_tree.specs.declared.tree.NodeRef.{NodeRef}
 use Rattle.object_order.specs.Spots.{place}
 use Rattle.unit_read.specs.Units.{Unit}
 use Rattle.own_functions.specs.declared.functions.Declared.{Declared}
-use Rattle.own_functions.specs.Functions.{Named, named_at, name_in, node_in, functions, names, nth_name}
+use Rattle.own_functions.specs.Functions.{Named, declares, name_by, named_at, function_by, name_in, node_in, functions, names, nth_name}
 use Rattle.own_functions.specs.InCode.{named_in, declared_name}
 use Rattle.own_functions.proofs.NameLemmas.{map_twice}
 
@@ -18,6 +21,21 @@ pushed old new d e = ap (λ l. map named_in l) e ∙ over old where
 pub pushed_named : (old new : List Declared) (d : Declared) (f n : ℕ) (o : Option (List ℕ)) → new ≡ old ++ d ∷ [] → o ≡ Some d.name.items → d.at ≡ place f n → map named_in new ≡ map named_in old ++ option_map_or (named_at f n) o []
 pushed_named old new d f n o e is at =
     pushed old new d e ∙ ap (λ (l : List Named). map named_in old ++ l) (ap (λ (p : NodeRef). (d.name.items, p) ∷ []) at ∙ sym (ap (λ (x : Option (List ℕ)). option_map_or (named_at f n) x []) is))
+
+-- other nodes declare none
+unnamed : (u : Unit) (f n : ℕ) (at : Node) (kind : NodeKind) → declares kind ≡ false → name_by u f n at kind ≡ None
+unnamed u f n at k.FuncDecl e = absurd (cc)
+unnamed u f n at k.MethodDecl e = absurd (cc)
+unnamed u f n at _ e = refl
+
+append_none : (xs : List Named) → xs ≡ xs ++ []
+append_none [] = refl
+append_none (x ∷ xs) = ap (λ l. x ∷ l) (append_none xs)
+
+pub unchanged : (u : Unit) (f n : ℕ) (at : Node) (old : List Declared) (b : Bool) → b ≡ declares at.kind → b ≡ false → map named_in old ≡ map named_in old ++ function_by u f n at
+unchanged u f n at old b told out =
+    append_none (map named_in old)
+    ∙ ap (λ (l : List Named). map named_in old ++ l) (sym (ap (λ (o : Option (List ℕ)). option_map_or (named_at f n) o []) (unnamed u f n at at.kind (sym told ∙ out))))
 
 -- the names of the list are those of the package
 pub names_are : (u : Unit) (list : List Declared) → map named_in list ≡ functions u → map declared_name list ≡ names u

@@ -39,6 +39,12 @@ method_of u at t = if_method (name_at u t) (method_name u at)
 abbrev pub type_and_method : Unit → NodeRef → Option (List ℕ)
 type_and_method u at = option_and_then (method_of u at) (u.owner at)
 
+-- the kinds of nodes that declare functions and methods
+abbrev pub declares : NodeKind → Bool
+declares k.FuncDecl = true
+declares k.MethodDecl = true
+declares _ = false
+
 abbrev pub name_by : Unit → ℕ → ℕ → Node → NodeKind → Option (List ℕ)
 name_by u f n node k.FuncDecl = function_name u f node
 name_by u f n node k.MethodDecl = type_and_method u (place f n)

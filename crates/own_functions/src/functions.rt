@@ -10,7 +10,7 @@ ghost use Rattle.unit_read.specs.Methods.{method_name, part_name};
 ghost use Rattle.unit_read.specs.Units.{nodes_at, is_blank};
 ghost use Rattle.findings.specs.Passes.{unit_in, IsPass};
 ghost use Rattle.member_names.specs.Named.{dotted};
-ghost use Rattle.own_functions.specs.Functions.{can_be_named, if_named, function_name, if_method, method_of, type_and_method, name_by, named_at, function_by, function_at, functions_in, functions, nth_name};
+ghost use Rattle.own_functions.specs.Functions.{can_be_named, if_named, function_name, if_method, method_of, type_and_method, declares, name_by, named_at, function_by, function_at, functions_in, functions, nth_name};
 ghost use Rattle.own_functions.specs.InCode.{text_in, named_in, declared_name};
 
 use findings::Pass;
@@ -182,7 +182,14 @@ fn push_named(
     }
 }
 
-fn push_function(
+/// Whether a node of a kind declares a function or method. Few do.
+fn declares(kind: NodeKind) -> bool
+    ensures { result ≡ declares kind }
+{
+    matches!(kind, NodeKind::FuncDecl | NodeKind::MethodDecl)
+}
+
+fn push_declared(
     alloc: Global,
     p: &Pass,
     file: u32,
@@ -194,6 +201,23 @@ fn push_function(
 {
     let name = name_by(alloc, p, file, n, node)?;
     push_named(found, file, n, name)?;
+    Ok(())
+}
+
+fn push_function(
+    alloc: Global,
+    p: &Pass,
+    file: u32,
+    n: u32,
+    node: &Node,
+    found: &mut Vec<Declared>,
+) -> Result<(), NoMemory>
+    ensures { OnOk result (map named_in found.new.items ≡ map named_in found.old.items ++ function_by (unit_in p.now) file n node.now) }
+{
+    if declares(node.kind) {
+        push_declared(alloc, p, file, n, node, found)?;
+        return Ok(());
+    }
     Ok(())
 }
 

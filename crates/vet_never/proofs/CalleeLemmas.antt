@@ -1,5 +1,5 @@
 -- What statements call, by what they name.
-use Rattle.std.proofs.Common.{◌≡◌, ℕ, ◌+◌, ◌++◌, Bool, true, false, List, [], ◌∷◌, Option, Some, None, refl, sym, ap, ◌∙◌, subst, inl, inr}
+use Rattle.std.proofs.Common.{◌≡◌, ℕ, ◌+◌, ◌++◌, Bool, true, false, List, [], ◌∷◌, map, Option, Some, None, refl, sym, ap, ◌∙◌, subst, inl, inr}
 use Rattle.std.proofs.lemmas.List.{length_push}
 use Rattle.gv_base.proofs.Lists.{push_cases}
 use Rattle.object_order.specs.Spots.{place}
@@ -7,12 +7,15 @@ use Rattle.selected_methods.specs.InCode.{IsWhat}
 use Rattle.typed_marks.specs.declared.item.Item.{Item}
 use Rattle.typed_marks.specs.Meanings.{Meaning}
 use Rattle.unit_read.specs.Units.{Unit, nodes_at}
+use Rattle.flow.specs.declared.point.Call.{Call}
+use Rattle.least.specs.Tables.{Member}
 use Rattle.never_returns.specs.Admits.{Callee, Other, Panic, Named}
+use Rattle.never_returns.specs.Bodies.{call_of}
 use Rattle.member_names.specs.Named.{IsNamed}
-use Rattle.own_functions.specs.Functions.{Pair}
+use Rattle.own_functions.specs.Functions.{Pair, number}
 use Rattle.vet_never.specs.declared.told.Told.{Told}
 use Rattle.vet_never.specs.Callees.{callee_of, is_panic, member_of, IsMemberCallee, IsCalleeIf, IsCalleeOf, IsCallee}
-use Rattle.vet_never.specs.InCode.{callee_in, AreCallees}
+use Rattle.vet_never.specs.InCode.{callee_in, AreCallees, IsCallAt, AreCallsOf}
 
 module _ (u : Unit) (marks : Item → Meaning) where
   pub member_called : (f n : ℕ) (x : Pair) (c : Callee) → IsWhat (IsNamed u marks f n) (Some x) → c ≡ Named (member_of x) → IsMemberCallee u marks f n c
@@ -49,5 +52,22 @@ module _ (u : Unit) (marks : Item → Meaning) where
     ];
   })
 
-  pub all_callees : (f n total : ℕ) (row : List Told) → n ≡ total → AreCallees u marks f n row → AreCallees u marks f total row
-  all_callees f n total row e are = subst (λ (m : ℕ). AreCallees u marks f m row) e are
+  -- ---- by number
+
+  module _ (given : Member → Bool) where
+    pub none_numbered : (f : ℕ) (calls : List Call) → calls ≡ [] → AreCallsOf u marks given f 0 calls
+    none_numbered f calls e = ([], no_callees f [] refl, e)
+
+    mapped : (row : List Told) (t : Told) → map (λ x. call_of given (number 0 u) (callee_in x)) (row ++ t ∷ []) ≡ map (λ x. call_of given (number 0 u) (callee_in x)) row ++ call_of given (number 0 u) (callee_in t) ∷ []
+    mapped [] t = refl
+    mapped (x ∷ row) t = ap (λ l. call_of given (number 0 u) (callee_in x) ∷ l) (mapped row t)
+
+    pub one_numbered : (f n : ℕ) (old new : List Call) (call : Call) → AreCallsOf u marks given f n old → IsCallAt u marks given f n call → new ≡ old ++ call ∷ [] → AreCallsOf u marks given f (n + 1) new
+    one_numbered f n old new call (row, callees, calls) (t, called, is) now = (
+      row ++ t ∷ [],
+      callee_more f n row (row ++ t ∷ []) t callees called refl,
+      now ∙ (ap (λ (l : List Call). l ++ call ∷ []) calls ∙ (ap (λ (x : Call). map (λ y. call_of given (number 0 u) (callee_in y)) row ++ x ∷ []) is ∙ sym (mapped row t))),
+    )
+
+    pub all_numbered : (f n total : ℕ) (calls : List Call) → n ≡ total → AreCallsOf u marks given f n calls → AreCallsOf u marks given f total calls
+    all_numbered f n total calls e are = subst (λ (m : ℕ). AreCallsOf u marks given f m calls) e are

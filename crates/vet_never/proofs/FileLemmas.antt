@@ -1,8 +1,9 @@
 -- Files, functions and names, one more at a time.
-use Rattle.std.proofs.Common.{◌≡◌, ◌↔◌, ◌⊎◌, ◌<◌, ◌++◌, ◌+◌, ℕ, Bool, true, List, [], ◌∷◌, map, length, Option, Some, refl, sym, ap, ◌∙◌, subst, inl, inr, arith}
+use Rattle.std.proofs.Common.{◌≡◌, ◌↔◌, ◌⊎◌, ◌<◌, ◌++◌, ◌+◌, ℕ, zero, suc, Bool, true, List, [], ◌∷◌, map, length, Option, Some, slice_get, refl, sym, ap, ◌∙◌, subst, inl, inr, arith}
 use Rattle.std.specs.List.{Contains}
 use Rattle.std.proofs.lemmas.Bool.{cases_eq}
 use Rattle.std.proofs.lemmas.List.{length_push}
+use Rattle.std.proofs.lemmas.Option.{slice_get_within}
 use Rattle.gv_base.proofs.Lists.{push_cases}
 use Rattle.fact_codec.specs.declared.units.Never.{Never}
 use Rattle.flow.specs.Search.{IsGraph}
@@ -18,26 +19,41 @@ use Rattle.typed_marks.specs.Meanings.{Meaning}
 use Rattle.unit_read.specs.Units.{Unit, tree_at}
 use Rattle.vet_never.specs.declared.calls.Known.{Known}
 use Rattle.vet_never.specs.declared.files.FileKnown.{FileKnown}
+use Rattle.vet_never.specs.declared.told.Told.{Told}
 use Rattle.vet_never.specs.Knowing.{IsFileKnown, AreFilesKnown, IsLent, AreLent, IsFunction, AreFunctions, AreFlaggedNames}
 use Rattle.vet_never.specs.Never.{fact_name}
 
 -- ---- files
 
+pub there_at : {X : Type 0} (xs : List X) (i : ℕ) → i < length xs → (x : X) × (slice_get xs i ≡ Some x)
+there_at [] i low = absurd (omega arith)
+there_at (x ∷ xs) zero low = (x, refl)
+there_at (x ∷ xs) (suc i) low = there_at xs i (omega arith)
+
 module _ (u : Unit) (marks : Item → Meaning) (k : Known) where
   pub no_files : (list : List FileKnown) → list ≡ [] → AreFilesKnown u marks k 0 list
-  no_files list e = subst (λ (l : List FileKnown). AreFilesKnown u marks k 0 l) (sym e) (record { size = refl; each = λ f tree x there at. absurd (cc) })
+  no_files list e = subst (λ (l : List FileKnown). AreFilesKnown u marks k 0 l) (sym e) (record { rows = []; size = refl; rows_size = refl; each = λ f tree x row there at here. absurd (cc) })
 
-  pub file_more : (n : ℕ) (list new : List FileKnown) (one : FileKnown) → AreFilesKnown u marks k n list → ((tree : FileTree) → tree_at u n ≡ Some tree → IsFileKnown u marks k n tree one) → new ≡ list ++ one ∷ []
-      → AreFilesKnown u marks k (n + 1) new
-  file_more n list new one was is now = subst (λ (l : List FileKnown). AreFilesKnown u marks k (n + 1) l) (sym now) (record {
+  pub file_more : (n : ℕ) (list new : List FileKnown) (one : FileKnown) → AreFilesKnown u marks k n list → (row : List Told) × ((tree : FileTree) → tree_at u n ≡ Some tree → IsFileKnown u marks k n tree row one)
+      → new ≡ list ++ one ∷ [] → AreFilesKnown u marks k (n + 1) new
+  file_more n list new one was (last_row, is) now = subst (λ (l : List FileKnown). AreFilesKnown u marks k (n + 1) l) (sym now) (record {
+    rows = was.rows ++ last_row ∷ [];
     size = length_push list one ∙ ap (λ m. m + 1) was.size;
-    each = λ f tree x there at. elim (push_cases list one x f at) [
-      | inl before ↦ was.each f tree x there before
-      | inr (last, same) ↦ (
-          let here : f ≡ n = last ∙ was.size in
-          subst (λ (y : FileKnown). IsFileKnown u marks k f tree y) same
-          (subst (λ (m : ℕ). IsFileKnown u marks k m tree one) (sym here) (is tree (ap (tree_at u) (sym here) ∙ there)))
-          )
+    rows_size = length_push was.rows last_row ∙ ap (λ m. m + 1) was.rows_size;
+    each = λ f tree x row there at here. elim (push_cases list one x f at) [
+      | inl before ↦ elim (push_cases was.rows last_row row f here) [
+        | inl row_before ↦ was.each f tree x row there before row_before
+        | inr (row_last, same_row) ↦ absurd (let low = slice_get_within list f x before in let size = was.size in let rows_size = was.rows_size in omega (arith, low, size, rows_size, row_last))
+      ]
+      | inr (last, same) ↦ elim (push_cases was.rows last_row row f here) [
+        | inl row_before ↦ absurd (let low = slice_get_within was.rows f row row_before in let size = was.size in let rows_size = was.rows_size in omega (arith, low, size, rows_size, last))
+        | inr (row_last, same_row) ↦ (
+            let place : f ≡ n = last ∙ was.size in
+            subst (λ (y : FileKnown). IsFileKnown u marks k f tree row y) same
+            (subst (λ (r : List Told). IsFileKnown u marks k f tree r one) same_row
+            (subst (λ (m : ℕ). IsFileKnown u marks k m tree last_row one) (sym place) (is tree (ap (tree_at u) (sym place) ∙ there))))
+            )
+      ]
     ];
   })
 
@@ -49,7 +65,8 @@ module _ (u : Unit) (marks : Item → Meaning) (k : Known) where
   pub graphs_are : (list : List FileKnown) (flows : List FileFlow) → AreFilesKnown u marks k (length u.trees) list → AreLent u.trees list (length u.trees) flows → AreGraphs flows
   graphs_are list flows are lent f x at =
       let l = lent.each f x at in
-      let known = are.each f l.tree l.known l.tree_there l.known_there in
+      let (row, row_there) = there_at are.rows f (let low = slice_get_within list f l.known l.known_there in let size = are.size in let rows_size = are.rows_size in omega (arith, low, size, rows_size)) in
+      let known = are.each f l.tree l.known row l.tree_there l.known_there row_there in
       subst (λ (t : FileTree). IsGraph t x.labels.now x.graph.now) (sym l.tree_is)
       (subst (λ (labels : List (Option ℕ)). IsGraph l.tree labels x.graph.now) (sym l.labels_are) (subst (λ (g : List (List ℕ)). IsGraph l.tree l.known.labels.items g) (sym l.graph_is) known.graph))
 

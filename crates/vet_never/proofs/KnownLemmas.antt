@@ -35,13 +35,9 @@ use Rattle.vet_never.specs.Knowing.{handed_in, IsFileKnown, AreFilesKnown, AreLe
 use Rattle.vet_never.specs.Listed.{is_listed_name, listed_in}
 use Rattle.vet_never.specs.Never.{Around, body_with, body_in, body_at, body_of, bodies_in, IsAround}
 use Rattle.vet_never.proofs.AdmitLemmas.{unadmitted}
+use Rattle.vet_never.proofs.FileLemmas.{there_at}
 
 -- ---- lists
-
-there_at : {X : Type 0} (xs : List X) (i : ℕ) → i < length xs → (x : X) × (slice_get xs i ≡ Some x)
-there_at [] i low = absurd (omega arith)
-there_at (x ∷ xs) zero low = (x, refl)
-there_at (x ∷ xs) (suc i) low = there_at xs i (omega arith)
 
 past : {X : Type 0} (xs : List X) (i : ℕ) → length xs ≤ i → slice_get xs i ≡ None
 past [] i low = refl
@@ -68,44 +64,46 @@ no_callee nodes n none =
     ap (λ (o : Option Node). option_map (bare nodes) (option_and_then callee_part (option_and_then if_call o))) (ap (λ k. slice_get nodes k) (bare_nowhere nodes (length nodes) n none) ∙ none)
 
 module _ (u : Unit) (marks : Item → Meaning) (k : Known) (list : List FileKnown) (are : AreFilesKnown u marks k (length u.trees) list) where
-  abbrev told_at : ℕ → FileKnown → Option Told
-  told_at n x = slice_get x.told.items n
+  abbrev told_at : ℕ → List Told → Option Told
+  told_at n row = slice_get row n
 
   -- what is known, as functions of files and nodes
   abbrev pub around : Around
   around = record {
     labels = λ f. option_map_or (λ (x : FileKnown). x.labels.items) (slice_get list f) [];
-    callee = λ at. option_map_or callee_in (option_and_then (told_at at.node) (slice_get list at.file)) Other;
+    callee = λ at. option_map_or callee_in (option_and_then (told_at at.node) (slice_get are.rows at.file)) Other;
   }
 
   -- a file that is there is known
-  known_there : (f : ℕ) (tree : FileTree) → tree_at u f ≡ Some tree → (x : FileKnown) × (slice_get list f ≡ Some x) × IsFileKnown u marks k f tree x
+  known_there : (f : ℕ) (tree : FileTree) → tree_at u f ≡ Some tree → (x : FileKnown) × (row : List Told) × (slice_get list f ≡ Some x) × (slice_get are.rows f ≡ Some row) × IsFileKnown u marks k f tree row x
   known_there f tree there =
-      let (x, at) = there_at list f (let low = slice_get_within u.trees f tree there in let size = are.size in omega (arith, low, size)) in
-      (x, at, are.each f tree x there at)
+      let low = slice_get_within u.trees f tree there in
+      let (x, at) = there_at list f (let size = are.size in omega (arith, low, size)) in
+      let (row, here) = there_at are.rows f (let size = are.rows_size in omega (arith, low, size)) in
+      (x, row, at, here, are.each f tree x row there at here)
 
   other_called : (f n : ℕ) → slice_get (nodes_at u f) n ≡ None → IsCallee u marks (place f n) Other
   other_called f n none = subst (λ (o : Option ℕ). IsCalleeOf u marks f o Other) (sym (no_callee (nodes_at u f) n none)) refl
 
   calls_known : (f n : ℕ) → IsCallee u marks (place f n) (around.callee (place f n))
   calls_known f n = by (tree_at u f) refl where
-    by_told : (tree : FileTree) (x : FileKnown) (o : Option Told) → tree_at u f ≡ Some tree → IsFileKnown u marks k f tree x → slice_get x.told.items n ≡ o → IsCallee u marks (place f n) (option_map_or callee_in o Other)
-    by_told tree x None there known e = other_called f n (ap (λ (t : Option FileTree). slice_get (nodes_of t) n) there ∙ past tree.nodes n (let l = none_within x.told.items n e in let size = known.callees.size in omega (arith, l, size)))
-    by_told tree x (Some t) there known e = known.callees.each n t e
+    by_told : (tree : FileTree) (x : FileKnown) (row : List Told) (o : Option Told) → tree_at u f ≡ Some tree → IsFileKnown u marks k f tree row x → slice_get row n ≡ o → IsCallee u marks (place f n) (option_map_or callee_in o Other)
+    by_told tree x row None there known e = other_called f n (ap (λ (t : Option FileTree). slice_get (nodes_of t) n) there ∙ past tree.nodes n (let l = none_within row n e in let size = known.callees.size in omega (arith, l, size)))
+    by_told tree x row (Some t) there known e = known.callees.each n t e
 
     by : (o : Option FileTree) → tree_at u f ≡ o → IsCallee u marks (place f n) (around.callee (place f n))
     by None e =
-        subst (λ (y : Option FileKnown). IsCallee u marks (place f n) (option_map_or callee_in (option_and_then (told_at n) y) Other))
-        (sym (past list f (let l = none_within u.trees f e in let size = are.size in omega (arith, l, size)))) (other_called f n (ap (λ (t : Option FileTree). slice_get (nodes_of t) n) e))
+        subst (λ (y : Option (List Told)). IsCallee u marks (place f n) (option_map_or callee_in (option_and_then (told_at n) y) Other))
+        (sym (past are.rows f (let l = none_within u.trees f e in let size = are.rows_size in omega (arith, l, size)))) (other_called f n (ap (λ (t : Option FileTree). slice_get (nodes_of t) n) e))
     by (Some tree) e =
-        let (x, at, known) = known_there f tree e in
-        subst (λ (y : Option FileKnown). IsCallee u marks (place f n) (option_map_or callee_in (option_and_then (told_at n) y) Other)) (sym at) (by_told tree x (slice_get x.told.items n) e known refl)
+        let (x, row, at, here, known) = known_there f tree e in
+        subst (λ (y : Option (List Told)). IsCallee u marks (place f n) (option_map_or callee_in (option_and_then (told_at n) y) Other)) (sym here) (by_told tree x row (slice_get row n) e known refl)
 
   pub is_around : IsAround u marks around
   is_around = record {
     calls = λ at. calls_known at.file at.node;
     labels = λ f tree there. (
-        let (x, at, known) = known_there f tree there in
+        let (x, row, at, here, known) = known_there f tree there in
         subst (λ (y : Option FileKnown). AreTold (text_in u f) tree (option_map_or (λ (z : FileKnown). z.labels.items) y [])) (sym at) known.told
         );
   }
@@ -122,7 +120,8 @@ module _ (u : Unit) (marks : Item → Meaning) (k : Known) (list : List FileKnow
     block_is at tree b there =
         let (x, flow) = there_at flows at.file (let low = slice_get_within u.trees at.file tree there in let size = lent.size in omega (arith, low, size)) in
         let l = lent.each at.file x flow in
-        let known = are.each at.file tree l.known there l.known_there in
+        let (row, here) = there_at are.rows at.file (let low = slice_get_within u.trees at.file tree there in let size = are.rows_size in omega (arith, low, size)) in
+        let known = are.each at.file tree l.known row there l.known_there here in
         let same : l.tree ≡ tree = same_some (tree_at u at.file) l.tree tree l.tree_there there in
         record {
           file = x;
@@ -130,8 +129,8 @@ module _ (u : Unit) (marks : Item → Meaning) (k : Known) (list : List FileKnow
           tree = l.tree_is ∙ same;
           labels = l.labels_are ∙ sym (ap (λ (y : Option FileKnown). option_map_or (λ (z : FileKnown). z.labels.items) y []) l.known_there);
           node = refl;
-          calls = λ n. ap (λ (row : List Call). call_at row n) (l.calls_are ∙ known.calls) ∙ (calls_same (handed_in k) (number 0 u) l.known.told.items n
-              ∙ ap (call_of (handed_in k) (number 0 u)) (sym (ap (λ (y : Option FileKnown). option_map_or callee_in (option_and_then (told_at n) y) Other) l.known_there)));
+          calls = λ n. ap (λ (row : List Call). call_at row n) (l.calls_are ∙ known.calls) ∙ (calls_same (handed_in k) (number 0 u) row n
+              ∙ ap (call_of (handed_in k) (number 0 u)) (sym (ap (λ (y : Option (List Told)). option_map_or callee_in (option_and_then (told_at n) y) Other) here)));
         }
 
     body_by : (name : List ℕ) → IsBodyOf flows (handed_in k) (number 0 u) (option_and_then (body_at u around) (declared_at u name)) (body_told u name)

@@ -11,6 +11,7 @@ use Rattle.handed_facts.specs.Handed as handed
 use Rattle.least.specs.Tables.{Member}
 use Rattle.member_names.specs.declared.named.Named.{Named as Name}
 use Rattle.member_names.specs.InCode.{named_in}
+use Rattle.own_functions.specs.Functions.{number}
 use Rattle.never_returns.specs.Admits.{Callee, Other, Panic, Named}
 use Rattle.never_returns.specs.Bodies.{call_of}
 use Rattle.vet_never.specs.declared.told.Told.{Told}
@@ -41,3 +42,11 @@ pub record AreCallees (u : Unit) (marks : Item → Meaning) (f n : ℕ) (row : L
 -- by number
 abbrev pub AreCalls : (Member → Bool) → (Member → Option ℕ) → List Told → List Call → Type 0
 AreCalls given number row calls = calls ≡ map (λ t. call_of given number (callee_in t)) row
+
+-- the number of what a node calls
+abbrev pub IsCallAt : Unit → (Item → Meaning) → (Member → Bool) → ℕ → ℕ → Call → Type 0
+IsCallAt u marks given f n call = (t : Told) × IsCallee u marks (place f n) (callee_in t) × (call ≡ call_of given (number 0 u) (callee_in t))
+
+-- those of what a file's first few nodes call
+abbrev pub AreCallsOf : Unit → (Item → Meaning) → (Member → Bool) → ℕ → ℕ → List Call → Type 0
+AreCallsOf u marks given f n calls = (row : List Told) × AreCallees u marks f n row × AreCalls given (number 0 u) row calls

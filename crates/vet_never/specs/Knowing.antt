@@ -21,6 +21,7 @@ use Rattle.unit_read.specs.Index.{found}
 use Rattle.unit_read.specs.Units.{Unit, text_in, tree_at, nodes_at}
 use Rattle.vet_never.specs.declared.calls.Known.{Known}
 use Rattle.vet_never.specs.declared.files.FileKnown.{FileKnown}
+use Rattle.vet_never.specs.declared.told.Told.{Told}
 use Rattle.vet_never.specs.Listed.{is_listed_name}
 use Rattle.vet_never.specs.InCode.{handed_by, AreCallees, AreCalls}
 use Rattle.vet_never.specs.Never.{fact_name}
@@ -37,17 +38,19 @@ pub record IsKnown (u : Unit) (k : Known) : Type 0 where
 
 -- ---- files
 
--- what is known of a file of the package
-pub record IsFileKnown (u : Unit) (marks : Item → Meaning) (k : Known) (f : ℕ) (tree : FileTree) (x : FileKnown) : Type 0 where
+-- what is known of a file of the package, whose nodes call these
+pub record IsFileKnown (u : Unit) (marks : Item → Meaning) (k : Known) (f : ℕ) (tree : FileTree) (row : List Told) (x : FileKnown) : Type 0 where
   pub told : AreTold (text_in u f) tree x.labels.items
   pub graph : IsGraph tree x.labels.items x.graph
-  pub callees : AreCallees u marks f (length tree.nodes) x.told.items
-  pub calls : AreCalls (handed_in k) (number 0 u) x.told.items x.calls.items
+  pub callees : AreCallees u marks f (length tree.nodes) row
+  pub calls : AreCalls (handed_in k) (number 0 u) row x.calls.items
 
 -- of each of the first few
 pub record AreFilesKnown (u : Unit) (marks : Item → Meaning) (k : Known) (n : ℕ) (list : List FileKnown) : Type 0 where
+  pub rows : List (List Told)
   pub size : length list ≡ n
-  pub each : (f : ℕ) (tree : FileTree) (x : FileKnown) → tree_at u f ≡ Some tree → slice_get list f ≡ Some x → IsFileKnown u marks k f tree x
+  pub rows_size : length rows ≡ n
+  pub each : (f : ℕ) (tree : FileTree) (x : FileKnown) (row : List Told) → tree_at u f ≡ Some tree → slice_get list f ≡ Some x → slice_get rows f ≡ Some row → IsFileKnown u marks k f tree row x
 
 -- a file as it is handed on
 pub record IsLent (trees : List FileTree) (list : List FileKnown) (f : ℕ) (x : FileFlow) : Type 0 where

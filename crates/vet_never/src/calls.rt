@@ -4,7 +4,7 @@ ghost use Rattle.never_returns.specs.Admits.{Named};
 ghost use Rattle.never_returns.specs.Bodies.{numbered, call_of};
 ghost use Rattle.findings.specs.Passes.{unit_in, marks_in, IsPass};
 ghost use Rattle.own_functions.specs.Functions.{is_own, number};
-ghost use Rattle.vet_never.specs.InCode.{member_in, callee_in, AreCallees, AreCalls};
+ghost use Rattle.vet_never.specs.InCode.{member_in, callee_in, IsCallAt, AreCallsOf};
 ghost use Rattle.vet_never.specs.Knowing.{handed_in, IsKnown};
 
 use crate::callees::told_of;
@@ -98,38 +98,39 @@ fn call(p: &Pass, known: &Known<'_, '_>, told: &Told) -> Result<Call, NoMemory>
     }
 }
 
-/// What the nodes of a file call.
-pub(crate) fn told_row(
+/// What a node calls, by number.
+fn call_at(
     alloc: Global,
     p: &Pass,
+    known: &Known<'_, '_>,
     file: u32,
-    count: usize,
-) -> Result<Vec<Told>, NoMemory>
+    n: u32,
+) -> Result<Call, NoMemory>
     requires pass { IsPass p.now }
-    requires small { count ≤ 2 ^ 32 }
-    ensures { IfOk result (λ row. AreCallees (unit_in p.now) (marks_in p.now) file count row.items) }
+    requires known { IsKnown (unit_in p.now) known.now }
+    ensures { IfOk result (IsCallAt (unit_in p.now) (marks_in p.now) (handed_in known.now) file n) }
 {
-    let mut row = Vec::with_capacity(alloc, count)?;
-    for n in 0..count {
-        let told = told_of(alloc, p, file, n as u32)?;
-        row.push(told)?;
-    }
-    Ok(row)
+    let told = told_of(alloc, p, file, n)?;
+    let call = call(p, known, &told)?;
+    Ok(call)
 }
 
-/// The same by number.
+/// What the nodes of a file call, by number.
 pub(crate) fn call_row(
     alloc: Global,
     p: &Pass,
     known: &Known<'_, '_>,
-    row: &[Told],
+    file: u32,
+    count: usize,
 ) -> Result<Vec<Call>, NoMemory>
-    requires { IsKnown (unit_in p.now) known.now }
-    ensures { IfOk result (λ calls. AreCalls (handed_in known.now) (number 0 (unit_in p.now)) row.now calls.items) }
+    requires pass { IsPass p.now }
+    requires known { IsKnown (unit_in p.now) known.now }
+    requires small { count ≤ 2 ^ 32 }
+    ensures { IfOk result (λ calls. AreCallsOf (unit_in p.now) (marks_in p.now) (handed_in known.now) file count calls.items) }
 {
-    let mut calls = Vec::with_capacity(alloc, row.len())?;
-    for told in row {
-        let one = call(p, known, told)?;
+    let mut calls = Vec::with_capacity(alloc, count)?;
+    for n in 0..count {
+        let one = call_at(alloc, p, known, file, n as u32)?;
         calls.push(one)?;
     }
     Ok(calls)

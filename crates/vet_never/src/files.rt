@@ -1,14 +1,14 @@
 //! What is known of the files of a package.
-ghost use Rattle.std.specs.Prelude.{◌≡◌, ◌<◌, ◌≤◌, ◌^◌, Some, IfOk, length};
+ghost use Rattle.std.specs.Prelude.{◌≡◌, ◌<◌, ◌≤◌, ◌^◌, List, Some, IfOk, length};
 ghost use Rattle.go_tree.specs.Pieces.{Spelled};
 ghost use Rattle.go_tree.specs.declared.tree.FileTree.{FileTree as OneTree};
 ghost use Rattle.unit_read.specs.Units.{text_in, tree_at};
 ghost use Rattle.findings.specs.Passes.{unit_in, marks_in, IsPass};
 ghost use Rattle.vet_flow.specs.Unreachable.{AreTreesSpelled};
+ghost use Rattle.vet_never.specs.declared.told.Told.{Told as ATold};
 ghost use Rattle.vet_never.specs.Knowing.{IsKnown, IsFileKnown, AreFilesKnown, IsLent, AreLent};
 
-use crate::calls::{Known, call_row, told_row};
-use crate::told::Told;
+use crate::calls::{Known, call_row};
 use file_flow::{file_graph, file_labels};
 use findings::Pass;
 use flow::{Call, Graph};
@@ -17,12 +17,11 @@ use gv_base::NoMemory;
 use never_returns::FileFlow;
 use std::alloc::Global;
 
-/// What is known of a file: the labels that its jumps denote, where control passes, and what its statements call, by name and by number.
+/// What is known of a file: the labels that its jumps denote, where control passes, and what its statements call, by number.
 #[derive(Drop)]
 pub(crate) struct FileKnown {
     pub labels: Vec<Option<u32>>,
     pub graph: Graph,
-    pub told: Vec<Told>,
     pub calls: Vec<Call>,
 }
 
@@ -56,16 +55,14 @@ fn known_of(
     requires bytes { bytes.now ≡ text_in (unit_in p.now) file }
     requires spelled { Spelled tree.now.tokens bytes.now tree.now }
     requires small { length tree.now.nodes ≤ 2 ^ 32 }
-    ensures { IfOk result (IsFileKnown (unit_in p.now) (marks_in p.now) known.now file tree.now) }
+    ensures { IfOk result (λ x. (row : List ATold) × IsFileKnown (unit_in p.now) (marks_in p.now) known.now file tree.now row x) }
 {
     let labels = file_labels(alloc, tree, bytes)?;
     let graph = file_graph(alloc, tree, bytes, &labels)?;
-    let told = told_row(alloc, p, file, node_count(tree))?;
-    let calls = call_row(alloc, p, known, &told)?;
+    let calls = call_row(alloc, p, known, file, node_count(tree))?;
     Ok(FileKnown {
         labels,
         graph,
-        told,
         calls,
     })
 }
@@ -87,7 +84,7 @@ fn file_known(
     requires known { IsKnown (unit_in p.now) known.now }
     requires spelled { AreTreesSpelled (unit_in p.now) }
     requires there { file < length p.now.subject.now.trees.now }
-    ensures { IfOk result (λ x. (tree : OneTree) → tree_at (unit_in p.now) file ≡ Some tree → IsFileKnown (unit_in p.now) (marks_in p.now) known.now file tree x) }
+    ensures { IfOk result (λ x. (row : List ATold) × ((tree : OneTree) → tree_at (unit_in p.now) file ≡ Some tree → IsFileKnown (unit_in p.now) (marks_in p.now) known.now file tree row x)) }
 {
     let one = known_of(alloc, p, known, file, nth_tree(p, file), text_in(p, file))?;
     Ok(one)

@@ -1,5 +1,5 @@
 -- In which ways what nodes name prints.
-use Rattle.std.proofs.Common.{◌≡◌, ◌⊎◌, ◌↔◌, ◌<◌, ◌==◌, inl, inr, ℕ, zero, suc, Bool, true, false, ◌||◌, List, [], ◌∷◌, length, Option, Some, None, slice_index_or, refl, sym, ap, ◌∙◌, subst, if◌then◌else◌, arith}
+use Rattle.std.proofs.Common.{◌≡◌, ◌⊎◌, ◌↔◌, inl, inr, ℕ, zero, suc, Bool, true, false, ◌||◌, List, [], ◌∷◌, Option, Some, None, slice_index_or, refl, sym, ap, ◌∙◌, subst, arith}
 use Rattle.std.specs.Prelude.{slice_get, option_and_then}
 use Rattle.std.specs.Global.{Vec}
 use Rattle.std.specs.Option.{option_map_or}
@@ -7,24 +7,22 @@ use Rattle.std.proofs.lemmas.Option.{slice_get_within}
 use Rattle.fact_codec.specs.declared.wraps.WrapKind.{WrapKind}
 use Rattle.fact_codec.specs.declared.wraps.WrapKind.TheVariants as wrap
 use Rattle.go_tree.specs.declared.tree.Node.{Node}
+use Rattle.go_tree.specs.declared.tree.NodeKind.{NodeKind}
+use Rattle.go_tree.specs.declared.tree.NodeKind.TheVariants as form
 use Rattle.go_tree.specs.declared.tree.NodeRef.{NodeRef}
-use Rattle.least.specs.Numbered.{is_marked}
-use Rattle.least.specs.Tables.{Member, member}
-use Rattle.least.specs.Work.{set_of}
+use Rattle.least.specs.Tables.{member}
 use Rattle.member_names.specs.declared.named.Named.{Named}
 use Rattle.member_names.specs.Named.{IsNamed}
 use Rattle.member_names.specs.InCode.{named_in, found_named, Finds}
-use Rattle.object_order.specs.Spots.{place}
 use Rattle.typed_marks.specs.declared.item.Item.{Item}
 use Rattle.typed_marks.specs.Meanings.{Meaning}
 use Rattle.unit_read.specs.Units.{Unit, nodes_at}
-use Rattle.vet_words.specs.Called.{function_of, function_at}
+use Rattle.vet_words.specs.Forms.{is_selector}
+use Rattle.vet_words.specs.Called.{function_by, function_of}
 use Rattle.vet_printf.specs.declared.known.Known.{Known}
 use Rattle.vet_printf.specs.declared.printing.Printing.{Printing}
 use Rattle.vet_printf.specs.Calls.{kinds_at}
-use Rattle.vet_printf.specs.InTable.{AreEach}
-use Rattle.vet_printf.specs.Items.{flags_as, sets_of, prints, kinds_of_member, IsKindsCell, AreKindsRow, AreKindsRows}
-use Rattle.vet_printf.specs.Kinds.{kinds_number}
+use Rattle.vet_printf.specs.Items.{sets_of, has_name, may_name, prints, kinds_of_member, IsKindsCell, AreKindsRow, AreKindsRows}
 use Rattle.vet_printf.specs.Knowing.{handed_in}
 use Rattle.vet_printf.specs.Verbs.{has_flag}
 use Rattle.vet_printf.specs.Wraps.{number_of, NamesPrinting}
@@ -79,6 +77,35 @@ module _ (k : Known) (u : Unit) (marks : Item → Meaning) (x : Printing) where
     differ : (o : Option Named) (y : List ℕ × List ℕ) → o ≡ None → found_named o ≡ Some y → ⊥
     differ None y p q = cc
     differ (Some m) y p q = cc
+
+  -- ---- nodes of other kinds name nothing
+
+  apart : {C : Type 0} (y : List ℕ × List ℕ) → None ≡ Some y → C
+  apart y e = absurd (cc)
+
+  called_by : (f n : ℕ) (at : Node) (kind : NodeKind) (y : List ℕ × List ℕ) → function_by u marks f n at kind ≡ Some y → has_name kind ≡ true
+  called_by f n at form.Name y e = refl
+  called_by f n at form.Selector y e = refl
+  called_by f n at _ y e = apart y e
+
+  selector_named : (kind : NodeKind) → is_selector kind ≡ true → has_name kind ≡ true
+  selector_named form.Selector e = refl
+  selector_named _ e = absurd (cc)
+
+  there_named : (f n : ℕ) (at : Node) → slice_get (nodes_at u f) n ≡ Some at → has_name at.kind ≡ true → may_name u f n ≡ true
+  there_named f n at there named = ap (λ (o : Option Node). option_map_or (λ (x : Node). has_name x.kind) o false) there ∙ named
+
+  name_there : (f n : ℕ) (y : List ℕ × List ℕ) → IsNamed u marks f n y → may_name u f n ≡ true
+  name_there f n y (inl e) = by (slice_get (nodes_at u f) n) refl e where
+    by : (o : Option Node) → slice_get (nodes_at u f) n ≡ o → option_and_then (function_of u marks f n) o ≡ Some y → may_name u f n ≡ true
+    by None there e = apart y e
+    by (Some at) there e = there_named f n at there (called_by f n at at.kind y e)
+  name_there f n y (inr (none, (at, there, rest))) = there_named f n at there (selector_named at.kind rest.0)
+
+  pub cell_other : (f n : ℕ) (b : Bool) → b ≡ may_name u f n → b ≡ false → IsKindsCell k u marks x f n 0
+  cell_other f n b told out = record { each = λ kind. (λ h. absurd (no_flag kind h), λ (y, named, h). absurd (not_both (may_name u f n) (name_there f n y named) (sym told ∙ out))) } where
+    not_both : (b : Bool) → b ≡ true → b ≡ false → ⊥
+    not_both b e g = cc
 
   -- ---- all nodes
 

@@ -1,5 +1,5 @@
 -- Functions by name and by number, in code.
-use Rattle.std.proofs.Common.{◌≡◌, ◌<◌, ◌+◌, ◌==◌, ℕ, zero, suc, Bool, true, false, List, [], ◌∷◌, map, length, Option, Some, None, refl, sym, ap, ◌∙◌, subst, if◌then◌else◌, arith}
+use Rattle.std.proofs.Common.{◌≡◌, ◌<◌, ◌+◌, ◌==◌, ℕ, zero, suc, Bool, true, false, List, [], ◌∷◌, map, length, Option, Some, None, refl, sym, ap, ◌∙◌, subst, if◌then◌else◌, arith, is_some}
 use Rattle.std.specs.Prelude.{slice_get, bytes_eq, option_and_then, ◌&&◌}
 use Rattle.std.specs.Option.{option_map_or}
 use Rattle.std.proofs.lemmas.Bool.{eq-eqb}
@@ -21,7 +21,7 @@ use Rattle.unit_read.specs.Units.{Unit}
 use Rattle.vet_printf.specs.declared.buckets.Buckets.{Buckets}
 use Rattle.vet_printf.specs.declared.known.Known.{Known}
 use Rattle.vet_printf.specs.Knowing.{has_number, own_place}
-use Rattle.vet_printf.specs.Walk.{stands_at, number_if, number_named, owner_number, declared_name, Given, contribution, after, walk_nodes, walk_files, Fills, IsSized, AreFilled}
+use Rattle.vet_printf.specs.Walk.{stands_at, number_if, number_named, owner_number, declared_name, Given, both_of, contribution, after, walk_nodes, walk_files, Fills, IsSized, AreFilled}
 use Rattle.vet_printf.specs.Wraps.{number_of}
 use Rattle.vet_printf.proofs.ReaderLemmas.{same_some}
 
@@ -98,6 +98,12 @@ owner_below u f d i e = by_name (declared_name u f d) e where
 
 pub fills_none : (count : ℕ) (given : Member → Bool) (number : Member → Option ℕ) (b : Buckets) → Fills count given number None b b
 fills_none count given number b lists were = were
+
+-- where nothing is known of what is called nothing is given
+pub none_given : (kind : ℕ) (i : Option ℕ) (o : Option (List ℕ × List ℕ)) (b : Bool) → b ≡ is_some o → b ≡ false → None ≡ both_of kind i o
+none_given kind None o b told out = refl
+none_given kind (Some i) None b told out = refl
+none_given kind (Some i) (Some x) b told out = absurd (let is : is_some (Some x) ≡ false = sym told ∙ out in cc)
 
 pub fills_as : (count : ℕ) (given : Member → Bool) (number : Member → Option ℕ) (x y : Option Given) (old new : Buckets) → x ≡ y → Fills count given number x old new → Fills count given number y old new
 fills_as count given number x y old new e fills = subst (λ (o : Option Given). Fills count given number o old new) e fills

@@ -5,6 +5,7 @@ pub mod PartLemmas
 pub mod FitLemmas
 pub mod ReaderLemmas
 pub mod FailLemmas
+pub mod SearchLemmas
 pub mod SuitLemmas
 pub mod FlagLemmas
 pub mod WrapperLemmas
@@ -24,3 +25,4 @@ pub mod KnownLemmas
 pub mod GiverLemmas
 pub mod OneLemmas
 pub mod StandLemmas
+pub mod JudgeLemmas

@@ -1,5 +1,5 @@
 -- printf: what is wrong with a call of a function that prints, given what each callee's kinds are.
-use Rattle.std.specs.Prelude.{◌≡◌, ℕ, ◌-◌, Bool, true, false, if◌then◌else◌, List, [], drop, length, Option, Some, None, slice_get, slice_index_or, option_and_then}
+use Rattle.std.specs.Prelude.{if◌then◌else◌, ◌≡◌, ℕ, ◌-◌, Bool, true, false, List, [], drop, length, Option, Some, None, slice_get, slice_index_or, option_and_then}
 use Rattle.std.specs.Global.{Vec}
 use Rattle.std.specs.Option.{option_map_or}
 use Rattle.gv_base.specs.declared.constant.Const.{Const}
@@ -33,11 +33,10 @@ use Rattle.vet_printf.specs.declared.fault.Argument.{Argument}
 use Rattle.vet_printf.specs.declared.fault.Classes.{Classes}
 use Rattle.vet_printf.specs.declared.fault.Fault.{Fault}
 use Rattle.vet_printf.specs.declared.fault.Fault.TheVariants as f
-use Rattle.vet_printf.specs.declared.flagged.Flags.{Flags}
 use Rattle.vet_printf.specs.Verbs.{has_flag}
 use Rattle.vet_printf.specs.Formats.{format_fault, has_possible}
 use Rattle.vet_printf.specs.InTable.{AreEach}
-use Rattle.vet_printf.specs.Tables.{IsArgumentOf, AreFlags}
+use Rattle.vet_printf.specs.Tables.{IsArgumentOf, AreJudged}
 use Rattle.vet_printf.specs.Texts.{fault_text}
 
 -- ---- arguments
@@ -172,9 +171,9 @@ ArePrintFaults kinds u marks found = AreFindings (IsPrintFault kinds) u marks fo
 abbrev pub kinds_at : List (Vec ℕ) → NodeRef → ℕ
 kinds_at rows at = option_map_or (λ (row : Vec ℕ). slice_index_or row.items at.node 0) (slice_get rows at.file) 0
 
--- the flags are those of the types of a package's table, and the package is this one
-pub record AreFlagsOf (p : Pass) (flags : Flags) (u : Unit) (marks : Item → Meaning) : Type 0 where
+-- what is kept of types is so of those of a package's table, and the package is this one
+pub record AreJudgedOf (p : Pass) (cells : List (Option Argument)) (u : Unit) (marks : Item → Meaning) : Type 0 where
   pub pass : IsPass p
   pub unit : unit_in p ≡ u
   pub says : marks_in p ≡ marks
-  pub are : AreFlags p.state.now.table flags
+  pub are : AreJudged p.state.now.table cells

@@ -1,5 +1,5 @@
 -- Types of a table, in code.
-use Rattle.std.specs.Prelude.{◌≡◌, ℕ, ◌<◌, ◌⊎◌, ◌↔◌, ◌&&◌, ◌||◌, not, Bool, true, false, List, [], ◌∷◌, length, map, Option, Some, slice_get, slice_index_or}
+use Rattle.std.specs.Prelude.{◌≡◌, ℕ, ◌<◌, ◌⊎◌, ◌↔◌, ◌&&◌, ◌||◌, not, Bool, true, false, List, [], ◌∷◌, length, map, Some, slice_get, slice_index_or}
 use Rattle.std.specs.List.{Contains}
 use Rattle.std.specs.Option.{option_map_or}
 use Rattle.type_model.specs.declared.term.Field.{Field}
@@ -12,7 +12,7 @@ use Rattle.vet_printf.specs.declared.asking.Asked.{Asked}
 use Rattle.vet_printf.specs.declared.asking.Wanted.TheVariants as w
 use Rattle.vet_printf.specs.declared.shapes.Shape.{Shape}
 use Rattle.vet_printf.specs.declared.verb.Class.{Class}
-use Rattle.vet_printf.specs.Fitting.{Has, is_parted_type, parts_in, IsFit, Suits, Fails}
+use Rattle.vet_printf.specs.Fitting.{Has, parts_in, IsFit, Suits, Fails}
 
 -- ---- rows
 
@@ -60,10 +60,6 @@ numbered t ids = map (ty t) ids
 pub record AreParts (t : TypeTable) (n : ℕ) (ids : List ℕ) : Type 0 where
   pub are : numbered t ids ≡ parts_in (declarations_in t) (ty t n)
   pub below : (k id : ℕ) → slice_get ids k ≡ Some id → id < count t
-
-pub record IsShape (t : TypeTable) (n : ℕ) (x : Shape) : Type 0 where
-  pub parted : x.parted ≡ is_parted_type (declarations_in t) (ty t n)
-  pub parts : AreParts t n x.parts
 
 -- ---- types that fail
 

@@ -1,9 +1,11 @@
 -- The functions of a package as items of a least set, and what is found of them.
-use Rattle.std.specs.Prelude.{◌≡◌, ◌↔◌, ℕ, ◌||◌, Bool, true, List, length, take, bytes_eq, Option, Some, None, if◌then◌else◌}
+use Rattle.std.specs.Prelude.{if◌then◌else◌, ◌≡◌, ◌↔◌, ℕ, ◌||◌, Bool, true, false, List, length, take, bytes_eq, Option, Some, None, slice_get}
 use Rattle.std.specs.Global.{Vec}
 use Rattle.std.specs.List.{list_any}
-use Rattle.go_tree.specs.declared.tree.NodeRef.{NodeRef}
-use Rattle.least.specs.Least.{IsLeast}
+use Rattle.std.specs.Option.{option_map_or}
+use Rattle.go_tree.specs.declared.tree.Node.{Node}
+use Rattle.go_tree.specs.declared.tree.NodeKind.{NodeKind}
+use Rattle.go_tree.specs.declared.tree.NodeKind.TheVariants as form
 use Rattle.least.specs.Numbered.{is_marked, by_number}
 use Rattle.least.specs.Staged.{IsLeastIn}
 use Rattle.least.specs.Tables.{Member, member, home}
@@ -106,6 +108,16 @@ prints k u kind flags path name = handed_in k (member path name (number_of kind)
 
 abbrev pub kinds_of_member : Known → Unit → Printing → List ℕ → List ℕ → ℕ
 kinds_of_member k u x path name = kinds_number (prints k u wrap.Print x.print.items path name) (prints k u wrap.Printf x.printf.items path name) (prints k u wrap.Errorf x.errorf.items path name)
+
+-- the kinds of nodes that name functions and methods
+abbrev pub has_name : NodeKind → Bool
+has_name form.Name = true
+has_name form.Selector = true
+has_name _ = false
+
+-- the node is of such a kind
+abbrev pub may_name : Unit → ℕ → ℕ → Bool
+may_name u f n = option_map_or (λ (x : Node). has_name x.kind) (slice_get (nodes_at u f) n) false
 
 -- the number says in which ways what a node names prints
 pub record IsKindsCell (k : Known) (u : Unit) (marks : Item → Meaning) (x : Printing) (f n c : ℕ) : Type 0 where

@@ -2,6 +2,7 @@ pub mod Verbs
 pub mod Fitting
 pub mod InTable
 pub mod FailLaws
+pub mod Searching
 pub mod Faults
 pub mod Texts
 pub mod Tables

@@ -1,19 +1,17 @@
--- Flags of all types of a table, and what they tell of an argument.
-use Rattle.std.specs.Prelude.{◌≡◌, ◌↔◌, ℕ, Bool, true, false, List}
+-- What is known of an argument by its type.
+use Rattle.std.specs.Prelude.{◌≡◌, ◌↔◌, ℕ, Bool, true, false, List, Option, IfSome}
 use Rattle.std.specs.Option.{option_map_or}
 use Rattle.gv_base.specs.Kinds.{is_integer}
-use Rattle.type_model.specs.declared.table.TypeTable.{TypeTable}
 use Rattle.type_model.specs.GoTypes.{GoType, BasicType, DefinedType, PointerTo, SliceOf, ArrayOf, MapOf, ChanOf, FuncOf, StructOf, InterfaceOf}
 use Rattle.type_model.specs.Declarations.{Declarations, under_of}
 use Rattle.type_model.specs.Tables.{count, declarations_in}
+use Rattle.type_model.specs.declared.table.TypeTable.{TypeTable}
 use Rattle.vet_printf.specs.declared.asking.Wanted.TheVariants as w
 use Rattle.vet_printf.specs.declared.fault.Argument.{Argument}
-use Rattle.vet_printf.specs.declared.flagged.Flags.{Flags}
 use Rattle.vet_printf.specs.declared.verb.Class.{Class}
-use Rattle.vet_printf.specs.declared.verb.Class.TheVariants as c
 use Rattle.vet_printf.specs.Faults.{in_class}
 use Rattle.vet_printf.specs.Fitting.{Has, Suits}
-use Rattle.vet_printf.specs.InTable.{AreEach, ty, IsSuited}
+use Rattle.vet_printf.specs.InTable.{AreEach, ty}
 
 -- ---- what an argument of a type is
 
@@ -38,22 +36,12 @@ pub record IsArgumentOf (ds : Declarations) (of : GoType) (x : Argument) : Type 
   pub error : (x.error ≡ true) ↔ Has ds of w.Error
   pub classes : (class : Class) → (in_class x.classes class ≡ true) ↔ Suits ds class of
 
--- ---- flags
+-- ---- in code
 
-abbrev pub IsErrorAt : TypeTable → ℕ → Bool → Type 0
-IsErrorAt t n b = (b ≡ true) ↔ Has (declarations_in t) (ty t n) w.Error
+-- what a cell has of arguments of the type of its number
+abbrev pub IsJudged : TypeTable → ℕ → Option Argument → Type 0
+IsJudged t n cell = IfSome cell (IsArgumentOf (declarations_in t) (ty t n))
 
-abbrev pub row_in : Flags → Class → List Bool
-row_in x c.Boolean = x.boolean.items
-row_in x c.Integer = x.integer.items
-row_in x c.IntegerPointer = x.integer_pointer.items
-row_in x c.IntegerTextPointer = x.integer_text_pointer.items
-row_in x c.IntegerText = x.integer_text.items
-row_in x c.Text = x.text.items
-row_in x c.Reference = x.reference.items
-row_in x c.Nothing = x.nothing.items
-
--- the flags of all types
-pub record AreFlags (t : TypeTable) (x : Flags) : Type 0 where
-  pub errors : AreEach (IsErrorAt t) (count t) x.errors.items
-  pub rows : (class : Class) → AreEach (IsSuited t class) (count t) (row_in x class)
+-- a cell for each type of a table, and what they have is so
+abbrev pub AreJudged : TypeTable → List (Option Argument) → Type 0
+AreJudged t cells = AreEach (IsJudged t) (count t) cells

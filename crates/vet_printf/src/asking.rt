@@ -1,5 +1,5 @@
 //! Which methods that print types have.
-ghost use Rattle.std.specs.Prelude.{◌≡◌, ◌<◌, ◌^◌, ◌&&◌, ◌||◌, List, codes, map, IfOk};
+ghost use Rattle.std.specs.Prelude.{◌≡◌, ◌<◌, ◌&&◌, ◌||◌, List, codes, map, IfOk};
 ghost use Rattle.std.specs.List.{list_any};
 ghost use Rattle.std.specs.Str.{bytes_eq};
 ghost use Rattle.type_model.specs.GoTypes.{GoType, type_at, type_of, types_at, signature_of, AreBelow, SignatureBelow, MethodsBelow};
@@ -7,7 +7,7 @@ ghost use Rattle.type_model.specs.Parts.{method_of};
 ghost use Rattle.type_model.specs.Tables.{IsTable, types_in, count};
 ghost use Rattle.method_sets.specs.Paths.{base};
 ghost use Rattle.vet_printf.specs.Fitting.{is_text_kind, is_text, are_none, are_one_text, gives_text, is_wanted, is_bare};
-ghost use Rattle.vet_printf.specs.InTable.{AreEach, IsAsked};
+ghost use Rattle.vet_printf.specs.InTable.{IsAsked};
 
 use gv_base::{Kind, NoMemory};
 use method_sets::method_set;
@@ -183,8 +183,8 @@ fn is_bare_under(t: &TypeTable, id: TypeId) -> bool
     }
 }
 
-/// Most types of a table have no methods, as their form tells.
-fn asked_of(alloc: Global, t: &TypeTable, id: TypeId) -> Result<Asked, NoMemory>
+/// Which of the methods a type has. Most types of a table have none, as their form tells.
+pub(crate) fn asked_of(alloc: Global, t: &TypeTable, id: TypeId) -> Result<Asked, NoMemory>
     requires table { IsTable t.now }
     requires within { id.0 < count t.now }
     ensures { IfOk result (IsAsked t.now id.0) }
@@ -198,24 +198,4 @@ fn asked_of(alloc: Global, t: &TypeTable, id: TypeId) -> Result<Asked, NoMemory>
     }
     let asked = asked_by_set(alloc, t, id)?;
     Ok(asked)
-}
-
-pub(crate) fn count_types(t: &TypeTable) -> usize
-    ensures { result ≡ count t.now }
-{
-    t.terms().len()
-}
-
-/// For each type of the table the methods that it has.
-pub(crate) fn all_asked(alloc: Global, t: &TypeTable) -> Result<Vec<Asked>, NoMemory>
-    requires table { IsTable t.now }
-    requires few { count t.now < 2 ^ 32 }
-    ensures { IfOk result (λ list. AreEach (IsAsked t.now) (count t.now) list.items) }
-{
-    let mut list = Vec::with_capacity(alloc, count_types(t))?;
-    for n in 0..count_types(t) {
-        let one = asked_of(alloc, t, TypeId(n as u32))?;
-        list.push(one)?;
-    }
-    Ok(list)
 }

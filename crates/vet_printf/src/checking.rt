@@ -2,13 +2,12 @@
 ghost use Rattle.std.specs.Prelude.{◌≡◌, ◌≤◌, ◌<◌, ◌^◌, ◌-◌, [], length, drop, IfOk, OnOk};
 ghost use Rattle.findings.specs.Gains.{Gains, OfSome};
 ghost use Rattle.findings.specs.Passes.{unit_in, marks_in, IsPass};
-ghost use Rattle.vet_printf.specs.Tables.{AreFlags};
+ghost use Rattle.vet_printf.specs.Tables.{AreJudged};
 ghost use Rattle.vet_printf.specs.Calls.{IsFaultOf, IsFormatFound, IsPlainFound, part_text};
 
 use crate::arguments::all_arguments;
 use crate::const_texts::part_text;
-use crate::fault::Fault;
-use crate::flagged::Flags;
+use crate::fault::{Argument, Fault};
 use crate::formats::{format_fault, has_possible};
 use crate::telling::push_fault;
 use analysis_core::Diagnostic;
@@ -22,18 +21,18 @@ use std::alloc::Global;
 fn checked_fault(
     alloc: Global,
     p: &Pass,
-    flags: &Flags,
+    cells: &[Option<Argument>],
     file: u32,
     errorf: bool,
     nodes: &[u32],
     text: &[u8],
 ) -> Result<Option<Fault>, NoMemory>
     requires pass { IsPass p.now }
-    requires flags { AreFlags p.now.state.now.table flags.now }
+    requires cells { AreJudged p.now.state.now.table cells.now }
     requires short { length text.now ≤ 65536 }
     ensures { IfOk result (IsFaultOf (unit_in p.now) (marks_in p.now) file errorf nodes.now text.now) }
 {
-    let list = all_arguments(alloc, p, flags, file, nodes)?;
+    let list = all_arguments(alloc, p, cells, file, nodes)?;
     let read = read_format(alloc, text)?;
     if list.len() >= 4294967296 {
         return Err(NoMemory);
@@ -44,7 +43,7 @@ fn checked_fault(
 fn report_format(
     alloc: Global,
     p: &Pass,
-    flags: &Flags,
+    cells: &[Option<Argument>],
     file: u32,
     node: &Node,
     callee: u32,
@@ -54,11 +53,11 @@ fn report_format(
     found: &mut Vec<Diagnostic>,
 ) -> Result<(), NoMemory>
     requires pass { IsPass p.now }
-    requires flags { AreFlags p.now.state.now.table flags.now }
+    requires cells { AreJudged p.now.state.now.table cells.now }
     requires short { length text.now ≤ 65536 }
     ensures { OnOk result (Gains (IsFormatFound (unit_in p.now) (marks_in p.now) file node.now callee errorf nodes.now text.now) found.old.items found.new.items) }
 {
-    let checked = checked_fault(alloc, p, flags, file, errorf, nodes, text)?;
+    let checked = checked_fault(alloc, p, cells, file, errorf, nodes, text)?;
     match checked {
         Some(fault) => {
             push_fault(alloc, p, file, node, nodes, callee, fault, found)?;
@@ -103,7 +102,7 @@ fn rest_of(parts: &[u32], count: usize) -> &[u32]
     }
 }
 
-fn rest_parts(node: &Node, count: usize) -> &[u32]
+pub(crate) fn rest_parts(node: &Node, count: usize) -> &[u32]
     ensures { result.now ≡ drop count node.now.parts }
 {
     rest_of(node.parts.as_slice(), count)
@@ -112,7 +111,7 @@ fn rest_parts(node: &Node, count: usize) -> &[u32]
 pub(crate) fn report_format_at(
     alloc: Global,
     p: &Pass,
-    flags: &Flags,
+    cells: &[Option<Argument>],
     file: u32,
     node: &Node,
     callee: u32,
@@ -121,14 +120,14 @@ pub(crate) fn report_format_at(
     found: &mut Vec<Diagnostic>,
 ) -> Result<(), NoMemory>
     requires pass { IsPass p.now }
-    requires flags { AreFlags p.now.state.now.table flags.now }
+    requires cells { AreJudged p.now.state.now.table cells.now }
     ensures { OnOk result (Gains (OfSome (part_text (marks_in p.now) file node.now (count - 1)) (IsFormatFound (unit_in p.now) (marks_in p.now) file node.now callee errorf (drop count node.now.parts))) found.old.items found.new.items) }
 {
     let nodes = rest_parts(node, count);
     match part_text(p, file, node, count.saturating_sub(1)) {
         Some(text) => {
             report_format(
-                alloc, p, flags, file, node, callee, errorf, nodes, text, found,
+                alloc, p, cells, file, node, callee, errorf, nodes, text, found,
             )?;
             Ok(())
         }

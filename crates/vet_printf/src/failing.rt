@@ -1,4 +1,4 @@
-//! Types that a class of arguments doesn't have: the least set, since a type may have itself among its parts.
+//! Items that are admitted by their shapes: the least set, since an item may have itself among its parts.
 ghost use Rattle.std.specs.Prelude.{◌≡◌, ◌<◌, ◌^◌, ◌&&◌, ◌||◌, [], not, length, IsTrue, IfOk};
 ghost use Rattle.least.specs.Least.{IsLeast};
 ghost use Rattle.least.specs.Work.{among, set_of};
@@ -11,7 +11,7 @@ use gv_base::NoMemory;
 use least::{Admission, least};
 use std::alloc::Global;
 
-/// The types of a table: whether the class has them as they stand, their parts, and whose parts they are.
+/// Items: whether they are settled otherwise, their parts, and whose parts they are.
 #[derive(Drop)]
 struct Failing<'a> {
     fits: &'a [bool],
@@ -89,14 +89,14 @@ impl<'a> Admission for Failing<'a> {
     }
 }
 
-/// No types are looked at before the others.
+/// No items are looked at before the others.
 fn none<'a>() -> &'a [u32]
     ensures { result.now ≡ [] }
 {
     &[]
 }
 
-/// Which types fail.
+/// Which items are admitted.
 pub(crate) fn flags_of(
     alloc: Global,
     fits: &[bool],

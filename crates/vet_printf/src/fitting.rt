@@ -1,13 +1,13 @@
 //! Which types a class of arguments has as they stand.
-ghost use Rattle.std.specs.Prelude.{◌≡◌, ◌<◌, ◌^◌, ◌&&◌, ◌||◌, not, slice_get, IfOk};
+ghost use Rattle.std.specs.Prelude.{◌≡◌, ◌<◌, ◌&&◌, ◌||◌, not, IfOk};
 ghost use Rattle.gv_base.specs.Kinds.{is_nil};
 ghost use Rattle.type_model.specs.GoTypes.{type_at};
 ghost use Rattle.type_model.specs.Tables.{IsTable, types_in, count, declarations_in};
 ghost use Rattle.vet_printf.specs.Verbs.{takes_text, takes_pointer, takes_reference, takes_kind};
 ghost use Rattle.vet_printf.specs.Fitting.{is_byte_kind, is_byte, is_byte_type, is_parted_type, fits_form, fits_type};
-ghost use Rattle.vet_printf.specs.InTable.{AreEach, IsAsked, IsFitAt};
+ghost use Rattle.vet_printf.specs.InTable.{IsAsked, IsFitAt};
 
-use crate::asking::{Asked, count_types};
+use crate::asking::{Asked, asked_of};
 use crate::shapes::is_parted_type;
 use crate::verb::{Class, takes_kind, takes_pointer, takes_reference, takes_text};
 use gv_base::{Kind, NoMemory};
@@ -129,7 +129,7 @@ fn fit_value(t: &TypeTable, class: Class, x: Asked, id: TypeId) -> bool
 }
 
 /// Whether a class has a type as it stands, or the type's methods print it.
-fn is_fit(t: &TypeTable, class: Class, x: Asked, id: TypeId) -> bool
+pub(crate) fn is_fit(t: &TypeTable, class: Class, x: Asked, id: TypeId) -> bool
     requires table { IsTable t.now }
     requires within { id.0 < count t.now }
     requires asked { IsAsked t.now id.0 x }
@@ -138,40 +138,15 @@ fn is_fit(t: &TypeTable, class: Class, x: Asked, id: TypeId) -> bool
     fit_value(t, class, x, id)
 }
 
-fn nth_asked(all: &[Asked], n: u32) -> Option<Asked>
-    ensures { result ≡ slice_get all.now n }
-{
-    all.get(n as usize).copied()
-}
-
-fn fit_nth(t: &TypeTable, class: Class, all: &[Asked], n: u32) -> bool
+/// The same of a type that is met as a part. Its methods are asked for where its form doesn't tell.
+pub(crate) fn fits(alloc: Global, t: &TypeTable, class: Class, id: TypeId) -> Result<bool, NoMemory>
     requires table { IsTable t.now }
-    requires within { n < count t.now }
-    requires asked { AreEach (IsAsked t.now) (count t.now) all.now }
-    ensures { IsFitAt t.now class n result }
+    requires within { id.0 < count t.now }
+    ensures { IfOk result (IsFitAt t.now class id.0) }
 {
-    match nth_asked(all, n) {
-        Some(x) => is_fit(t, class, x, TypeId(n)),
-        None => false,
+    if fits_type(t, class, id) {
+        return Ok(true);
     }
-}
-
-/// For each type of the table whether the class has it so.
-pub(crate) fn all_fits(
-    alloc: Global,
-    t: &TypeTable,
-    class: Class,
-    all: &[Asked],
-) -> Result<Vec<bool>, NoMemory>
-    requires table { IsTable t.now }
-    requires few { count t.now < 2 ^ 32 }
-    requires asked { AreEach (IsAsked t.now) (count t.now) all.now }
-    ensures { IfOk result (λ list. AreEach (IsFitAt t.now class) (count t.now) list.items) }
-{
-    let mut list = Vec::with_capacity(alloc, count_types(t))?;
-    for n in 0..count_types(t) {
-        let one = fit_nth(t, class, all, n as u32);
-        list.push(one)?;
-    }
-    Ok(list)
+    let asked = asked_of(alloc, t, id)?;
+    Ok(is_fit(t, class, asked, id))
 }

@@ -1,7 +1,7 @@
 //! In which ways what nodes name prints.
 ghost use Rattle.std.specs.Prelude.{◌≡◌, ◌≤◌, ◌^◌, IfOk};
 ghost use Rattle.findings.specs.Passes.{unit_in, marks_in, IsPass};
-ghost use Rattle.vet_printf.specs.Items.{prints, kinds_of_member, IsKindsCell, AreKindsCells, AreKindsRow, AreKindsRows};
+ghost use Rattle.vet_printf.specs.Items.{has_name, may_name, prints, kinds_of_member, IsKindsCell, AreKindsCells, AreKindsRow, AreKindsRows};
 ghost use Rattle.vet_printf.specs.Knowing.{IsKnown};
 
 use crate::kinds::kinds_number;
@@ -10,8 +10,10 @@ use crate::printing::{Printing, is_marked};
 use crate::spreads::node_count;
 use fact_codec::WrapKind;
 use findings::Pass;
+use go_tree::NodeKind;
 use gv_base::NoMemory;
 use member_names::{Named, named_at};
+use package_objects::node_of;
 use std::alloc::Global;
 
 fn prints(
@@ -39,7 +41,23 @@ fn kinds_of_member(p: &Pass, known: &Known<'_, '_>, x: &Printing, m: &Named) -> 
     Ok(kinds_number(print, printf, errorf))
 }
 
-fn kinds_at(
+fn has_name(kind: NodeKind) -> bool
+    ensures { result ≡ has_name kind }
+{
+    matches!(kind, NodeKind::Name | NodeKind::Selector)
+}
+
+/// Whether a node is of a kind that names something. Most are not.
+fn may_name(p: &Pass, file: u32, n: u32) -> bool
+    ensures { result ≡ may_name (unit_in p.now) file n }
+{
+    match node_of(p.subject.nodes_at(file), n) {
+        Some(node) => has_name(node.kind),
+        None => false,
+    }
+}
+
+fn cell_named(
     alloc: Global,
     p: &Pass,
     known: &Known<'_, '_>,
@@ -59,6 +77,25 @@ fn kinds_at(
         }
         None => Ok(0),
     }
+}
+
+fn kinds_at(
+    alloc: Global,
+    p: &Pass,
+    known: &Known<'_, '_>,
+    x: &Printing,
+    file: u32,
+    n: u32,
+) -> Result<u8, NoMemory>
+    requires pass { IsPass p.now }
+    requires known { IsKnown (unit_in p.now) (marks_in p.now) known.now }
+    ensures { IfOk result (IsKindsCell known.now (unit_in p.now) (marks_in p.now) x.now file n) }
+{
+    if may_name(p, file, n) {
+        let kinds = cell_named(alloc, p, known, x, file, n)?;
+        return Ok(kinds);
+    }
+    Ok(0)
 }
 
 fn kinds_to(

@@ -1,19 +1,18 @@
 //! What types have as parts.
-ghost use Rattle.std.specs.Prelude.{◌≡◌, ◌<◌, ◌^◌, ◌++◌, List, IfOk, OnOk};
+ghost use Rattle.std.specs.Prelude.{◌≡◌, ◌<◌, ◌++◌, List, IfOk, OnOk};
 ghost use Rattle.type_model.specs.GoTypes.{GoType, type_at, type_of};
 ghost use Rattle.type_model.specs.Tables.{IsTable, types_in, count, declarations_in};
 ghost use Rattle.vet_printf.specs.Fitting.{is_parted, is_parted_type};
-ghost use Rattle.vet_printf.specs.InTable.{AreEach, field_ids, ids_of, AreParts, IsShape};
+ghost use Rattle.vet_printf.specs.InTable.{field_ids, ids_of, AreParts};
 
-use crate::asking::count_types;
 use gv_base::{NoMemory, Row};
 use std::alloc::Global;
 use type_model::{Field, Term, TypeId, TypeTable};
 
-/// The parts of a type, by their numbers.
+/// The parts of a function, by their numbers: to which it hands on.
 #[derive(Drop)]
 pub struct Shape {
-    /// Whether it is printed by parts: a struct, an array, a slice or a map.
+    /// Whether it is judged by its parts.
     pub parted: bool,
     pub parts: Row<u32>,
 }
@@ -96,7 +95,7 @@ fn push_ids(term: &Term, ids: &mut Vec<u32>) -> Result<(), NoMemory>
 }
 
 /// The numbers of the parts of a type.
-fn parts_of(alloc: Global, t: &TypeTable, id: TypeId) -> Result<Vec<u32>, NoMemory>
+pub(crate) fn parts_of(alloc: Global, t: &TypeTable, id: TypeId) -> Result<Vec<u32>, NoMemory>
     requires table { IsTable t.now }
     requires within { id.0 < count t.now }
     ensures { IfOk result (λ ids. AreParts t.now id.0 ids.items) }
@@ -109,31 +108,4 @@ fn parts_of(alloc: Global, t: &TypeTable, id: TypeId) -> Result<Vec<u32>, NoMemo
         }
         None => Ok(ids),
     }
-}
-
-fn shape_of(alloc: Global, t: &TypeTable, id: TypeId) -> Result<Shape, NoMemory>
-    requires table { IsTable t.now }
-    requires within { id.0 < count t.now }
-    ensures { IfOk result (IsShape t.now id.0) }
-{
-    let parts = parts_of(alloc, t, id)?;
-    let parted = is_parted_type(t, id);
-    Ok(Shape {
-        parted,
-        parts: Row::new(parts),
-    })
-}
-
-/// The parts of each type of the table.
-pub(crate) fn all_shapes(alloc: Global, t: &TypeTable) -> Result<Vec<Shape>, NoMemory>
-    requires table { IsTable t.now }
-    requires few { count t.now < 2 ^ 32 }
-    ensures { IfOk result (λ list. AreEach (IsShape t.now) (count t.now) list.items) }
-{
-    let mut list = Vec::with_capacity(alloc, count_types(t))?;
-    for n in 0..count_types(t) {
-        let one = shape_of(alloc, t, TypeId(n as u32))?;
-        list.push(one)?;
-    }
-    Ok(list)
 }

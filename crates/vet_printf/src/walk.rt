@@ -1,5 +1,5 @@
 //! The walk over the calls of a package: to whom functions hand on, as functions of one kind.
-ghost use Rattle.std.specs.Prelude.{◌≡◌, ◌<◌, ◌≤◌, ◌^◌, ◌+◌, Some, length, IfOk, IfSome, OnOk};
+ghost use Rattle.std.specs.Prelude.{◌≡◌, ◌<◌, ◌≤◌, ◌^◌, ◌+◌, Some, is_some, length, IfOk, IfSome, OnOk};
 ghost use Rattle.object_order.specs.Spots.{place};
 ghost use Rattle.unit_read.specs.Units.{nodes_at};
 ghost use Rattle.findings.specs.Passes.{unit_in, marks_in, IsPass};
@@ -88,6 +88,16 @@ fn give(
     }
 }
 
+/// Whether it is known what a node calls with `...`. Most nodes are no such calls.
+fn is_called(known: &Known<'_, '_>, file: u32, n: u32) -> bool
+    ensures { result ≡ is_some (called_at known.now (place file n)) }
+{
+    match called_at(known, file, n) {
+        Some(_named) => true,
+        None => false,
+    }
+}
+
 fn visit(
     alloc: Global,
     p: &Pass,
@@ -104,8 +114,11 @@ fn visit(
     requires sized { IsSized (length (functions (unit_in p.now))) buckets.old }
     ensures { OnOk result (Fills (length (functions (unit_in p.now))) (handed_in known.now) (number (number_of kind) (unit_in p.now)) (contribution (called_at known.now) (unit_in p.now) (marks_in p.now) (number_of kind) file n) buckets.old buckets.new) }
 {
-    let giver = giver(alloc, p, known, number_of(kind), file, row, n)?;
-    give(p, known, kind, giver, file, n, buckets)?;
+    if is_called(known, file, n) {
+        let giver = giver(alloc, p, known, number_of(kind), file, row, n)?;
+        give(p, known, kind, giver, file, n, buckets)?;
+        return Ok(());
+    }
     Ok(())
 }
 

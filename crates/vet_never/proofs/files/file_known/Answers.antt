@@ -19,6 +19,8 @@ pub known_of-requires-clause-small : goal.known_of-requires-clause-small
 known_of-requires-clause-small c = c.requires.pass.small c.args.file c.nth_tree.result.now c.nth_tree.ensures
 
 pub returns : goal.returns
-returns c = λ tree there.
-    subst (λ (t : FileTree). IsFileKnown (unit_in c.args.p.now) (marks_in c.args.p.now) c.args.known.now c.args.file t c.in_ok-one.one) (same_some (tree_at (unit_in c.args.p.now) c.args.file) c.nth_tree.result.now tree c.nth_tree.ensures there)
-    c.in_ok-one.ensures
+returns c = (
+  c.in_ok-one.ensures.0,
+  λ tree there. subst (λ (t : FileTree). IsFileKnown (unit_in c.args.p.now) (marks_in c.args.p.now) c.args.known.now c.args.file t c.in_ok-one.ensures.0 c.in_ok-one.one)
+      (same_some (tree_at (unit_in c.args.p.now) c.args.file) c.nth_tree.result.now tree c.nth_tree.ensures there) c.in_ok-one.ensures.1,
+)

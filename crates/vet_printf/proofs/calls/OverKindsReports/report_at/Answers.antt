@@ -6,8 +6,8 @@ use Rattle.vet_printf.proofs.calls.OverKindsReports.report_at.Goals as goal
 pub report_call-requires-clause-pass : goal.report_call-requires-clause-pass
 report_call-requires-clause-pass c = c.requires.fits.pass
 
-pub report_call-requires-clause-flags : goal.report_call-requires-clause-flags
-report_call-requires-clause-flags c = c.requires.fits.are
+pub report_call-requires-clause-cells : goal.report_call-requires-clause-cells
+report_call-requires-clause-cells c = c.requires.fits.are
 
 pub returns : goal.returns
 returns c =
