@@ -22,7 +22,7 @@ use Rattle.type_model.specs.Tables.{IsTable, AreWidths, declared_as, declared_at
 use Rattle.type_model.proofs.WovenLaws.{woven_push, woven_same, parts_below, weave}
 use Rattle.type_model.proofs.EndLaws.{all_end_as, all_end_empty, nothing}
 
-take-one-more : {X : Type 0} (xs : List X) (n : ℕ) (d : X) → n < length xs → take (n + 1) xs ≡ take n xs ++ slice_index_or xs n d ∷ []
+pub take-one-more : {X : Type 0} (xs : List X) (n : ℕ) (d : X) → n < length xs → take (n + 1) xs ≡ take n xs ++ slice_index_or xs n d ∷ []
 take-one-more [] n d lt = absurd (omega (arith, lt))
 take-one-more (x ∷ xs) zero d lt = refl
 take-one-more (x ∷ xs) (suc n) d lt =
@@ -32,7 +32,7 @@ take-one-more (x ∷ xs) (suc n) d lt =
 pub beside : (terms : List Term) → length (nothings terms) ≡ length terms
 beside terms = length-map terms nothing_of
 
-take-length : {X : Type 0} (xs : List X) (n : ℕ) → n < length xs → length (take n xs) ≡ n
+pub take-length : {X : Type 0} (xs : List X) (n : ℕ) → n < length xs → length (take n xs) ≡ n
 take-length [] n lt = absurd (omega (arith, lt))
 take-length (x ∷ xs) zero lt = refl
 take-length (x ∷ xs) (suc n) lt = ap suc (take-length xs n (omega (arith, lt)))

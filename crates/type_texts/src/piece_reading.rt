@@ -295,7 +295,7 @@ fn one_wanted(alloc: Global) -> Result<Vec<Run>, NoMemory>
 }
 
 /// Room for the pieces of most types.
-const ROOM: usize = 8;
+const ROOM: usize = 16;
 
 /// The pieces of the type at the front, and the bytes after it. Each takes a byte at least.
 pub(crate) fn pieces_of(alloc: Global, bytes: &[u8]) -> Result<(Vec<Piece>, &[u8]), Unread>

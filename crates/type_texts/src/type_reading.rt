@@ -17,6 +17,9 @@ use gv_bytes::Unread;
 use std::alloc::Global;
 use type_model::{TypeId, TypeTable};
 
+/// Room for what most types have of parts at a time.
+const ROOM: usize = 8;
+
 /// What a row makes, from its end.
 fn build(alloc: Global, table: &mut TypeTable, row: Vec<Piece>) -> Result<Vec<Value>, Unread>
     requires table { IsTable table.old }
@@ -25,7 +28,7 @@ fn build(alloc: Global, table: &mut TypeTable, row: Vec<Piece>) -> Result<Vec<Va
     ensures is { Gives (λ values. parts_in (types_in table.new) values.items) result (built row.items) }
     ensures stand { IfOk result (λ values. Stand (count table.new) values.items) }
 {
-    let mut values = Vec::new(alloc);
+    let mut values = Vec::with_capacity(alloc, ROOM)?;
     let mut row = row;
     while let Some(piece) = row.pop() {
         place(alloc, table, &mut values, piece)?;

@@ -15,6 +15,9 @@ use gv_bytes::Unread;
 use std::alloc::Global;
 use type_model::{Field, Method, Signature, Term, TypeId, TypeName, TypeTable};
 
+/// Room for the pieces of most types.
+const ROOM: usize = 16;
+
 /// What is still to be put into a row.
 #[derive(Drop)]
 pub enum Todo {
@@ -317,7 +320,7 @@ fn one_todo(alloc: Global, id: TypeId) -> Result<Vec<Todo>, NoMemory>
     ensures pending { IfOk result (λ todo. (types : List GoType) (rest : List Piece) → pending types todo.items rest ≡ type_row (type_at types id) rest) }
     ensures within { IfOk result (λ todo. (n : ℕ) → id.0 < n → AreIn n todo.items) }
 {
-    let mut todo = Vec::new(alloc);
+    let mut todo = Vec::with_capacity(alloc, ROOM)?;
     push_todo(&mut todo, Todo::Type(id))?;
     Ok(todo)
 }
@@ -327,7 +330,7 @@ fn function_todo(alloc: Global, of: &Signature) -> Result<Vec<Todo>, NoMemory>
     ensures pending { IfOk result (λ todo. (types : List GoType) (rest : List Piece) → pending types todo.items rest ≡ type_row (FuncOf (signature_of types of.now)) rest) }
     ensures within { IfOk result (λ todo. (n : ℕ) → SignatureBelow n of.now → AreIn n todo.items) }
 {
-    let mut todo = Vec::new(alloc);
+    let mut todo = Vec::with_capacity(alloc, ROOM)?;
     push_func(&mut todo, of)?;
     Ok(todo)
 }
@@ -340,7 +343,7 @@ fn rest_of(alloc: Global, table: &TypeTable, todo: Vec<Todo>) -> Result<Vec<Piec
     ensures small { Tells (nodes_in (pending (types_in table.now) todo.items []) ≤ 10000) result }
 {
     let mut todo = todo;
-    let mut row = Vec::new(alloc);
+    let mut row = Vec::with_capacity(alloc, ROOM)?;
     let mut left = 10_000;
     while let Some(next) = todo.pop() {
         let less = left_with(&next, left)?;

@@ -12,7 +12,7 @@ use Rattle.type_texts.proofs.type_reading.build.Goals as goal
 
 pub loop-piece-init : goal.loop-piece-init
 loop-piece-init c =
-    let none : c.new-values.result.items ≡ [] = c.new-values.ensures.items in
+    let none : c.in_ok-values.values.items ≡ [] = c.in_ok-values.ensures.items in
     record {
       grown = grown_itself c.args.table.now c.requires.table;
       table = c.requires.table;
@@ -35,7 +35,7 @@ returns-clause-is c =
 
 pub returns-in_err-place-clause-is : goal.returns-in_err-place-clause-is
 returns-in_err-place-clause-is c =
-    let p = err_from_is_err_and c.from_residual.result c.from_residual.ensures.1 in
+    let p = err_from_is_err_and c.from_residual-in_err-place.result c.from_residual-in_err-place.ensures.1 in
     rw (p.1, p.2) (built_fails c.in_err-place.field-0.0 c.loop-piece.row.items c.pop.new.self.items c.in-Some.piece (parts_in (types_in c.loop-piece.table) c.loop-piece.values.items) (built c.args.row.items) c.in-Some.ensures.items c.in_err-place.ensures.is c.loop-piece.invariant.is)
 
 pub returns-in_err-place-clause-grown : goal.returns-in_err-place-clause-grown

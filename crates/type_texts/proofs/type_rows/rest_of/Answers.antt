@@ -35,6 +35,6 @@ returns-clause-small c =
 
 pub returns-in_err-less-clause-small : goal.returns-in_err-less-clause-small
 returns-in_err-less-clause-small c =
-    let p = err_from_is_err_and c.from_residual.result c.from_residual.ensures.1 in
+    let p = err_from_is_err_and c.from_residual-in_err-less.result c.from_residual-in_err-less.ensures.1 in
     rw (p.1, p.2) (tells_less c.in_err-less.field-0.0 (todo_nodes c.in-Some.next ≤ c.loop-next.left) (nodes_in (pending (types_in c.args.table.now) c.args.todo.items []) ≤ 10000)
     (enough_left (types_in c.args.table.now) c.loop-next.todo.items c.pop.new.self.items c.in-Some.next c.loop-next.row.items (pending (types_in c.args.table.now) c.args.todo.items []) c.loop-next.left c.in-Some.ensures.items c.loop-next.invariant.pending c.loop-next.invariant.nodes) c.in_err-less.ensures.enough)
