@@ -1,2 +1,3 @@
 pub mod OpenLemmas
 mod MarkLemmas
+mod ValueLemmas

@@ -2,5 +2,7 @@
 #![tactic(auto)]
 
 mod circles;
+mod values;
 
 pub use circles::circles_of;
+pub use values::value_circles;

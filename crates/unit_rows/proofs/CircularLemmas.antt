@@ -7,6 +7,7 @@ use Rattle.std.specs.Global.{Vec}
 use Rattle.std.specs.HashMap.{HashMap}
 use Rattle.std.specs.List.{flat_map}
 use Rattle.std.specs.Option.{option_map_or}
+use Rattle.go_tree.specs.Spells.{Among}
 use Rattle.go_tree.specs.declared.tree.FileTree.{FileTree}
 use Rattle.go_tree.specs.declared.tree.Node.{Node}
 use Rattle.go_tree.specs.declared.tree.NodeRef.{NodeRef}
@@ -22,6 +23,7 @@ use Rattle.package_objects.specs.Declares.{gather, declared}
 use Rattle.package_needs.specs.Worlds.{name_of}
 use Rattle.const_tree.proofs.ListLemmas.{gather_cases}
 use Rattle.name_circles.specs.Circles.{Circles, AreMarked}
+use Rattle.name_circles.specs.Values.{AreValueCircles}
 use Rattle.unit_read.specs.Rows.{AreRows}
 use Rattle.unit_read.specs.Subjects.{flag}
 use Rattle.unit_read.specs.Units.{Unit, node_at, nodes_of, object_at, object_in, is_among}
@@ -183,7 +185,7 @@ to_flagged rows (x ∷ names) (suc k) at there is = by (flag rows x) refl (to_fl
 
 -- ---- one description
 
-abbrev world_with : (NodeRef → Option Node) → (NodeRef → Option NodeRef) → (NodeRef → Option Entry) → (NodeRef → List NodeRef) → World
+abbrev pub world_with : (NodeRef → Option Node) → (NodeRef → Option NodeRef) → (NodeRef → Option Entry) → (NodeRef → List NodeRef) → World
 world_with node meant entry kin = record { node = node; meant = meant; entry = entry; kin = kin }
 
 one_node : (u : Unit) (at : NodeRef) → node_in u.trees at ≡ node_at u at
@@ -206,12 +208,8 @@ record AreIn (u : Unit) (entries : List Entry) (flags : NodeRef → Bool) : Type
   pub each : (at : NodeRef) (node : Node) → node_at u at ≡ Some node → IsTrue (flags at) ↔ IsIn u entries at
   pub others : (at : NodeRef) → node_at u at ≡ None → flags at ≡ false
 
-module _ {S : Type 0} (u : Unit) (entries : List Entry) (numbers : HashMap (ℕ × ℕ) ℕ S) (groups : List (Vec NodeRef)) (meant : List (Vec (Option NodeRef))) (order : List Needed)
-    (circles flags : List (Vec Bool)) (named : AreNamed entries numbers) (grouped : map group_items groups ≡ map (methods_by u) entries)
-    (rows : AreRows (λ f tree n. named_at u (place f n)) u.trees meant (length u.trees))
-    (ordered : AreMarked (world_with (node_in u.trees) (meant_in meant) (entry_in entries numbers) (kin_in groups numbers)) entries order)
-    (circles_are : (at : NodeRef) → flag circles at ≡ is_listed u.trees (all_cyclic order) at)
-    (flags_are : (at : NodeRef) → flag flags at ≡ is_listed u.trees (flagged circles (all_values numbers entries)) at) where
+module _ {S : Type 0} (u : Unit) (entries : List Entry) (numbers : HashMap (ℕ × ℕ) ℕ S) (groups : List (Vec NodeRef)) (meant : List (Vec (Option NodeRef))) (named : AreNamed entries numbers)
+    (grouped : map group_items groups ≡ map (methods_by u) entries) (rows : AreRows (λ f tree n. named_at u (place f n)) u.trees meant (length u.trees)) where
   abbrev by_lists : World
   by_lists = world_with (node_in u.trees) (meant_in meant) (entry_in entries numbers) (kin_in groups numbers)
 
@@ -222,15 +220,57 @@ module _ {S : Type 0} (u : Unit) (entries : List Entry) (numbers : HashMap (ℕ 
       ∙ (ap (λ (g : NodeRef → Option Entry). world_with (node_at u) (named_at u) g (kin_in groups numbers)) (fun_ext (entry_is entries numbers named))
       ∙ ap (λ (g : NodeRef → List NodeRef). world_with (node_at u) (named_at u) (λ at. first_named at entries) g) (fun_ext (kin_is entries numbers named u groups grouped))))
 
+listed_in : (u : Unit) (list : List NodeRef) (at : NodeRef) (node : Node) → node_at u at ≡ Some node → is_listed u.trees list at ≡ is_among at list
+listed_in u list at node there = ap (λ (o : Option Node). option_map_or (λ (n : Node). is_among at list) o false) there
+
+-- ---- a search among values alone
+
+among_at : (xs : List NodeRef) (k : ℕ) (x : NodeRef) → slice_get xs k ≡ Some x → Among x xs
+among_at [] k x e = absurd cc
+among_at (y ∷ xs) zero x e = inl (some_some y x e)
+among_at (y ∷ xs) (suc k) x e = inr (among_at xs k x e)
+
+at_among : (xs : List NodeRef) (x : NodeRef) → Among x xs → (k : ℕ) × (slice_get xs k ≡ Some x)
+at_among [] x h = absurd h
+at_among (y ∷ xs) x (inl e) = (0, ap Some e)
+at_among (y ∷ xs) x (inr h) = (let r = at_among xs x h in (suc r.0, r.1))
+
+module _ {S : Type 0} (u : Unit) (entries : List Entry) (numbers : HashMap (ℕ × ℕ) ℕ S) (groups : List (Vec NodeRef)) (meant : List (Vec (Option NodeRef))) (list : List NodeRef) (flags : List (Vec Bool))
+    (named : AreNamed entries numbers) (grouped : map group_items groups ≡ map (methods_by u) entries) (rows : AreRows (λ f tree n. named_at u (place f n)) u.trees meant (length u.trees))
+    (found : AreValueCircles (world_with (node_in u.trees) (meant_in meant) (entry_in entries numbers) (kin_in groups numbers)) list)
+    (flags_are : (at : NodeRef) → flag flags at ≡ is_listed u.trees list at) where
+  all_found : AreValueCircles (world_of u entries) list
+  all_found = subst (λ (w : World). AreValueCircles w list) (one_world u entries numbers groups meant named grouped rows) found
+
+  found_in : AreIn u entries (flag flags)
+  found_in = record {
+    each = λ at node there. (
+      λ is. (let j = among_is at list (sym (listed_in u list at node there) ∙ (sym (flags_are at) ∙ is)) in (all_found at).0 (among_at list j.0 at j.1)),
+      λ circle. (let j = at_among list at ((all_found at).1 circle) in flags_are at ∙ (listed_in u list at node there ∙ among_there at list j.0 j.1)),
+    );
+    others = λ at none. flags_are at ∙ ap (λ (o : Option Node). option_map_or (λ (n : Node). is_among at list) o false) none;
+  }
+
+  pub circular_found : entries ≡ declared u.trees [] → AreCircular u (flag flags)
+  circular_found same = (let r = subst (λ (es : List Entry). AreIn u es (flag flags)) same found_in in record { each = r.each; others = r.others })
+
+-- ---- a search among all names
+
+module _ {S : Type 0} (u : Unit) (entries : List Entry) (numbers : HashMap (ℕ × ℕ) ℕ S) (groups : List (Vec NodeRef)) (meant : List (Vec (Option NodeRef))) (order : List Needed)
+    (circles flags : List (Vec Bool)) (named : AreNamed entries numbers) (grouped : map group_items groups ≡ map (methods_by u) entries)
+    (rows : AreRows (λ f tree n. named_at u (place f n)) u.trees meant (length u.trees))
+    (ordered : AreMarked (world_with (node_in u.trees) (meant_in meant) (entry_in entries numbers) (kin_in groups numbers)) entries order)
+    (circles_are : (at : NodeRef) → flag circles at ≡ is_listed u.trees (all_cyclic order) at)
+    (flags_are : (at : NodeRef) → flag flags at ≡ is_listed u.trees (flagged circles (all_values numbers entries)) at) where
   whole : AreMarked (world_of u entries) entries order
-  whole = subst (λ (w : World). AreMarked w entries order) one_world ordered
+  whole = subst (λ (w : World). AreMarked w entries order) (one_world u entries numbers groups meant named grouped rows) ordered
 
   no_methods : (at : NodeRef) (e : Entry) → first_named at entries ≡ Some e → e.form ≡ form.Other → (world_of u entries).kin at ≡ []
   no_methods at e first other =
       ap (λ (o : Option Entry). option_map_or (methods_by u) o []) first ∙ ap (λ (f : Form). if is_defined f then method_names u e.name else []) other
 
   listed : (list : List NodeRef) (at : NodeRef) (node : Node) → node_at u at ≡ Some node → is_listed u.trees list at ≡ is_among at list
-  listed list at node there = ap (λ (o : Option Node). option_map_or (λ (n : Node). is_among at list) o false) there
+  listed = listed_in u
 
   to_circle : (at : NodeRef) (node : Node) → node_at u at ≡ Some node → flag flags at ≡ true → IsIn u entries at
   to_circle at node there is =

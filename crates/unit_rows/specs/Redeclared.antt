@@ -1,14 +1,18 @@
 -- Which names of a package are declared before at package level (Go 1.17, "Declarations and scope": "No identifier may be declared twice in the
 -- same block"). Methods are declared in no block; nor are functions named `init`, which can be declared more than once ("Package initialization").
-use Rattle.std.specs.Prelude.{ℕ, Bool, true, false, not, if◌then◌else◌, List, [], ◌∷◌, length, map, codes, Option, slice_get, option_map}
+use Rattle.std.specs.Prelude.{◌≡◌, ℕ, Bool, true, false, not, nat_lt, if◌then◌else◌, List, [], ◌∷◌, length, map, codes, Option, slice_get, option_map}
+use Rattle.std.specs.HashMap.{HashMap}
 use Rattle.std.specs.Option.{option_map_or}
 use Rattle.std.specs.Str.{bytes_eq}
+use denote.Ref.{Bor}
+use Rattle.go_tree.specs.Lexeme.{place_of}
 use Rattle.go_tree.specs.declared.tree.Node.{Node}
 use Rattle.go_tree.specs.declared.tree.NodeKind.{NodeKind}
 use Rattle.go_tree.specs.declared.tree.NodeKind.TheVariants as k
 use Rattle.go_tree.specs.declared.tree.NodeRef.{NodeRef}
 use Rattle.object_order.specs.declared.spot.Entry.{Entry}
 use Rattle.package_objects.specs.Declares.{gather, declared}
+use Rattle.unit_read.specs.Index.{texts_of, found}
 use Rattle.unit_read.specs.Members.{all_again}
 use Rattle.unit_read.specs.Units.{Unit, node_at, name_at, around, is_top}
 use Rattle.unit_rows.specs.Tables.{is_listed}
@@ -64,3 +68,8 @@ redeclared u = named_again u (package_names u)
 -- E1
 abbrev pub is_redeclared : Unit → NodeRef → Bool
 is_redeclared u at = is_listed u.trees (redeclared u) at
+
+-- ---- in code: where names aren't few, a map has the first place of each
+
+abbrev pub AreFirsts : {S : Type 0} → List (Bor (List ℕ)) → HashMap (Bor (List ℕ)) ℕ S → Type 0
+AreFirsts names firsts = nat_lt (length names) 9 ≡ false → (q : List ℕ) → found firsts q ≡ place_of (texts_of names) q

@@ -17,7 +17,7 @@ use crate::cyclic::all_cyclic;
 use crate::flags::listed_rows;
 use go_tree::{FileTree, Node, NodeRef, Object};
 use gv_base::NoMemory;
-use name_circles::circles_of;
+use name_circles::{circles_of, value_circles};
 use object_order::{Entry, Form, View, numbers_of};
 use package_objects::{entries_of, part_of};
 use std::alloc::Global;
@@ -275,7 +275,26 @@ fn flagged(
     Ok(out)
 }
 
-/// For each node of each file whether it is a name that is no type and leads back to itself.
+/// For each node of each file whether it is a name that is no type and leads back to itself, by a search among all names.
+fn all_rows(alloc: Global, s: &Subject, view: View) -> Result<Vec<Vec<bool>>, NoMemory>
+    requires trees { view.trees.now ≡ s.now.trees.now }
+    requires named { AreNamed view.entries.items view.numbers }
+    requires grouped { map group_items view.groups.items ≡ map (methods_by (unit_of s.now)) view.entries.items }
+    requires rows { AreRows (λ f tree n. named_at (unit_of s.now) (place f n)) s.now.trees.now view.meant.now (length s.now.trees.now) }
+    requires entries { view.entries.items ≡ declared s.now.trees.now [] }
+    ensures { IfOk result (λ flags. AreCircular (unit_of s.now) (flag flags.items)) }
+{
+    let values = values_of(alloc, &view.numbers, &view.entries)?;
+    let order = circles_of(alloc, view)?;
+    let marked = all_cyclic(alloc, &order)?;
+    let circles = listed_rows(alloc, s.trees, &marked)?;
+    let list = flagged(alloc, &circles, &values)?;
+    let flags = listed_rows(alloc, s.trees, &list)?;
+    Ok(flags)
+}
+
+/// For each node of each file whether it is a name that is no type and leads back to itself. Where no type leads to a value, only values are
+/// searched.
 pub fn circular_rows(alloc: Global, s: &Subject) -> Result<Vec<Vec<bool>>, NoMemory>
     requires read { IsRead s.now }
     requires small { AreSmall s.now.trees.now }
@@ -284,7 +303,6 @@ pub fn circular_rows(alloc: Global, s: &Subject) -> Result<Vec<Vec<bool>>, NoMem
 {
     let entries = entries_of(alloc, s.trees, &[])?;
     let numbers = numbers_of(alloc, &entries)?;
-    let values = values_of(alloc, &numbers, &entries)?;
     let groups = groups_of(alloc, s, &entries)?;
     let meant = named_rows(alloc, s)?;
     let view = View {
@@ -294,10 +312,15 @@ pub fn circular_rows(alloc: Global, s: &Subject) -> Result<Vec<Vec<bool>>, NoMem
         numbers,
         groups,
     };
-    let order = circles_of(alloc, view)?;
-    let marked = all_cyclic(alloc, &order)?;
-    let circles = listed_rows(alloc, s.trees, &marked)?;
-    let list = flagged(alloc, &circles, &values)?;
-    let flags = listed_rows(alloc, s.trees, &list)?;
-    Ok(flags)
+    let circles = value_circles(alloc, &view)?;
+    match circles {
+        Some(list) => {
+            let flags = listed_rows(alloc, s.trees, &list)?;
+            Ok(flags)
+        }
+        None => {
+            let flags = all_rows(alloc, s, view)?;
+            Ok(flags)
+        }
+    }
 }
