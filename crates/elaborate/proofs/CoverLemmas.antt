@@ -4,9 +4,9 @@ use Rattle.std.specs.Option.{option_map_or}
 use Rattle.std.proofs.lemmas.Option.{slice_get_within}
 use Rattle.std.proofs.lemmas.Bool.{le-leb, lt-ltb}
 use Rattle.gv_base.proofs.Lists.{same_some}
-use Rattle.mark_walk.specs.Asks.{done, IsMarked, Sound, IsFirst, AreAllMarked, IsTheAnnotation, filled}
+use Rattle.mark_walk.specs.Asks.{done, Gives, Keeps, Adds, IsMarked, Sound, IsFirst, AreAllMarked, IsTheAnnotation, filled}
 use Rattle.mark_walk.specs.declared.walk.Walk.{Walk}
-use Rattle.mark_walk.proofs.AskLaws.{goes_itself, goes_then, first_sound, the_annotation}
+use Rattle.mark_walk.proofs.AskLaws.{goes_itself, goes_then, goes_step, marked_still, first_sound, the_annotation}
 use Rattle.typed_marks.specs.declared.item.Item.{Item}
 use Rattle.typed_marks.specs.declared.item.Stage.{Stage}
 use Rattle.typed_marks.specs.declared.item.Block.{Block}
@@ -25,7 +25,7 @@ use Rattle.type_model.specs.Tables.{declarations_in, terms_in, Extends}
 use Rattle.type_model.specs.declared.table.TypeTable.{TypeTable}
 use Rattle.type_model.specs.declared.term.TypeName.{TypeName}
 use Rattle.typed_tree.specs.Basics.{HasBasics}
-use Rattle.elaborate.proofs.WalkLemmas.{first_declared}
+use Rattle.elaborate.proofs.WalkLemmas.{first_declared, rule_of_item}
 use Rattle.elaborate.specs.Walks.{blocks_of, count_of, item_rule, IsItemOf}
 use Rattle.type_answers.specs.Answering.{says_of, pends_of, answers_last}
 use Rattle.elaborate.specs.Elaborated.{IsAtWork, IsAnnotated, IsInCircle}
@@ -61,6 +61,26 @@ early rule u0 u1 s walk One Other circle i same is ended = record {
 pub ended_well : (rule : Unit → Item → Rule) (u : Unit) (s : State) (walk : Walk Item) (Marked : (Item → Option Meaning) → Type 0) → IsAtRest u s walk → Marked (so_far s)
     → Ended rule u s walk Marked None
 ended_well rule u s walk Marked rests marked = record { rests = λ none. rests; marked = λ none. marked; waits = tt }
+
+-- ---- more is marked
+
+pub rests_still : (u : Unit) (s next : State) (walk : Walk Item) → Keeps (so_far s) (so_far next) → IsAtRest u s walk → IsAtRest u next walk
+rests_still u s next walk keeps rests = record {
+  idle = rests.idle;
+  size = rests.size;
+  met = λ i is noted. marked_still (so_far s) (so_far next) i keeps (rests.met i is noted);
+}
+
+-- an item of which its rule says nothing
+pub went_quiet : (rule : Unit → Item → Rule) (u : Subject) (s next : State) (i : Item) → IsItemOf (unit_of u) i → rule (unit_of u) i ≡ done Quiet → IsAtWork u next
+    → Adds (so_far s) (so_far next) i Quiet → Went rule u u s next
+went_quiet rule u s next i is quiet work adds = record {
+  work = work;
+  subject = refl;
+  unit = refl;
+  goes = goes_step (says_of (unit_of u)) (pends_of (unit_of u)) (answers_last (unit_of u)) (IsItemOf (unit_of u)) (item_rule rule (unit_of u)) (so_far s) (so_far next) i None
+      (Quiet, subst (λ (r : Rule). Gives (says_of (unit_of u)) (so_far s) r Quiet) (sym (rule_of_item rule (unit_of u) i is ∙ quiet)) refl, adds);
+}
 
 -- ---- one more is marked
 

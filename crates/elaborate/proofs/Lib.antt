@@ -1,4 +1,5 @@
 mod AnswerLemmas
+pub mod BriefLemmas
 mod WalkLemmas
 mod StepLemmas
 mod CoverLemmas

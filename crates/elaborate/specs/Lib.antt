@@ -2,3 +2,4 @@ pub mod Walks
 pub mod Settling
 pub mod Elaborated
 pub mod Covering
+pub mod Briefs

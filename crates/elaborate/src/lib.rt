@@ -3,6 +3,7 @@
 
 mod ahead;
 mod answers;
+pub mod briefly;
 mod nodes;
 mod questions;
 mod rules;
@@ -12,5 +13,6 @@ mod whole;
 mod work;
 
 pub use ahead::Stretch;
+pub use briefly::{Brief, in_brief};
 pub use rules::Rules;
 pub use whole::{Elaborated, elaborate};

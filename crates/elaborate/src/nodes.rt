@@ -1,7 +1,8 @@
 //! Nodes of a package, stage by stage.
 ghost use Rattle.std.specs.Prelude.{◌≡◌, ◌<◌, ◌≤◌, None, IfOk, OnOk};
-ghost use Rattle.mark_walk.specs.Asks.{IsMarked};
+ghost use Rattle.mark_walk.specs.Asks.{IsMarked, done};
 ghost use Rattle.typed_marks.specs.Items.{stage_number};
+ghost use Rattle.typed_marks.specs.Meanings.{Quiet};
 ghost use Rattle.typed_marks.specs.States.{so_far};
 ghost use Rattle.unit_read.specs.Subjects.{unit_of};
 ghost use Rattle.elaborate.specs.Walks.{IsItemOf};
@@ -9,6 +10,7 @@ ghost use Rattle.elaborate.specs.Elaborated.{IsAtWork};
 ghost use Rattle.elaborate.specs.Covering.{Went, IsAtRest, Ended, IsNodeOf, AreNodesOf, AreStagesMarked, AreStagesOfNodes};
 
 use crate::rules::Rules;
+use crate::steps::leave;
 use crate::work::Work;
 use gv_base::NoMemory;
 use mark_walk::{Walk, Walked, mark};
@@ -19,7 +21,20 @@ pub const STAGES: usize = 6;
 
 pub const NODE_STAGES: usize = 4;
 
-/// Marks one item, or answers one that waits for itself.
+/// Marks an item of which nothing is said.
+fn mark_quiet<R: Rules>(work: &mut Work<R>, item: Item) -> Result<(), NoMemory>
+    requires work { IsAtWork work.old.subject.now work.old.state }
+    requires item { IsItemOf (unit_of work.old.subject.now) item }
+    requires unmarked { so_far work.old.state item ≡ None }
+    requires quiet { R.rule (unit_of work.old.subject.now) item ≡ done Quiet }
+    ensures went { OnOk result (Went R.rule work.old.subject.now work.new.subject.now work.old.state work.new.state) }
+    ensures marked { OnOk result (IsMarked (so_far work.new.state) item) }
+{
+    leave(work.subject, &mut work.state, item)?;
+    Ok(())
+}
+
+/// Marks one item, or answers one that waits for itself. Of many nothing is said, and these take no part in the walk.
 fn mark_one<R: Rules>(
     walk: &mut Walk<Item>,
     work: &mut Work<R>,
@@ -31,6 +46,13 @@ fn mark_one<R: Rules>(
     ensures went { OnOk result (Went R.rule work.old.subject.now work.new.subject.now work.old.state work.new.state) }
     ensures ended { IfOk result (Ended R.rule (unit_of work.old.subject.now) work.new.state walk.new (λ marks. IsMarked marks item)) }
 {
+    if work.state.is_marked(item) {
+        return Ok(None);
+    }
+    if work.rules.is_quiet(work.subject, item) {
+        mark_quiet(work, item)?;
+        return Ok(None);
+    }
     let walked = mark(walk, work, item)?;
     match walked {
         Walked::Marked => Ok(None),

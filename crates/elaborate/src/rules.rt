@@ -1,20 +1,22 @@
 //! The rules by which items are marked.
 ghost use Rattle.std.specs.Prelude.{◌≡◌, true, false, IfOk};
+ghost use Rattle.mark_walk.specs.Asks.{done};
 ghost use Rattle.mark_walk.specs.Telling.{tell};
 ghost use Rattle.typed_marks.specs.declared.item.Item.{Item as AnItem};
 ghost use Rattle.typed_marks.specs.Items.{IsItem};
+ghost use Rattle.typed_marks.specs.Meanings.{Quiet};
 ghost use Rattle.typed_marks.specs.States.{so_far};
 ghost use Rattle.unit_read.specs.Units.{Unit};
-ghost use Rattle.unit_read.specs.Subjects.{unit_of};
+ghost use Rattle.unit_read.specs.Subjects.{unit_of, IsRead};
 ghost use Rattle.rule_words.specs.Asking.{Rule};
 ghost use Rattle.rule_words.specs.Scenes.{IsScene};
-ghost use Rattle.rule_words.specs.Steps.{IsStepOf};
 ghost use Rattle.rule_words.specs.Declaring.{declaring_in, IsDeclaringAt};
-ghost use Rattle.type_answers.specs.Coming.{ComesTo};
+ghost use Rattle.elaborate.specs.Briefs.{ComesBriefly, IsBriefOf};
 ghost use Rattle.elaborate.specs.Walks.{is_declaring};
 
+use crate::briefly::Brief;
 use gv_base::NoMemory;
-use rule_words::{Declaring, Step};
+use rule_words::Declaring;
 use std::alloc::Global;
 use typed_marks::{Item, State};
 use unit_read::Subject;
@@ -24,13 +26,18 @@ pub trait Rules {
     /// The rule of each item of a package.
     ghost rule: { Unit → AnItem → Rule };
 
+    /// Whether nothing is said of an item, as far as that is seen at once: where it answers false, the rule may say nothing too.
+    fn is_quiet(&self, u: &Subject, item: Item) -> bool
+        requires { IsRead u.now }
+        ensures { result ≡ true → rule (unit_of u.now) item ≡ done Quiet };
+
     /// What the rule of an item comes to over the marks so far, of one that declares no type.
-    fn judge(&self, alloc: Global, u: &Subject, s: &State, item: Item) -> Result<Step, NoMemory>
+    fn judge(&self, alloc: Global, u: &Subject, s: &State, item: Item) -> Result<Brief, NoMemory>
         requires scene { IsScene u.now s.now }
         requires item { IsItem s.now.blocks.items item }
         requires stage { is_declaring item.stage ≡ false }
-        ensures comes { IfOk result (ComesTo u.now s.now (rule (unit_of u.now) item)) }
-        ensures over { IfOk result (IsStepOf s.now) };
+        ensures comes { IfOk result (ComesBriefly u.now s.now (rule (unit_of u.now) item)) }
+        ensures over { IfOk result (IsBriefOf s.now) };
 
     /// How far the rule goes that says what a type is declared with.
     fn declare(

@@ -13,6 +13,7 @@ ghost use Rattle.elaborate.specs.Walks.{IsItemOf, is_declaring};
 ghost use Rattle.elaborate.specs.Elaborated.{IsAtWork};
 ghost use Rattle.elaborate.specs.Settling.{StepsAs, StepsBy, IsWholeBy, is_got};
 
+use crate::briefly::Brief;
 use crate::rules::Rules;
 use crate::settling::settle;
 use gv_base::NoMemory;
@@ -53,7 +54,7 @@ fn settle_by<R: Rules>(
     }
 }
 
-/// Marks an item that declares no type, or answers the item for which its rule waits. Most rules put no question.
+/// Marks an item that declares no type, or answers the item for which its rule waits. Most rules say a mark over what is there.
 pub fn judge_by<R: Rules>(
     alloc: Global,
     rules: &R,
@@ -68,15 +69,15 @@ pub fn judge_by<R: Rules>(
     ensures work { OnOk result (IsAtWork u.now s.new) }
     ensures steps { IfOk result (StepsAs u.now s.old s.new item (R.rule (unit_of u.now) item)) }
 {
-    let step = rules.judge(alloc, u, s, item)?;
-    match step {
-        Step::Says(answer) => {
-            keep(u, s, item, answer)?;
+    let brief = rules.judge(alloc, u, s, item)?;
+    match brief {
+        Brief::Mark(mark) => {
+            keep(u, s, item, Answer::Mark(mark))?;
             Ok(None)
         }
-        Step::Waits(other) => Ok(Some(other)),
-        Step::Puts(asked, rest) => {
-            let waits = settle_by(alloc, rules, u, s, item, Step::Puts(asked, rest))?;
+        Brief::Waits(other) => Ok(Some(other)),
+        Brief::Other(step) => {
+            let waits = settle_by(alloc, rules, u, s, item, Box::into_inner(step))?;
             Ok(waits)
         }
     }
@@ -109,8 +110,8 @@ fn is_got(reached: &Reached<bool>) -> bool
     }
 }
 
-/// Nothing declares the type of an item.
-fn leave(u: &Subject, s: &mut State, item: Item) -> Result<(), NoMemory>
+/// Nothing is said of an item.
+pub fn leave(u: &Subject, s: &mut State, item: Item) -> Result<(), NoMemory>
     requires work { IsAtWork u.now s.old }
     requires item { IsItemOf (unit_of u.now) item }
     requires unmarked { so_far s.old item ≡ None }

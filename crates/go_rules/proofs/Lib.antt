@@ -1,5 +1,6 @@
 mod DeclareLemmas
 mod FunctionLemmas
 mod PassingLemmas
+mod QuietLemmas
 mod ReadLemmas
 mod UseLemmas

@@ -2,6 +2,7 @@ pub mod Clause
 pub mod Families
 pub mod Functions
 pub mod Own
+pub mod Quiet
 pub mod Roles
 pub mod Slots
 pub mod Stages

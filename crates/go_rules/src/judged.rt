@@ -3,9 +3,9 @@ ghost use Rattle.std.specs.Prelude.{◌≡◌, IfOk};
 ghost use Rattle.std.specs.Global.{Vec};
 ghost use Rattle.unit_read.specs.Subjects.{unit_of};
 ghost use Rattle.rule_words.specs.Scenes.{IsScene, IfFound, said, IsMarkOf, parts_in, AreSeenOf};
-ghost use Rattle.rule_words.specs.Steps.{IsStepOf};
 ghost use Rattle.rule_words.specs.Wanting.{wanted_of, IsWantedOf};
-ghost use Rattle.type_answers.specs.Coming.{FoundBy, ComesTo};
+ghost use Rattle.type_answers.specs.Coming.{FoundBy};
+ghost use Rattle.elaborate.specs.Briefs.{ComesBriefly, IsBriefOf};
 ghost use Rattle.literal_rules.specs.Keys.{key_role};
 ghost use Rattle.go_rules.specs.Families.{family, is_expression, node_reads};
 ghost use Rattle.go_rules.specs.Stages.{from_parts, parts_read, with_parts, nothing_wanted, before_plain, before_in, before_as, judged_wanting, judged_with, judged_plain, judged_in, judged_key, key_judged, judged_as};
@@ -19,12 +19,13 @@ use crate::role::{Role, clause_for};
 use crate::statements::judge_switched;
 use crate::uses::{free_use, judge_use};
 use decl_rules::declared_name;
+use elaborate::briefly::{broken, silent};
+use elaborate::{Brief, in_brief};
 use go_tree::{Node, NodeRef};
 use gv_base::NoMemory;
 use literal_rules::{KeyRole, key_role};
 use package_objects::part_count;
-use rule_words::good::{broken, silent};
-use rule_words::{Seen, Step, Wanted, wanted_by};
+use rule_words::{Seen, Wanted, wanted_by};
 use std::alloc::Global;
 use type_answers::{ask_mark, ask_parts};
 use type_questions::Found;
@@ -41,15 +42,16 @@ fn from_parts(
     node: &Node,
     w: Wanted,
     list: &[Seen],
-) -> Result<Step, NoMemory>
+) -> Result<Brief, NoMemory>
     requires scene { IsScene u.now s.now }
     requires wanted { IsWantedOf s.now w }
     requires parts { AreSeenOf s.now list.now }
-    ensures comes { IfOk result (ComesTo u.now s.now (from_parts (unit_of u.now) block at node.now (wanted_of s.now w) (parts_in s.now list.now))) }
-    ensures over { IfOk result (IsStepOf s.now) }
+    ensures comes { IfOk result (ComesBriefly u.now s.now (from_parts (unit_of u.now) block at node.now (wanted_of s.now w) (parts_in s.now list.now))) }
+    ensures over { IfOk result (IsBriefOf s.now) }
 {
     let by = family_of(node.kind);
-    judge_by(alloc, u, s, by, block, at, node, list, w)
+    let step = judge_by(alloc, u, s, by, block, at, node, list, w)?;
+    in_brief(alloc, step)
 }
 
 /// The parts of a node, as they are read at a stage.
@@ -82,11 +84,11 @@ fn with_parts(
     at: NodeRef,
     node: &Node,
     w: Wanted,
-) -> Result<Step, NoMemory>
+) -> Result<Brief, NoMemory>
     requires scene { IsScene u.now s.now }
     requires wanted { IsWantedOf s.now w }
-    ensures comes { IfOk result (ComesTo u.now s.now (with_parts (unit_of u.now) stage block at node.now (wanted_of s.now w))) }
-    ensures over { IfOk result (IsStepOf s.now) }
+    ensures comes { IfOk result (ComesBriefly u.now s.now (with_parts (unit_of u.now) stage block at node.now (wanted_of s.now w))) }
+    ensures over { IfOk result (IsBriefOf s.now) }
 {
     if part_count(node) == 0 {
         return from_parts(alloc, u, s, block, at, node, w, &[]);
@@ -94,7 +96,7 @@ fn with_parts(
     let found = read_parts(alloc, u, s, stage, block, at, node)?;
     match found {
         Found::Is(list) => from_parts(alloc, u, s, block, at, node, w, &list),
-        Found::Wait(item) => Ok(Step::Waits(item)),
+        Found::Wait(item) => Ok(Brief::Waits(item)),
     }
 }
 
@@ -109,11 +111,11 @@ fn with_use(
     at: NodeRef,
     node: &Node,
     w: Wanted,
-) -> Result<Step, NoMemory>
+) -> Result<Brief, NoMemory>
     requires scene { IsScene u.now s.now }
     requires wanted { IsWantedOf s.now w }
-    ensures comes { IfOk result (ComesTo u.now s.now (with_parts (unit_of u.now) stage block at node.now (wanted_of s.now w))) }
-    ensures over { IfOk result (IsStepOf s.now) }
+    ensures comes { IfOk result (ComesBriefly u.now s.now (with_parts (unit_of u.now) stage block at node.now (wanted_of s.now w))) }
+    ensures over { IfOk result (IsBriefOf s.now) }
 {
     match free_use(u, at, node, w.want) {
         Some(name) => Ok(judge_use(u, s, name)),
@@ -130,10 +132,10 @@ fn before_plain(
     block: usize,
     at: NodeRef,
     node: &Node,
-) -> Result<Step, NoMemory>
+) -> Result<Brief, NoMemory>
     requires { IsScene u.now s.now }
-    ensures comes { IfOk result (ComesTo u.now s.now (before_plain (unit_of u.now) block at node.now)) }
-    ensures over { IfOk result (IsStepOf s.now) }
+    ensures comes { IfOk result (ComesBriefly u.now s.now (before_plain (unit_of u.now) block at node.now)) }
+    ensures over { IfOk result (IsBriefOf s.now) }
 {
     if !is_expression(family_of(node.kind)) {
         return Ok(silent());
@@ -153,13 +155,13 @@ fn before_in(
     block: usize,
     at: NodeRef,
     node: &Node,
-) -> Result<Step, NoMemory>
+) -> Result<Brief, NoMemory>
     requires { IsScene u.now s.now }
-    ensures comes { IfOk result (ComesTo u.now s.now (before_in (unit_of u.now) block at node.now)) }
-    ensures over { IfOk result (IsStepOf s.now) }
+    ensures comes { IfOk result (ComesBriefly u.now s.now (before_in (unit_of u.now) block at node.now)) }
+    ensures over { IfOk result (IsBriefOf s.now) }
 {
     match clause_for(u, at, node) {
-        Some(clause) => Ok(judge_switched(u, s, at.file, clause)),
+        Some(clause) => in_brief(alloc, judge_switched(u, s, at.file, clause)),
         None => before_plain(alloc, u, s, block, at, node),
     }
 }
@@ -174,10 +176,10 @@ pub fn before(
     block: usize,
     at: NodeRef,
     node: &Node,
-) -> Result<Step, NoMemory>
+) -> Result<Brief, NoMemory>
     requires { IsScene u.now s.now }
-    ensures comes { IfOk result (ComesTo u.now s.now (before_as role (unit_of u.now) block at node.now)) }
-    ensures over { IfOk result (IsStepOf s.now) }
+    ensures comes { IfOk result (ComesBriefly u.now s.now (before_as role (unit_of u.now) block at node.now)) }
+    ensures over { IfOk result (IsBriefOf s.now) }
 {
     match role {
         Role::Part => before_in(alloc, u, s, block, at, node),
@@ -198,11 +200,11 @@ fn judged_wanting(
     at: NodeRef,
     node: &Node,
     w: Wanted,
-) -> Result<Step, NoMemory>
+) -> Result<Brief, NoMemory>
     requires scene { IsScene u.now s.now }
     requires wanted { IsWantedOf s.now w }
-    ensures comes { IfOk result (ComesTo u.now s.now (judged_wanting (unit_of u.now) block at node.now (wanted_of s.now w))) }
-    ensures over { IfOk result (IsStepOf s.now) }
+    ensures comes { IfOk result (ComesBriefly u.now s.now (judged_wanting (unit_of u.now) block at node.now (wanted_of s.now w))) }
+    ensures over { IfOk result (IsBriefOf s.now) }
 {
     if is_own_type(u, s, at, node, w) {
         return Ok(broken(NOT_A_TYPE));
@@ -218,11 +220,11 @@ fn judged_with(
     at: NodeRef,
     node: &Node,
     m: Mark,
-) -> Result<Step, NoMemory>
+) -> Result<Brief, NoMemory>
     requires scene { IsScene u.now s.now }
     requires mark { IsMarkOf s.now m }
-    ensures comes { IfOk result (ComesTo u.now s.now (judged_with (unit_of u.now) block at node.now (said s.now m))) }
-    ensures over { IfOk result (IsStepOf s.now) }
+    ensures comes { IfOk result (ComesBriefly u.now s.now (judged_with (unit_of u.now) block at node.now (said s.now m))) }
+    ensures over { IfOk result (IsBriefOf s.now) }
 {
     let w = wanted_by(s, m);
     judged_wanting(alloc, u, s, block, at, node, w)
@@ -236,14 +238,14 @@ fn judged_plain(
     block: usize,
     at: NodeRef,
     node: &Node,
-) -> Result<Step, NoMemory>
+) -> Result<Brief, NoMemory>
     requires { IsScene u.now s.now }
-    ensures comes { IfOk result (ComesTo u.now s.now (judged_plain (unit_of u.now) block at node.now)) }
-    ensures over { IfOk result (IsStepOf s.now) }
+    ensures comes { IfOk result (ComesBriefly u.now s.now (judged_plain (unit_of u.now) block at node.now)) }
+    ensures over { IfOk result (IsBriefOf s.now) }
 {
     match ask_mark(u, s, Stage::Wanted, block, at.node) {
         Found::Is(m) => judged_with(alloc, u, s, block, at, node, m),
-        Found::Wait(item) => Ok(Step::Waits(item)),
+        Found::Wait(item) => Ok(Brief::Waits(item)),
     }
 }
 
@@ -256,13 +258,13 @@ fn judged_in(
     block: usize,
     at: NodeRef,
     node: &Node,
-) -> Result<Step, NoMemory>
+) -> Result<Brief, NoMemory>
     requires { IsScene u.now s.now }
-    ensures comes { IfOk result (ComesTo u.now s.now (judged_in (unit_of u.now) block at node.now)) }
-    ensures over { IfOk result (IsStepOf s.now) }
+    ensures comes { IfOk result (ComesBriefly u.now s.now (judged_in (unit_of u.now) block at node.now)) }
+    ensures over { IfOk result (IsBriefOf s.now) }
 {
     match clause_for(u, at, node) {
-        Some(clause) => Ok(judge_switched(u, s, at.file, clause)),
+        Some(clause) => in_brief(alloc, judge_switched(u, s, at.file, clause)),
         None => judged_plain(alloc, u, s, block, at, node),
     }
 }
@@ -276,13 +278,13 @@ fn judged_key(
     at: NodeRef,
     node: &Node,
     key: KeyRole,
-) -> Result<Step, NoMemory>
+) -> Result<Brief, NoMemory>
     requires { IsScene u.now s.now }
-    ensures comes { IfOk result (ComesTo u.now s.now (judged_key (unit_of u.now) block at node.now key)) }
-    ensures over { IfOk result (IsStepOf s.now) }
+    ensures comes { IfOk result (ComesBriefly u.now s.now (judged_key (unit_of u.now) block at node.now key)) }
+    ensures over { IfOk result (IsBriefOf s.now) }
 {
     match key {
-        KeyRole::Field => Ok(nothing(s)),
+        KeyRole::Field => in_brief(alloc, nothing(s)),
         KeyRole::Use => judged_in(alloc, u, s, block, at, node),
         KeyRole::Unknown => Ok(silent()),
     }
@@ -306,14 +308,14 @@ fn key_judged(
     block: usize,
     at: NodeRef,
     node: &Node,
-) -> Result<Step, NoMemory>
+) -> Result<Brief, NoMemory>
     requires { IsScene u.now s.now }
-    ensures comes { IfOk result (ComesTo u.now s.now (key_judged (unit_of u.now) block at node.now)) }
-    ensures over { IfOk result (IsStepOf s.now) }
+    ensures comes { IfOk result (ComesBriefly u.now s.now (key_judged (unit_of u.now) block at node.now)) }
+    ensures over { IfOk result (IsBriefOf s.now) }
 {
     match key_of(u, s, block, at) {
         Found::Is(key) => judged_key(alloc, u, s, block, at, node, key),
-        Found::Wait(item) => Ok(Step::Waits(item)),
+        Found::Wait(item) => Ok(Brief::Waits(item)),
     }
 }
 
@@ -327,16 +329,16 @@ pub fn judged(
     block: usize,
     at: NodeRef,
     node: &Node,
-) -> Result<Step, NoMemory>
+) -> Result<Brief, NoMemory>
     requires { IsScene u.now s.now }
-    ensures comes { IfOk result (ComesTo u.now s.now (judged_as role (unit_of u.now) block at node.now)) }
-    ensures over { IfOk result (IsStepOf s.now) }
+    ensures comes { IfOk result (ComesBriefly u.now s.now (judged_as role (unit_of u.now) block at node.now)) }
+    ensures over { IfOk result (IsBriefOf s.now) }
 {
     match role {
         Role::Part => judged_in(alloc, u, s, block, at, node),
         Role::Key => key_judged(alloc, u, s, block, at, node),
-        Role::Declared => Ok(declared_name(u, s, at)),
-        Role::Blank => Ok(nothing(s)),
+        Role::Declared => in_brief(alloc, declared_name(u, s, at)),
+        Role::Blank => in_brief(alloc, nothing(s)),
         Role::Untold => Ok(silent()),
     }
 }

@@ -13,6 +13,7 @@ mod number;
 mod objects;
 mod own;
 mod placed;
+mod quiet;
 mod reads;
 mod role;
 mod statements;

@@ -5,11 +5,13 @@ ghost use Rattle.typed_marks.specs.States.{so_far};
 ghost use Rattle.unit_read.specs.Subjects.{unit_of};
 ghost use Rattle.rule_words.specs.Scenes.{IsScene};
 ghost use Rattle.rule_words.specs.Steps.{step_in, IsStepOf};
+ghost use Rattle.elaborate.specs.Briefs.{step_of, IsBriefOf};
 ghost use Rattle.go_rules.specs.Stages.{in_own, is_late, object_beside, object_in_place, object_of_part, object_of, object_as};
 
 use crate::role::Role;
 use crate::statements::{is_type_clause, judge_declared};
 use decl_rules::judge_object;
+use elaborate::{Brief, briefly, in_brief};
 use go_tree::{Node, NodeKind, NodeRef};
 use gv_base::NoMemory;
 use rule_words::{Answer, Step};
@@ -24,7 +26,7 @@ fn silent() -> Step
     Step::Says(Answer::Mark(Mark::Silent))
 }
 
-fn is_late(kind: NodeKind) -> bool
+pub fn is_late(kind: NodeKind) -> bool
     ensures { result ≡ is_late kind }
 {
     match kind {
@@ -132,14 +134,16 @@ pub fn object(
     block: usize,
     at: NodeRef,
     node: &Node,
-) -> Result<Step, NoMemory>
+) -> Result<Brief, NoMemory>
     requires { IsScene u.now s.now }
-    ensures is { IfOk result (λ step. step_in s.now step ≡ tell (so_far s.now) (in_own block at (object_as role (unit_of u.now) at node.now))) }
-    ensures over { IfOk result (IsStepOf s.now) }
+    ensures is { IfOk result (λ brief. step_in s.now (step_of brief) ≡ tell (so_far s.now) (in_own block at (object_as role (unit_of u.now) at node.now))) }
+    ensures over { IfOk result (IsBriefOf s.now) }
 {
     if block == at.file as usize {
-        object_as(alloc, u, s, role, at, node)
+        let step = object_as(alloc, u, s, role, at, node)?;
+        let brief = in_brief(alloc, step)?;
+        Ok(brief)
     } else {
-        Ok(silent())
+        Ok(briefly::silent())
     }
 }

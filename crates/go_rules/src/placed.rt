@@ -6,18 +6,19 @@ ghost use Rattle.typed_marks.specs.Meanings.{Right};
 ghost use Rattle.typed_marks.specs.States.{so_far};
 ghost use Rattle.unit_read.specs.Subjects.{unit_of};
 ghost use Rattle.rule_words.specs.Scenes.{IsScene, said, IsMarkOf};
-ghost use Rattle.rule_words.specs.Steps.{step_in, IsStepOf};
+ghost use Rattle.rule_words.specs.Steps.{step_in};
 ghost use Rattle.rule_words.specs.Good.{known_of, AreFactsOf};
-ghost use Rattle.type_answers.specs.Coming.{ComesTo};
+ghost use Rattle.elaborate.specs.Briefs.{step_of, ComesBriefly, IsBriefOf};
 ghost use Rattle.go_rules.specs.Stages.{placed_with, placed_plain, type_wanted, placed_embedded, placed_argument, placed_shared, stated_good, placed_stated, placed_body, placed_as, placed_beside, placed_at, placed_after, placed_in};
 
 use crate::role::{Placing, placing_at};
 use call_rules::{is_passed, judge_passed};
+use elaborate::briefly::{beyond, broken, silent};
+use elaborate::{Brief, in_brief};
 use go_tree::{Node, NodeRef};
 use gv_base::NoMemory;
 use op_rules::judge_placed;
-use rule_words::good::{beyond, broken, silent};
-use rule_words::{Step, Wanted, wanted_by};
+use rule_words::{Wanted, wanted_by};
 use statement_rules::{Placing as StatementPlacing, judge_statement_placed};
 use std::alloc::Global;
 use type_answers::ask_mark;
@@ -30,15 +31,16 @@ use variable_rules::{is_shared, judge_shared};
 
 // ---- what is wanted there is tested
 
-fn placed_with(alloc: Global, u: &Subject, s: &State, j: Mark, m: Mark) -> Result<Step, NoMemory>
+fn placed_with(alloc: Global, u: &Subject, s: &State, j: Mark, m: Mark) -> Result<Brief, NoMemory>
     requires scene { IsScene u.now s.now }
     requires judged { IsMarkOf s.now j }
     requires wanted { IsMarkOf s.now m }
-    ensures comes { IfOk result (ComesTo u.now s.now (placed_with (unit_of u.now) (said s.now j) (said s.now m))) }
-    ensures over { IfOk result (IsStepOf s.now) }
+    ensures comes { IfOk result (ComesBriefly u.now s.now (placed_with (unit_of u.now) (said s.now j) (said s.now m))) }
+    ensures over { IfOk result (IsBriefOf s.now) }
 {
     let w = wanted_by(s, m);
-    judge_placed(alloc, u, s, w, j)
+    let step = judge_placed(alloc, u, s, w, j)?;
+    in_brief(alloc, step)
 }
 
 #[tactic(auto, using(type_answers::proofs::ComingLaws::bind_comes, type_answers::proofs::ComingLaws::bind_waits))]
@@ -49,15 +51,15 @@ fn placed_plain(
     block: usize,
     at: NodeRef,
     j: Mark,
-) -> Result<Step, NoMemory>
+) -> Result<Brief, NoMemory>
     requires scene { IsScene u.now s.now }
     requires mark { IsMarkOf s.now j }
-    ensures comes { IfOk result (ComesTo u.now s.now (placed_plain (unit_of u.now) block at (said s.now j))) }
-    ensures over { IfOk result (IsStepOf s.now) }
+    ensures comes { IfOk result (ComesBriefly u.now s.now (placed_plain (unit_of u.now) block at (said s.now j))) }
+    ensures over { IfOk result (IsBriefOf s.now) }
 {
     match ask_mark(u, s, Stage::Wanted, block, at.node) {
         Found::Is(m) => placed_with(alloc, u, s, j, m),
-        Found::Wait(item) => Ok(Step::Waits(item)),
+        Found::Wait(item) => Ok(Brief::Waits(item)),
     }
 }
 
@@ -82,14 +84,16 @@ fn embedded_good(
     p: Place,
     around: &Node,
     x: Facts,
-) -> Result<Step, NoMemory>
+) -> Result<Brief, NoMemory>
     requires scene { IsScene u.now s.now }
     requires facts { AreFactsOf s.now x }
-    ensures is { IfOk result (λ step. step_in s.now step ≡ tell (so_far s.now) (placed_embedded (unit_of u.now) block at p around.now (Right (known_of s.now x)))) }
-    ensures over { IfOk result (IsStepOf s.now) }
+    ensures is { IfOk result (λ brief. step_in s.now (step_of brief) ≡ tell (so_far s.now) (placed_embedded (unit_of u.now) block at p around.now (Right (known_of s.now x)))) }
+    ensures over { IfOk result (IsBriefOf s.now) }
 {
     if is_type(x.mode) {
-        judge_element(alloc, u, s, block, at.file, around, p.slot, Mark::Good(x))
+        let step = judge_element(alloc, u, s, block, at.file, around, p.slot, Mark::Good(x))?;
+        let brief = in_brief(alloc, step)?;
+        Ok(brief)
     } else {
         Ok(broken(NOT_A_TYPE))
     }
@@ -104,11 +108,11 @@ fn placed_embedded(
     p: Place,
     around: &Node,
     j: Mark,
-) -> Result<Step, NoMemory>
+) -> Result<Brief, NoMemory>
     requires scene { IsScene u.now s.now }
     requires mark { IsMarkOf s.now j }
-    ensures is { IfOk result (λ step. step_in s.now step ≡ tell (so_far s.now) (placed_embedded (unit_of u.now) block at p around.now (said s.now j))) }
-    ensures over { IfOk result (IsStepOf s.now) }
+    ensures is { IfOk result (λ brief. step_in s.now (step_of brief) ≡ tell (so_far s.now) (placed_embedded (unit_of u.now) block at p around.now (said s.now j))) }
+    ensures over { IfOk result (IsBriefOf s.now) }
 {
     match j {
         Mark::Good(x) => embedded_good(alloc, u, s, block, at, p, around, x),
@@ -133,14 +137,15 @@ fn placed_argument(
     p: Place,
     around: &Node,
     j: Mark,
-) -> Result<Step, NoMemory>
+) -> Result<Brief, NoMemory>
     requires scene { IsScene u.now s.now }
     requires mark { IsMarkOf s.now j }
-    ensures comes { IfOk result (ComesTo u.now s.now (placed_argument (unit_of u.now) block at p around.now (said s.now j))) }
-    ensures over { IfOk result (IsStepOf s.now) }
+    ensures comes { IfOk result (ComesBriefly u.now s.now (placed_argument (unit_of u.now) block at p around.now (said s.now j))) }
+    ensures over { IfOk result (IsBriefOf s.now) }
 {
     if is_passed(s, around, p.slot, j) {
-        return judge_passed(alloc, u, s, block, around, j);
+        let step = judge_passed(alloc, u, s, block, around, j)?;
+        return in_brief(alloc, step);
     }
     placed_plain(alloc, u, s, block, at, j)
 }
@@ -158,15 +163,15 @@ fn placed_shared(
     p: Place,
     around: &Node,
     j: Mark,
-) -> Result<Step, NoMemory>
+) -> Result<Brief, NoMemory>
     requires scene { IsScene u.now s.now }
     requires mark { IsMarkOf s.now j }
-    ensures comes { IfOk result (ComesTo u.now s.now (placed_shared (unit_of u.now) block at p around.now (said s.now j))) }
-    ensures over { IfOk result (IsStepOf s.now) }
+    ensures comes { IfOk result (ComesBriefly u.now s.now (placed_shared (unit_of u.now) block at p around.now (said s.now j))) }
+    ensures over { IfOk result (IsBriefOf s.now) }
 {
     if is_shared(u, block, p, around) {
         let step = judge_shared(alloc, u, s, block, u.nodes_at(at.file), around, j)?;
-        return Ok(step);
+        return in_brief(alloc, step);
     }
     placed_plain(alloc, u, s, block, at, j)
 }
@@ -183,14 +188,15 @@ fn stated_good(
     around: &Node,
     placing: StatementPlacing,
     x: Facts,
-) -> Result<Step, NoMemory>
+) -> Result<Brief, NoMemory>
     requires scene { IsScene u.now s.now }
     requires facts { AreFactsOf s.now x }
-    ensures comes { IfOk result (ComesTo u.now s.now (stated_good (unit_of u.now) block at p around.now placing (known_of s.now x))) }
-    ensures over { IfOk result (IsStepOf s.now) }
+    ensures comes { IfOk result (ComesBriefly u.now s.now (stated_good (unit_of u.now) block at p around.now placing (known_of s.now x))) }
+    ensures over { IfOk result (IsBriefOf s.now) }
 {
     let j = Mark::Good(x);
-    judge_statement_placed(alloc, u, s, block, at.file, p, around, at.node, j, placing)
+    let step = judge_statement_placed(alloc, u, s, block, at.file, p, around, at.node, j, placing)?;
+    in_brief(alloc, step)
 }
 
 /// A part of a statement that makes more of it than what it wants.
@@ -205,11 +211,11 @@ fn placed_stated(
     around: &Node,
     j: Mark,
     placing: StatementPlacing,
-) -> Result<Step, NoMemory>
+) -> Result<Brief, NoMemory>
     requires scene { IsScene u.now s.now }
     requires mark { IsMarkOf s.now j }
-    ensures comes { IfOk result (ComesTo u.now s.now (placed_stated (unit_of u.now) block at p around.now (said s.now j) placing)) }
-    ensures over { IfOk result (IsStepOf s.now) }
+    ensures comes { IfOk result (ComesBriefly u.now s.now (placed_stated (unit_of u.now) block at p around.now (said s.now j) placing)) }
+    ensures over { IfOk result (IsBriefOf s.now) }
 {
     match j {
         Mark::Good(x) => stated_good(alloc, u, s, block, at, p, around, placing, x),
@@ -224,17 +230,18 @@ fn placed_stated(
 // ---- bodies
 
 /// The body of a function: what is around it wants nothing of it.
-fn placed_body(alloc: Global, u: &Subject, s: &State, j: Mark) -> Result<Step, NoMemory>
+fn placed_body(alloc: Global, u: &Subject, s: &State, j: Mark) -> Result<Brief, NoMemory>
     requires scene { IsScene u.now s.now }
     requires mark { IsMarkOf s.now j }
-    ensures comes { IfOk result (ComesTo u.now s.now (placed_body (unit_of u.now) (said s.now j))) }
-    ensures over { IfOk result (IsStepOf s.now) }
+    ensures comes { IfOk result (ComesBriefly u.now s.now (placed_body (unit_of u.now) (said s.now j))) }
+    ensures over { IfOk result (IsBriefOf s.now) }
 {
     let nothing = Wanted {
         demand: Demand::Nothing,
         want: Want::Free,
     };
-    judge_placed(alloc, u, s, nothing, j)
+    let step = judge_placed(alloc, u, s, nothing, j)?;
+    in_brief(alloc, step)
 }
 
 // ---- all
@@ -250,11 +257,11 @@ fn placed_as(
     p: Place,
     around: &Node,
     j: Mark,
-) -> Result<Step, NoMemory>
+) -> Result<Brief, NoMemory>
     requires scene { IsScene u.now s.now }
     requires mark { IsMarkOf s.now j }
-    ensures comes { IfOk result (ComesTo u.now s.now (placed_as placing (unit_of u.now) block at p around.now (said s.now j))) }
-    ensures over { IfOk result (IsStepOf s.now) }
+    ensures comes { IfOk result (ComesBriefly u.now s.now (placed_as placing (unit_of u.now) block at p around.now (said s.now j))) }
+    ensures over { IfOk result (IsBriefOf s.now) }
 {
     match placing {
         Placing::Plain => placed_plain(alloc, u, s, block, at, j),
@@ -276,11 +283,11 @@ fn placed_beside(
     j: Mark,
     p: Place,
     around: &Node,
-) -> Result<Step, NoMemory>
+) -> Result<Brief, NoMemory>
     requires scene { IsScene u.now s.now }
     requires mark { IsMarkOf s.now j }
-    ensures comes { IfOk result (ComesTo u.now s.now (placed_beside (unit_of u.now) block at node.now (said s.now j) p around.now)) }
-    ensures over { IfOk result (IsStepOf s.now) }
+    ensures comes { IfOk result (ComesBriefly u.now s.now (placed_beside (unit_of u.now) block at node.now (said s.now j) p around.now)) }
+    ensures over { IfOk result (IsBriefOf s.now) }
 {
     let placing = placing_at(u, at, node, p, around);
     placed_as(alloc, u, s, placing, block, at, p, around, j)
@@ -296,11 +303,11 @@ fn placed_at(
     node: &Node,
     j: Mark,
     p: Place,
-) -> Result<Step, NoMemory>
+) -> Result<Brief, NoMemory>
     requires scene { IsScene u.now s.now }
     requires mark { IsMarkOf s.now j }
-    ensures comes { IfOk result (ComesTo u.now s.now (placed_at (unit_of u.now) block at node.now (said s.now j) p)) }
-    ensures over { IfOk result (IsStepOf s.now) }
+    ensures comes { IfOk result (ComesBriefly u.now s.now (placed_at (unit_of u.now) block at node.now (said s.now j) p)) }
+    ensures over { IfOk result (IsBriefOf s.now) }
 {
     let whole = NodeRef {
         file: at.file,
@@ -321,11 +328,11 @@ fn placed_after(
     at: NodeRef,
     node: &Node,
     j: Mark,
-) -> Result<Step, NoMemory>
+) -> Result<Brief, NoMemory>
     requires scene { IsScene u.now s.now }
     requires mark { IsMarkOf s.now j }
-    ensures comes { IfOk result (ComesTo u.now s.now (placed_after (unit_of u.now) block at node.now (said s.now j))) }
-    ensures over { IfOk result (IsStepOf s.now) }
+    ensures comes { IfOk result (ComesBriefly u.now s.now (placed_after (unit_of u.now) block at node.now (said s.now j))) }
+    ensures over { IfOk result (IsBriefOf s.now) }
 {
     match u.place_at(at) {
         Some(p) => placed_at(alloc, u, s, block, at, node, j, p),
@@ -342,13 +349,13 @@ pub fn placed(
     block: usize,
     at: NodeRef,
     node: &Node,
-) -> Result<Step, NoMemory>
+) -> Result<Brief, NoMemory>
     requires { IsScene u.now s.now }
-    ensures comes { IfOk result (ComesTo u.now s.now (placed_in (unit_of u.now) block at node.now)) }
-    ensures over { IfOk result (IsStepOf s.now) }
+    ensures comes { IfOk result (ComesBriefly u.now s.now (placed_in (unit_of u.now) block at node.now)) }
+    ensures over { IfOk result (IsBriefOf s.now) }
 {
     match ask_mark(u, s, Stage::Judged, block, at.node) {
         Found::Is(j) => placed_after(alloc, u, s, block, at, node, j),
-        Found::Wait(item) => Ok(Step::Waits(item)),
+        Found::Wait(item) => Ok(Brief::Waits(item)),
     }
 }

@@ -8,15 +8,17 @@ ghost use Rattle.typed_marks.specs.States.{so_far};
 ghost use Rattle.unit_read.specs.Subjects.{unit_of, IsRead};
 ghost use Rattle.rule_words.specs.Answers.{is_plain};
 ghost use Rattle.rule_words.specs.Scenes.{IsScene, said, IsMarkOf};
-ghost use Rattle.rule_words.specs.Steps.{step_in, IsStepOf};
+ghost use Rattle.rule_words.specs.Steps.{step_in};
+ghost use Rattle.elaborate.specs.Briefs.{step_of, IsBriefOf};
 ghost use Rattle.op_rules.specs.Names.{used, object_ask};
 ghost use Rattle.go_rules.specs.Uses.{declared_at, is_written, is_alone, is_plain_name, is_free, is_free_use, free_use};
 
 use crate::role::is_name;
 use assign_rules::around::is_blank;
+use elaborate::Brief;
 use go_tree::{Node, NodeRef, Object};
 use package_objects::part_count;
-use rule_words::{Answer, Step, look, operand};
+use rule_words::{look, operand};
 use type_questions::Found;
 use typed_marks::{Mark, Stage, State, Want};
 use unit_read::Subject;
@@ -111,13 +113,13 @@ fn used(s: &State, m: Mark) -> Mark
 }
 
 /// A use of what is declared at a name.
-pub fn judge_use(u: &Subject, s: &State, name: NodeRef) -> Step
+pub fn judge_use(u: &Subject, s: &State, name: NodeRef) -> Brief
     requires { IsScene u.now s.now }
-    ensures is { step_in s.now result ≡ tell (so_far s.now) (object_ask (unit_of u.now) name Free) }
-    ensures over { IsStepOf s.now result }
+    ensures is { step_in s.now (step_of result) ≡ tell (so_far s.now) (object_ask (unit_of u.now) name Free) }
+    ensures over { IsBriefOf s.now result }
 {
     match look(u, s, Stage::Object, name.file as usize, name.node) {
-        Found::Is(m) => Step::Says(Answer::Mark(used(s, m))),
-        Found::Wait(item) => Step::Waits(item),
+        Found::Is(m) => Brief::Mark(used(s, m)),
+        Found::Wait(item) => Brief::Waits(item),
     }
 }

@@ -4,20 +4,22 @@ ghost use Rattle.mark_walk.specs.Telling.{tell};
 ghost use Rattle.typed_marks.specs.States.{so_far};
 ghost use Rattle.unit_read.specs.Subjects.{unit_of};
 ghost use Rattle.rule_words.specs.Scenes.{IsScene, told_by, IfFound, said, IsMarkOf};
-ghost use Rattle.rule_words.specs.Steps.{step_in, IsStepOf};
+ghost use Rattle.rule_words.specs.Steps.{step_in};
+ghost use Rattle.elaborate.specs.Briefs.{step_of, IsBriefOf};
 ghost use Rattle.go_rules.specs.Families.{family, wants_by};
 ghost use Rattle.go_rules.specs.Stages.{wants_in, wants_of, wants_at, wanted_rule, wished};
 
 use crate::family::{Family, family_of};
 use call_rules::want_call;
 use decl_rules::want_decl;
+use elaborate::Brief;
+use elaborate::briefly::silent;
 use go_tree::{Node, NodeRef};
 use literal_rules::want_literal;
 use op_rules::want_op;
 use operator_statements::want_operation;
 use primary_rules::want_primary;
-use rule_words::good::silent;
-use rule_words::{Answer, Step, wanted_by};
+use rule_words::wanted_by;
 use statement_rules::want_statement;
 use type_questions::Found;
 use typed_marks::{Item, Mark, State, Want};
@@ -61,30 +63,30 @@ fn want_in(u: &Subject, s: &State, block: usize, p: Place, around: &Node) -> Fou
     want_by(u, s, family_of(around.kind), block, p, around)
 }
 
-fn wanted_mark(s: &State, m: Mark) -> Step
+fn wanted_mark(s: &State, m: Mark) -> Brief
     requires { IsMarkOf s.now m }
-    ensures is { step_in s.now result ≡ tell (so_far s.now) (wished (said s.now m)) }
-    ensures over { IsStepOf s.now result }
+    ensures is { step_in s.now (step_of result) ≡ tell (so_far s.now) (wished (said s.now m)) }
+    ensures over { IsBriefOf s.now result }
 {
     let w = wanted_by(s, m);
-    Step::Says(Answer::Mark(Mark::Wants(w.demand, w.want)))
+    Brief::Mark(Mark::Wants(w.demand, w.want))
 }
 
-fn wants_of(u: &Subject, s: &State, block: usize, p: Place, around: &Node) -> Step
+fn wants_of(u: &Subject, s: &State, block: usize, p: Place, around: &Node) -> Brief
     requires { IsScene u.now s.now }
-    ensures is { step_in s.now result ≡ tell (so_far s.now) (wants_of (unit_of u.now) block p around.now) }
-    ensures over { IsStepOf s.now result }
+    ensures is { step_in s.now (step_of result) ≡ tell (so_far s.now) (wants_of (unit_of u.now) block p around.now) }
+    ensures over { IsBriefOf s.now result }
 {
     match want_in(u, s, block, p, around) {
         Found::Is(m) => wanted_mark(s, m),
-        Found::Wait(item) => Step::Waits(item),
+        Found::Wait(item) => Brief::Waits(item),
     }
 }
 
-fn wants_at(u: &Subject, s: &State, block: usize, at: NodeRef, p: Place) -> Step
+fn wants_at(u: &Subject, s: &State, block: usize, at: NodeRef, p: Place) -> Brief
     requires { IsScene u.now s.now }
-    ensures is { step_in s.now result ≡ tell (so_far s.now) (wants_at (unit_of u.now) block at p) }
-    ensures over { IsStepOf s.now result }
+    ensures is { step_in s.now (step_of result) ≡ tell (so_far s.now) (wants_at (unit_of u.now) block at p) }
+    ensures over { IsBriefOf s.now result }
 {
     let whole = NodeRef {
         file: at.file,
@@ -97,10 +99,10 @@ fn wants_at(u: &Subject, s: &State, block: usize, at: NodeRef, p: Place) -> Step
 }
 
 /// What the place of a node wants.
-pub fn wanted(u: &Subject, s: &State, block: usize, at: NodeRef) -> Step
+pub fn wanted(u: &Subject, s: &State, block: usize, at: NodeRef) -> Brief
     requires { IsScene u.now s.now }
-    ensures is { step_in s.now result ≡ tell (so_far s.now) (wanted_rule (unit_of u.now) block at) }
-    ensures over { IsStepOf s.now result }
+    ensures is { step_in s.now (step_of result) ≡ tell (so_far s.now) (wanted_rule (unit_of u.now) block at) }
+    ensures over { IsBriefOf s.now result }
 {
     match u.place_at(at) {
         Some(p) => wants_at(u, s, block, at, p),

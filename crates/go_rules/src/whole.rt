@@ -3,9 +3,10 @@ ghost use Rattle.go_rules.specs.Stages.{rule};
 
 use crate::declare::declare_item;
 use crate::judge::judge_item;
-use elaborate::Rules;
+use crate::quiet::is_quiet_item;
+use elaborate::{Brief, Rules};
 use gv_base::NoMemory;
-use rule_words::{Declaring, Step};
+use rule_words::Declaring;
 use std::alloc::Global;
 use typed_marks::{Item, State};
 use unit_read::Subject;
@@ -17,7 +18,11 @@ pub struct GoRules;
 impl Rules for GoRules {
     ghost rule = { rule };
 
-    fn judge(&self, alloc: Global, u: &Subject, s: &State, item: Item) -> Result<Step, NoMemory> {
+    fn is_quiet(&self, u: &Subject, item: Item) -> bool {
+        is_quiet_item(u, item)
+    }
+
+    fn judge(&self, alloc: Global, u: &Subject, s: &State, item: Item) -> Result<Brief, NoMemory> {
         judge_item(alloc, u, s, item)
     }
 

@@ -1,5 +1,38 @@
-use Rattle.elaborate.proofs.WalkLemmas.{went_by}
+use Rattle.mark_walk.specs.Asks.{IsMarked}
+use Rattle.mark_walk.proofs.WaitLemmas.{not_marked}
+use Rattle.typed_marks.specs.States.{so_far}
+use Rattle.unit_read.specs.Subjects.{unit_of}
+use Rattle.elaborate.proofs.WalkLemmas.{went_itself, went_by}
+use Rattle.elaborate.proofs.CoverLemmas.{ended_well, rests_still}
 use Rattle.elaborate.proofs.nodes.mark_one.Goals as goal
+
+pub is_marked-requires : goal.is_marked-requires
+is_marked-requires g c = c.requires.work.scene.state
+
+pub is_quiet-requires : goal.is_quiet-requires
+is_quiet-requires g c = c.requires.work.scene.read
+
+pub mark_quiet-requires-clause-unmarked : goal.mark_quiet-requires-clause-unmarked
+mark_quiet-requires-clause-unmarked g c =
+    not_marked (so_far c.args.work.now.state) c.args.item c.is_marked.result c.if-is_marked.false c.is_marked.ensures.1
+
+pub mark_quiet-requires-clause-quiet : goal.mark_quiet-requires-clause-quiet
+mark_quiet-requires-clause-quiet g c = c.is_quiet.ensures c.if-is_quiet.true
+
+pub returns-then-is_marked-clause-went : goal.returns-then-is_marked-clause-went
+returns-then-is_marked-clause-went g c = went_itself g.R.Rules.rule c.args.work.now.subject.now c.args.work.now.state c.requires.work
+
+pub returns-then-is_marked-clause-ended : goal.returns-then-is_marked-clause-ended
+returns-then-is_marked-clause-ended g c =
+    ended_well g.R.Rules.rule (unit_of c.args.work.now.subject.now) c.args.work.now.state c.args.walk.now (λ marks. IsMarked marks c.args.item) c.requires.rests
+    (c.is_marked.ensures.0 c.if-is_marked.true)
+
+pub returns-then-is_quiet-clause-ended : goal.returns-then-is_quiet-clause-ended
+returns-then-is_quiet-clause-ended g c =
+    let next = c.mark_quiet.new.work in
+    let made = c.in_ok-mark_quiet.ensures in
+    ended_well g.R.Rules.rule (unit_of c.args.work.now.subject.now) next.state c.args.walk.now (λ marks. IsMarked marks c.args.item)
+    (rests_still (unit_of c.args.work.now.subject.now) c.args.work.now.state next.state c.args.walk.now made.went.goes.keeps c.requires.rests) made.marked
 
 pub returns-in-Marked-clause-went : goal.returns-in-Marked-clause-went
 returns-in-Marked-clause-went g c =

@@ -7,11 +7,11 @@ use Rattle.typed_marks.specs.States.{so_far}
 use Rattle.unit_read.specs.Subjects.{unit_of}
 use Rattle.rule_words.specs.Asking.{Rule}
 use Rattle.rule_words.specs.Steps.{step_in}
-use Rattle.type_answers.specs.Coming.{ComesTo}
 use Rattle.type_answers.proofs.ComingLaws.{same_comes}
+use Rattle.elaborate.specs.Briefs.{step_of, ComesBriefly}
+use Rattle.elaborate.proofs.BriefLemmas.{same_briefly}
 use Rattle.go_rules.specs.declared.role.Role.{Role}
 use Rattle.go_rules.specs.Stages.{in_own, object_as, stage_rule}
-use Rattle.go_rules.proofs.PassingLemmas.{same_passes}
 use Rattle.go_rules.proofs.judge.judge_stage.Goals as goal
 
 pub returns-in-Wanted-clause-comes : goal.returns-in-Wanted-clause-comes
@@ -22,7 +22,7 @@ returns-in-Object-clause-comes c =
     let s = c.args.s.now in
     let u = unit_of c.args.u.now in
     let rule : Stage → Rule = λ stage. stage_rule stage u c.args.block c.args.at c.args.node.now in
-    subst (λ (stage : Stage). IfOk c.object.result (ComesTo c.args.u.now s (rule stage))) (sym c.in-Object.is)
-    (same_passes c.args.u.now s (rule st.Object) c.object.result
-    (subst (λ (role : Role). IfOk c.object.result (λ step. step_in s step ≡ tell (so_far s) (in_own c.args.block c.args.at (object_as role u c.args.at c.args.node.now))))
+    subst (λ (stage : Stage). IfOk c.object.result (ComesBriefly c.args.u.now s (rule stage))) (sym c.in-Object.is)
+    (same_briefly c.args.u.now s (rule st.Object) c.object.result
+    (subst (λ (role : Role). IfOk c.object.result (λ brief. step_in s (step_of brief) ≡ tell (so_far s) (in_own c.args.block c.args.at (object_as role u c.args.at c.args.node.now))))
     c.role_at-in-Object.ensures c.object.ensures.is))

@@ -9,14 +9,14 @@ use Rattle.type_answers.specs.Coming.{FoundBy}
 use Rattle.type_answers.proofs.ComingLaws.{bind_waits}
 use Rattle.unit_read.specs.Subjects.{unit_of}
 use Rattle.go_rules.specs.Stages.{placed_after}
-use Rattle.go_rules.proofs.PassingLemmas.{bind_passes}
+use Rattle.elaborate.proofs.BriefLemmas.{bind_briefly}
 use Rattle.go_rules.proofs.placed.placed.Goals as goal
 
 pub returns-in-Is-clause-comes : goal.returns-in-Is-clause-comes
 returns-in-Is-clause-comes c =
     let s = c.args.s.now in
     let u = unit_of c.args.u.now in
-    bind_passes c.args.u.now s (mark_ask u st.Judged c.args.block c.args.at.node) (placed_after u c.args.block c.args.at c.args.node.now) (said s c.in-Is.j) _
+    bind_briefly c.args.u.now s (mark_ask u st.Judged c.args.block c.args.at.node) (placed_after u c.args.block c.args.at c.args.node.now) (said s c.in-Is.j) _
     (subst (λ (found : Found Mark Item). FoundBy c.args.u.now s (said s) (mark_ask u st.Judged c.args.block c.args.at.node) found) c.in-Is.is c.ask_mark.ensures.is) c.placed_after.ensures.comes
 
 pub returns-in-Wait-clause-comes : goal.returns-in-Wait-clause-comes
