@@ -8,3 +8,6 @@ pub mod ExportLaws
 pub mod GatherLaws
 pub mod ListLaws
 pub mod MentionLaws
+pub mod SkimLoops
+pub mod SkimLaws
+pub mod NamedLaws

@@ -97,12 +97,12 @@ face_low n T i h = All-append (Low n) (flat_map object_ids i.objects) (flat_map 
 
 -- ---- items of joined lists
 
-joined : {A B : Type 0} (f : A → List B) (xs : List A) (x : A) (y : B) → Contains xs x → Contains (f x) y → Contains (flat_map f xs) y
+pub joined : {A B : Type 0} (f : A → List B) (xs : List A) (x : A) (y : B) → Contains xs x → Contains (f x) y → Contains (flat_map f xs) y
 joined f [] x y (k, low, is) has = absurd (omega (arith, low))
 joined f (z ∷ xs) x y (zero, low, is) has = Contains-append_left (f z) (flat_map f xs) y (subst (λ a. Contains (f a) y) (sym is) has)
 joined f (z ∷ xs) x y (suc k, low, is) has = Contains-append_right (f z) (flat_map f xs) y (joined f xs x y (k, omega (arith, low), is) has)
 
-parted : {A B : Type 0} (f : A → List B) (xs : List A) (y : B) → Contains (flat_map f xs) y → (x : A) × Contains xs x × Contains (f x) y
+pub parted : {A B : Type 0} (f : A → List B) (xs : List A) (y : B) → Contains (flat_map f xs) y → (x : A) × Contains xs x × Contains (f x) y
 parted f [] y (k, low, is) = absurd (omega (arith, low))
 parted f (z ∷ xs) y c = elim (Contains-append_cases (f z) (flat_map f xs) y c) [
   | inl here ↦ (z, (0, omega arith, refl), here)
@@ -111,19 +111,19 @@ parted f (z ∷ xs) y c = elim (Contains-append_cases (f z) (flat_map f xs) y c)
 
 -- ---- the package that a type mentions
 
-none_there : {A : Type 0} (x : A) → Contains [] x → ⊥
+pub none_there : {A : Type 0} (x : A) → Contains [] x → ⊥
 none_there x (k, low, is) = absurd (omega (arith, low))
 
 only_there : {A : Type 0} (x y : A) → Contains (x ∷ []) y → x ≡ y
 only_there x y (zero, low, is) = is
 only_there x y (suc k, low, is) = absurd (omega (arith, low))
 
-record Mentioned (path : List ℕ) (g : GoType) (p : List ℕ) : Type 0 where
-  name : TypeName
-  is : g ≡ DefinedType name
-  of : name.package ≡ p
-  other : p ≡ path → ⊥
-  some : p ≡ [] → ⊥
+pub record Mentioned (path : List ℕ) (g : GoType) (p : List ℕ) : Type 0 where
+  pub name : TypeName
+  pub is : g ≡ DefinedType name
+  pub of : name.package ≡ p
+  pub other : p ≡ path → ⊥
+  pub some : p ≡ [] → ⊥
 
 by_tests : (path : List ℕ) (name : TypeName) (p : List ℕ) (own none : Bool) → bytes_eq name.package path ≡ own → eqb (length name.package) 0 ≡ none
     → Contains (cond own [] (cond none [] (name.package ∷ []))) p → Mentioned path (DefinedType name) p
@@ -139,7 +139,7 @@ by_tests path name p false false e f c =
       some = λ empty. absurd (let t = eq-eqb (length name.package) 0 (ap length (same ∙ empty)) in cc);
     }
 
-mentioned : (path : List ℕ) (of : GoType) (p : List ℕ) → Contains (mention_in path of) p → Mentioned path of p
+pub mentioned : (path : List ℕ) (of : GoType) (p : List ℕ) → Contains (mention_in path of) p → Mentioned path of p
 mentioned path (BasicType kind) p c = absurd (none_there p c)
 mentioned path (DefinedType name) p c = by_tests path name p (bytes_eq name.package path) (eqb (length name.package) 0) refl refl c
 mentioned path (PointerTo of) p c = absurd (none_there p c)
@@ -164,7 +164,7 @@ not_empty : (a : List ℕ) (t : Bool) → eqb (length a) 0 ≡ t → (a ≡ [] �
 not_empty a true e some = absurd (some (nil_from_length a (eqb-true (length a) 0 e)))
 not_empty a false e some = refl
 
-mentions_it : (path : List ℕ) (name : TypeName) → (name.package ≡ path → ⊥) → (name.package ≡ [] → ⊥) → Contains (mention_in path (DefinedType name)) name.package
+pub mentions_it : (path : List ℕ) (name : TypeName) → (name.package ≡ path → ⊥) → (name.package ≡ [] → ⊥) → Contains (mention_in path (DefinedType name)) name.package
 mentions_it path name other some =
     kept_by name.package (bytes_eq name.package path) (eqb (length name.package) 0) (not_own name.package path (bytes_eq name.package path) refl other) (not_empty name.package (eqb (length name.package) 0) refl some)
 

@@ -5,3 +5,4 @@ pub mod Listing
 pub mod Gathering
 pub mod Mentions
 pub mod MentionIds
+pub mod Skimming

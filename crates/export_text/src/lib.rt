@@ -2,6 +2,7 @@
 #![tactic(auto)]
 
 mod exporting;
+mod fronts;
 mod interface_reading;
 mod interface_writing;
 mod laws;
@@ -10,6 +11,8 @@ mod mentioning;
 mod method_reading;
 mod reaching;
 mod rising;
+mod skimming;
+mod type_skimming;
 
 pub use exporting::{export, gather};
 pub use interface_reading::read;
@@ -17,3 +20,4 @@ pub use interface_writing::write;
 pub use laws::{faces_are_read, one_export_of_a_package, one_face_text};
 pub use mentioning::mentions;
 pub use reaching::reached;
+pub use skimming::text_mentions;

@@ -139,7 +139,7 @@ fn drop_repeats(texts: &mut Vec<Text>)
 }
 
 /// Texts in byte order, each once.
-fn in_order(texts: Vec<Text>) -> Vec<Text>
+pub(crate) fn in_order(texts: Vec<Text>) -> Vec<Text>
     ensures { AreSorted texts.items result.items }
 {
     let mut texts = texts;

@@ -1,18 +1,14 @@
 //! Rows of packages: which packages are reached from others.
 ghost use Rattle.std.specs.Prelude.{◌≡◌, ◌<◌, ◌^◌, ℕ, IfOk, true, false, bytes_eq, length, replicate, slice_get, slice_set};
-ghost use Rattle.package_faces.specs.Faces.{Face};
-ghost use Rattle.export_text.specs.Faces.{IsFaceText};
-ghost use Rattle.export_text.specs.Mentions.{AreMentions};
 ghost use Rattle.gv_driver.specs.Rows.{is_among, merged, of_paths, places_below, reach_in, with_all, with_each, with_reach};
 ghost use Rattle.gv_driver.specs.Tables.{IsRowOf};
 
 use crate::node::Node;
 use crate::parts::path_at;
 use crate::tree::PackageTexts;
-use export_text::{mentions, read};
+use export_text::text_mentions;
 use gv_base::{NoMemory, Row, Text};
 use std::alloc::Global;
-use type_model::TypeTable;
 
 fn height(flags: &Vec<bool>) -> usize
     ensures { result ≡ length flags.now.items }
@@ -99,21 +95,6 @@ pub(crate) fn merged_row(
     Ok(Row::new(list))
 }
 
-/// The paths of the packages that an export text mentions. A cache may hold any text; one that spells nothing mentions none.
-fn mentions_in(alloc: Global, text: &[u8]) -> Result<Vec<Text>, NoMemory>
-    ensures { (f : Face) → IsFaceText f text.now → IfOk result (λ paths. AreMentions f paths.items) }
-{
-    let mut types = TypeTable::new(alloc)?;
-    let seen = read(alloc, &mut types, text)?;
-    match seen {
-        None => Ok(Vec::new(alloc)),
-        Some(seen) => {
-            let paths = mentions(alloc, &types, &seen)?;
-            Ok(paths)
-        }
-    }
-}
-
 fn is_same(one: &str, other: &str) -> bool
     ensures { result ≡ bytes_eq one.now other.now }
 {
@@ -149,7 +130,7 @@ fn with_paths(
     Ok(list)
 }
 
-/// What is reached from a package with this environment and this export text.
+/// What is reached from a package with this environment and this export text. A cache may hold any text.
 pub(crate) fn row_of(
     alloc: Global,
     tree: &[PackageTexts],
@@ -160,7 +141,7 @@ pub(crate) fn row_of(
     requires { length table.now < 2 ^ 32 }
     ensures { IfOk result (λ row. IsRowOf tree.now table.now env.now text.now row) }
 {
-    let paths = mentions_in(alloc, text)?;
+    let paths = text_mentions(alloc, text)?;
     let numbers = with_paths(alloc, tree, &paths, env)?;
     let row = merged_row(alloc, table, &numbers)?;
     Ok(row)

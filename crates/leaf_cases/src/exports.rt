@@ -2,7 +2,7 @@
 //! objects.
 use crate::spelled::Reading;
 use crate::told::{add, add_value, said, unread};
-use export_text::{export, mentions, write};
+use export_text::{export, mentions, text_mentions, write};
 use gv_base::{NoMemory, Text};
 use package_faces::{ExportForm, Exported, ExportedType, Interface};
 use std::alloc::Global;
@@ -61,6 +61,19 @@ fn add_mentions(out: &mut Vec<u8>, paths: &[Text]) -> Result<(), NoMemory> {
     Ok(())
 }
 
+/// Whether the same packages are told twice.
+fn are_same(a: &[Text], b: &[Text]) -> bool {
+    if a.len() != b.len() {
+        return false;
+    }
+    for i in 0..a.len() {
+        if a[i].as_str() != b[i].as_str() {
+            return false;
+        }
+    }
+    true
+}
+
 /// What is read of bytes that are to spell an interface.
 pub fn read(alloc: Global, bytes: &[u8]) -> Result<Option<Reading>, NoMemory> {
     let mut table = TypeTable::new(alloc)?;
@@ -73,6 +86,10 @@ pub fn read(alloc: Global, bytes: &[u8]) -> Result<Option<Reading>, NoMemory> {
     let mut says = told(alloc, &read)?;
     let paths = mentions(alloc, &table, &read)?;
     add_mentions(&mut says, &paths)?;
+    let gathered = text_mentions(alloc, bytes)?;
+    if !are_same(&paths, &gathered) {
+        add(&mut says, " and other ones in its text")?;
+    }
     Ok(Some(Reading { says, again }))
 }
 
