@@ -151,7 +151,7 @@ env-below tree _ _ formed (checked p pack n e v at sound around good judges) num
 
 -- ---- one package
 
-module _ (tree : List PackageTexts) (formed : IsTree tree) (stay : FindingsStay) where
+module _ (tree : List PackageTexts) (formed : IsTree tree) (stay : FindingsStay tree) where
   module _ (p : ℕ) (pack : PackageTexts) (numbers : List ℕ) (env : Env) (at : slice_get tree p ≡ Some pack) (is : IsEnv tree p numbers env) (lies : (q : ℕ) → Contains numbers q → Below tree q p)
       (each : (q : ℕ) (f : Face) → Shows numbers env q f → Typed tree q (Accepts f)) where
     import-world : (r : ℕ) → Contains pack.imports r → World tree r
@@ -227,7 +227,8 @@ module _ (tree : List PackageTexts) (formed : IsTree tree) (stay : FindingsStay)
     typed-with v sound judges =
         typed p pack (env ++ others.w) v at sound (λ q other b there. has p q other refl b there)
         (λ path f e. (let s = sources path f e in (s.q, s.other, s.below, s.at, s.path_is)))
-        from (stay pack.path pack.files env (env ++ others.w) v (closed sound) (λ path f e. found-first env others.w path f e) judges)
+        from (stay p pack env (env ++ others.w) v at (closed sound) (λ path f e. found-first env others.w path f e)
+        (λ path f e. (let s = sources path f e in (s.q, s.other, s.below, s.at, s.path_is, s.good))) judges)
 
   -- what is found of a package over its environment is found over all packages below it
   pub typed-of : (p : ℕ) (v : Judged) → Checked tree p v → Typed tree p v

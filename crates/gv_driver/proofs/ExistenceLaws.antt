@@ -1,4 +1,4 @@
--- Where no lawful load and no lawful run is without an outcome, no tree is without verdicts, findings, inputs and a cache.
+-- Where no lawful load but a stuck one and no lawful run is without an outcome, no tree in which no package is stuck is without verdicts, findings, inputs and a cache.
 use Rattle.std.proofs.Common.{◌≡◌, ℕ, zero, suc, ◌+◌, ◌<◌, ◌≤◌, ◌⊎◌, inl, inr, Bool, true, false, if◌then◌else◌, Some, List, [], ◌∷◌, ◌++◌, length, map, slice_get, refl, sym, ap, ◌∙◌, subst, arith}
 use Rattle.std.specs.List.{Contains}
 use Rattle.std.proofs.lemmas.List.{length-append, length-map}
@@ -19,7 +19,7 @@ use Rattle.gv_driver.specs.declared.tree.PackageTexts.{PackageTexts}
 use Rattle.gv_driver.specs.declared.reply.Verdict.{Verdict}
 use Rattle.gv_driver.specs.declared.reply.Verdict.TheVariants as verdict
 use Rattle.gv_driver.specs.Trees.{IsTree}
-use Rattle.gv_driver.specs.Whole.{Checked}
+use Rattle.gv_driver.specs.Whole.{Checked, HasStuck}
 use Rattle.gv_driver.specs.Analyzers.{AreAnalyzers, analyzers_of}
 use Rattle.gv_driver.specs.Facts.{IsGiven}
 use Rattle.gv_driver.specs.Loads.{IsRunOf, IsLoadOf, IsInput, IsNodeInput, all_inputs, load_input, run_key, run_over}
@@ -29,7 +29,7 @@ use Rattle.gv_driver.specs.Existence.{AllHaveOutcomes, AllRunsHaveOutcomes, HasR
 use Rattle.gv_driver.proofs.Places.{element, at-contained, contains-head, contains-tail, get-push_cases, get-unmapped, get-mapped}
 use Rattle.gv_driver.proofs.AnalyzerLaws.{are-analyzers}
 use Rattle.gv_driver.proofs.ExistingFacts.{gives}
-use Rattle.gv_driver.proofs.ExistingLoads.{AreAccepted, HasBlocked, blocked-or, loads}
+use Rattle.gv_driver.proofs.ExistingLoads.{AreAccepted, HasBlocked, LoadsHaveOutcomes, blocked-or, loads, loads-have}
 use Rattle.gv_driver.proofs.FactsTold.{facts-come, run-lawful}
 use Rattle.gv_driver.proofs.PlanLaws.{unique-node}
 use Rattle.gv_driver.proofs.EntryLaws.{in-append}
@@ -37,7 +37,7 @@ use Rattle.gv_driver.proofs.FindingLaws.{found-there}
 use Rattle.gv_driver.proofs.LawfulLaws.{load-lawful}
 use Rattle.gv_driver.proofs.WholeLaws.{same_pack, shown, unique, judged-of, unique-input}
 
-module _ (outcomes : AllHaveOutcomes) (run_outcomes : AllRunsHaveOutcomes) (tree : List PackageTexts) (only : ℕ) (formed : IsTree tree) where
+module _ (tree : List PackageTexts) (outcomes : LoadsHaveOutcomes tree) (run_outcomes : AllRunsHaveOutcomes) (only : ℕ) (formed : IsTree tree) where
   -- ---- one package
 
   -- the outcome of an input
@@ -137,7 +137,7 @@ module _ (outcomes : AllHaveOutcomes) (run_outcomes : AllRunsHaveOutcomes) (tree
       nothing zero a e = cc
       nothing (suc k) a e = cc
   runs-have p load of export (n ∷ ns) lawful outcome are none =
-      gives outcomes run_outcomes tree formed n (are 0 n refl) p of.numbers of.faces of.are (λ facts given.
+      gives tree outcomes run_outcomes formed n (are 0 n refl) p of.numbers of.faces of.are (λ facts given.
       run_outcomes (run_over (same-given facts) n load) export (run-lawful tree n p (run_over (same-given facts) n load) formed lawful (are 0 n refl) (record { analyzer = refl; of = of; given = given })) outcome (λ text one.
       runs-have p load of export ns lawful outcome (λ k. are (suc k)) (λ rest.
       none (both (record { facts = facts; given = given; number = are 0 n refl; text = text; outcome = one }) rest))))
@@ -245,11 +245,11 @@ module _ (outcomes : AllHaveOutcomes) (run_outcomes : AllRunsHaveOutcomes) (tree
       by : (b : Bool) → pack.sound ≡ b → ⊥
       by false never = k (unloaded p verdict.Faulty (pack, at, never) refl refl (unsound never))
       by true sound =
-          blocked-or outcomes tree formed pack.imports (λ (cases : HasBlocked outcomes tree formed pack.imports ⊎ AreAccepted outcomes tree formed pack.imports). elim cases [
+          blocked-or tree outcomes formed pack.imports (λ (cases : HasBlocked tree outcomes formed pack.imports ⊎ AreAccepted tree outcomes formed pack.imports). elim cases [
             | inl b ↦ k (unloaded p verdict.Blocked (pack, at, sound, (b.0, b.1, b.2)) refl refl (stopped b.0 b.1 b.2))
-            | inr good ↦ loads outcomes tree formed p pack at sound good (λ load of.
+            | inr good ↦ loads tree outcomes formed p pack at sound good (λ load of.
                 let lawful = load-lawful tree p load formed of in
-                outcomes load lawful (λ text outcome.
+                outcomes p load of lawful (λ text outcome.
                 let judged = judged-of tree p load text of outcome in
                 told-by p load text of judged.0 lawful outcome judged.1 judged.2 k))
           ])
@@ -302,8 +302,8 @@ module _ (outcomes : AllHaveOutcomes) (run_outcomes : AllRunsHaveOutcomes) (tree
     | inr h ↦ (let r = in-rows rows t h in (suc r.0, r.1, r.2, r.3, r.4))
   ]
 
-  pub run-exists : (before : List Entry) → HasRun tree only before
-  run-exists before none = rows-up (length tree) (omega arith) (λ rows are.
+  there-is : (before : List Entry) → HasRun tree only before
+  there-is before none = rows-up (length tree) (omega arith) (λ rows are.
       let plan : List (List Input) = map (λ (r : Row). r.what.inputs) rows in
       let added = entries before (all_inputs plan) (λ t has.
       let at = in-rows plan t has in
@@ -350,3 +350,6 @@ module _ (outcomes : AllHaveOutcomes) (run_outcomes : AllRunsHaveOutcomes) (tree
       every-at rows are p k row t at is =
           let found = get-unmapped (λ (r : Row). r.what.inputs) rows p row at in
           subst (λ (l : List Input). slice_get l k ≡ Some t) found.2 (found.0.what.every k t (subst (λ (n : ℕ). IsNodeInput tree only n k t) (sym (are.each p found.0 found.1)) is))
+
+pub run-exists : AllHaveOutcomes → AllRunsHaveOutcomes → (tree : List PackageTexts) (only : ℕ) → IsTree tree → (HasStuck tree → ⊥) → (before : List Entry) → HasRun tree only before
+run-exists all runs tree only formed goes before = there-is tree (loads-have all tree goes) runs only formed before

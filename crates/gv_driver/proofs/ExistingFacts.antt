@@ -1,4 +1,4 @@
--- Where no lawful load and no lawful run is without an outcome, no accepted package is without the facts of an analyzer.
+-- Where no load of a tree and no lawful run is without an outcome, no accepted package is without the facts of an analyzer.
 use Rattle.std.proofs.Common.{◌≡◌, ℕ, zero, suc, ◌<◌, Bool, true, false, Some, List, [], ◌∷◌, length, slice_get, refl, sym, ap, ◌∙◌, subst, arith}
 use Rattle.std.proofs.lemmas.Option.{same_Some, slice_get_within}
 use Rattle.package_faces.specs.Faces.{Face}
@@ -10,13 +10,13 @@ use Rattle.action_graph.specs.Judging.{Judged, Env, IsLawful, IsOutcome, Tells, 
 use Rattle.action_graph.specs.Judging.Judged.{Accepts}
 use Rattle.action_graph.specs.Work.{IsAnalyzer, has_facts}
 use Rattle.gv_driver.specs.declared.tree.PackageTexts.{PackageTexts}
-use Rattle.gv_driver.specs.Existence.{AllHaveOutcomes, AllRunsHaveOutcomes}
+use Rattle.gv_driver.specs.Existence.{AllRunsHaveOutcomes}
 use Rattle.gv_driver.specs.Facts.{AreBeside, AreFactsOf, Gives, HasFacts, IsGiven, IsGivenIf}
 use Rattle.gv_driver.specs.Loads.{IsLoadOf, IsRunOf}
 use Rattle.gv_driver.specs.Trees.{IsTree}
 use Rattle.gv_driver.specs.Whole.{IsEnv, Checked}
 use Rattle.gv_driver.specs.Whole.Checked.{checked}
-use Rattle.gv_driver.proofs.ExistingLoads.{has-text, is-load, load-with, texts-of}
+use Rattle.gv_driver.proofs.ExistingLoads.{LoadsHaveOutcomes, has-text, is-load, load-with, texts-of}
 use Rattle.gv_driver.proofs.FactsTold.{facts-come, run-lawful}
 use Rattle.gv_driver.proofs.LawfulLaws.{load-lawful}
 use Rattle.gv_driver.proofs.WholeLaws.{judged-of, opened, same_pack, unique}
@@ -57,7 +57,7 @@ facts-of-all tree a (n ∷ ns) (g ∷ faces) size at each none =
     facts-of-all tree a ns faces (omega (arith, size)) (λ k q f here seen. at (suc k) q f here seen) (λ k q f here seen. each (suc k) q f here seen) (λ given are.
     none ((o.0.path, text) ∷ given) (one-more tree a n o.0 o.1 text ns given has are)))
 
-module _ (outcomes : AllHaveOutcomes) (run_outcomes : AllRunsHaveOutcomes) (tree : List PackageTexts) (formed : IsTree tree) (a : ℕ) (number : IsAnalyzer a) where
+module _ (tree : List PackageTexts) (outcomes : LoadsHaveOutcomes tree) (run_outcomes : AllRunsHaveOutcomes) (formed : IsTree tree) (a : ℕ) (number : IsAnalyzer a) where
   -- the packages of an environment are of the tree
   env-at : (p : ℕ) (numbers : List ℕ) (env : Env) → IsEnv tree p numbers env → (k q : ℕ) (f : Face) → slice_get numbers k ≡ Some q → slice_get env k ≡ Some f → (other : PackageTexts) × (slice_get tree q ≡ Some other)
   env-at p numbers env is k q f here seen = (let o = opened tree q (Accepts f) (is.good q f (k, here, seen)) in (o.pack, o.at))
@@ -71,14 +71,14 @@ module _ (outcomes : AllHaveOutcomes) (run_outcomes : AllRunsHaveOutcomes) (tree
       → ((k q : ℕ) (f : Face) → slice_get numbers k ≡ Some q → slice_get env k ≡ Some f → ((text : List ℕ) → HasFacts tree a q text → ⊥) → ⊥) → ((text : List ℕ) → HasFacts tree a p text → ⊥) → ⊥
   unfolding is-load
   facts-with has p pack i numbers env at sound is good facts none =
-      texts-of tree numbers env is.around.size (λ k q f here seen. has-text outcomes tree formed q (Accepts f) (is.good q f (k, here, seen)) f refl) (λ pairs are.
+      texts-of tree numbers env is.around.size (λ k q f here seen. has-text tree outcomes formed q (Accepts f) (is.good q f (k, here, seen)) f refl) (λ pairs are.
       facts-of-all tree a numbers env is.around.size (env-at p numbers env is) facts (λ given told.
       let load : LoadInput = load-with pack pairs in
       let of : IsLoadOf tree p load = is-load tree p pack numbers env pairs at sound is are in
       let lawful : IsLawful load = load-lawful tree p load formed of in
       let run : RunInput = record { analyzer = a; load = load; facts = given } in
       let mine : IsRunOf tree a p run = record { analyzer = refl; of = of; given = given-if (has_facts a) numbers given has told } in
-      outcomes load lawful (λ text outcome.
+      outcomes p load of lawful (λ text outcome.
       let judged = judged-of tree p load text of outcome in
       let tells : Tells (Accepts i) text = subst (λ (w : Judged). Tells w text) (sym (unique tree p (Accepts i) judged.0 good judged.1)) judged.2 in
       let accepts : IsOutcome load (accepted_text tells.0) = subst (λ (t : List ℕ). IsOutcome load t) tells.2 outcome in

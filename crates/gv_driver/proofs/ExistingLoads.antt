@@ -1,4 +1,4 @@
--- Where no lawful load is without an outcome, no package of a tree whose imports are accepted is without a load.
+-- Where no load of a tree is without an outcome, no package whose imports are accepted is without a load.
 use Rattle.std.proofs.Common.{◌≡◌, ℕ, zero, suc, ◌<◌, ◌⊎◌, inl, inr, true, Some, List, [], ◌∷◌, ◌++◌, length, slice_get, refl, sym, ap, subst, arith}
 use Rattle.std.specs.List.{Contains}
 use Rattle.std.proofs.lemmas.List.Elements.{Contains-append_left, Contains-push, Contains-push_cases}
@@ -6,11 +6,11 @@ use Rattle.std.proofs.lemmas.Option.{same_Some, slice_get_within}
 use Rattle.package_faces.specs.Faces.{Face}
 use Rattle.action_graph.specs.declared.kit.LoadInput.{LoadInput}
 use Rattle.action_graph.specs.Nodes.{Named}
-use Rattle.action_graph.specs.Judging.{Judged, Env, Tells}
+use Rattle.action_graph.specs.Judging.{Judged, Env, IsLawful, IsOutcome, IsStuck, IsStuckOver, Tells}
 use Rattle.action_graph.specs.Judging.Judged.{Accepts}
 use Rattle.gv_driver.specs.declared.tree.PackageTexts.{PackageTexts}
 use Rattle.gv_driver.specs.Trees.{IsTree}
-use Rattle.gv_driver.specs.Whole.{AreRising, IsEnv, Checked}
+use Rattle.gv_driver.specs.Whole.{AreRising, HasStuck, IsEnv, Checked}
 use Rattle.gv_driver.specs.Whole.Checked.{checked}
 use Rattle.gv_driver.specs.Loads.{AreExports, IsExport, IsLoadOf}
 use Rattle.gv_driver.specs.Existence.{AllHaveOutcomes}
@@ -18,7 +18,7 @@ use Rattle.gv_driver.proofs.Places.{contains-head, contains-tail, cons-cases, no
 use Rattle.gv_driver.proofs.RowLemmas.{less-or-last, rising-push}
 use Rattle.gv_driver.proofs.AroundLaws.{IsNearby, reach-low, row-env}
 use Rattle.gv_driver.proofs.LawfulLaws.{load-lawful}
-use Rattle.gv_driver.proofs.WholeLaws.{opened, unique, judged-of}
+use Rattle.gv_driver.proofs.WholeLaws.{env-of, opened, unique, judged-of}
 
 -- what holds or doesn't can't be denied
 pub either : {A : Type 0} → ((A ⊎ (A → ⊥)) → ⊥) → ⊥
@@ -77,7 +77,24 @@ unfoldable pub is-load : (tree : List PackageTexts) (p : ℕ) (pack : PackageTex
     → AreExports tree numbers faces pairs → IsLoadOf tree p (load-with pack pairs)
 is-load tree p pack numbers faces pairs at sound are texts = record { pack = pack; at = at; sound = sound; path = refl; files = refl; numbers = numbers; faces = faces; are = are; env = texts }
 
-module _ (outcomes : AllHaveOutcomes) (tree : List PackageTexts) (formed : IsTree tree) where
+-- ---- the loads of a tree
+
+-- no load of the tree is without an outcome
+abbrev pub LoadsHaveOutcomes : List PackageTexts → Type 0
+LoadsHaveOutcomes tree = (p : ℕ) (load : LoadInput) → IsLoadOf tree p load → IsLawful load → ((text : List ℕ) → IsOutcome load text → ⊥) → ⊥
+
+stuck-in : (tree : List PackageTexts) (p : ℕ) (load : LoadInput) → IsLoadOf tree p load → IsStuck load → HasStuck tree
+stuck-in tree p load of is =
+    let over : IsStuckOver of.pack.path of.pack.files is.env =
+    subst (λ (l : List Named). IsStuckOver of.pack.path l is.env) of.files
+    (subst (λ (l : List ℕ). IsStuckOver l load.files is.env) of.path is.stuck) in
+    (p, record { pack = of.pack; env = is.env; at = of.at; sound = of.sound; faces = env-of tree p load is.env of is.faces; stuck = over })
+
+-- where none of its packages is stuck
+pub loads-have : AllHaveOutcomes → (tree : List PackageTexts) → (HasStuck tree → ⊥) → LoadsHaveOutcomes tree
+loads-have all tree goes p load of lawful none = all load lawful (λ is. goes (stuck-in tree p load of is)) none
+
+module _ (tree : List PackageTexts) (outcomes : LoadsHaveOutcomes tree) (formed : IsTree tree) where
   pub told-text : (p : ℕ) (pack : PackageTexts) (i : Face) (v : Judged) (text : List ℕ) → slice_get tree p ≡ Some pack → Accepts i ≡ v → Tells v text → (x : Named) × IsExport tree p i x
   told-text p pack i v text at same told =
       let export = subst (λ (w : Judged). Tells w text) (sym same) told in
@@ -91,7 +108,7 @@ module _ (outcomes : AllHaveOutcomes) (tree : List PackageTexts) (formed : IsTre
   text-with p pack i numbers faces at sound is good texts none =
       texts-of tree numbers faces is.around.size texts (λ pairs are.
       let of = is-load tree p pack numbers faces pairs at sound is are in
-      outcomes (load-with pack pairs) (load-lawful tree p (load-with pack pairs) formed of) (λ text outcome.
+      outcomes p (load-with pack pairs) of (load-lawful tree p (load-with pack pairs) formed of) (λ text outcome.
       let judged = judged-of tree p (load-with pack pairs) text of outcome in
       let x = told-text p pack i judged.0 text at (unique tree p (Accepts i) judged.0 good judged.1) judged.2 in
       none x.0 x.1))

@@ -24,10 +24,6 @@ pub record IsClosed (path : List ℕ) (files : List Named) (env : Env) : Type 0 
   pub imports : (pack : Package) (other : List ℕ) → IsPackageOf path files pack → ImportsPath pack other → (f : Face) × Knows env other f
   pub mentions : (f : Face) (other : List ℕ) → Contains env f → IsMentioned f other → (g : Face) × Knows env other g
 
--- What is found of a package over what is seen of some packages, where nothing lacks, is found where more are seen.
-abbrev pub FindingsStay : Type 0
-FindingsStay = (path : List ℕ) (files : List Named) (env world : Env) (judged : Judged) → IsClosed path files env → Grows env world → Judges path files env judged → Judges path files world judged
-
 -- q is below p: p imports it, or a package that it is below
 pub data Below (tree : List PackageTexts) (q : ℕ) : ℕ → Type 0 where
   directly : (p : ℕ) → Imports tree p q → Below tree q p
@@ -43,3 +39,12 @@ pub data Typed (tree : List PackageTexts) : ℕ → Judged → Type 0 where
       → ((q : ℕ) (other : PackageTexts) (f : Face) → slice_get tree q ≡ Some other → Knows world other.path f → Typed tree q (Accepts f))
       → Judges pack.path pack.files world judged
       → Typed tree p judged
+
+-- What is known there is seen of packages of the tree below p, as it comes of each.
+abbrev pub IsSeenBelow : List PackageTexts → ℕ → Env → Type 0
+IsSeenBelow tree p world = (path : List ℕ) (f : Face) → Knows world path f → (q : ℕ) × (other : PackageTexts) × Below tree q p × (slice_get tree q ≡ Some other) × (other.path ≡ path) × Typed tree q (Accepts f)
+
+-- What is found of a package over what is seen of some packages below it, where nothing lacks, is found where more of them are seen.
+abbrev pub FindingsStay : List PackageTexts → Type 0
+FindingsStay tree = (p : ℕ) (pack : PackageTexts) (env world : Env) (judged : Judged) → slice_get tree p ≡ Some pack → IsClosed pack.path pack.files env → Grows env world → IsSeenBelow tree p world
+    → Judges pack.path pack.files env judged → Judges pack.path pack.files world judged

@@ -4,7 +4,7 @@ use Rattle.analysis_core.specs.declared.diagnostic.Diagnostic.{Diagnostic}
 use Rattle.action_graph.specs.declared.kit.LoadInput.{LoadInput}
 use Rattle.action_graph.specs.declared.kit.RunInput.{RunInput}
 use Rattle.action_graph.specs.Analyzing.{IsRunLawful, IsRunOutcome}
-use Rattle.action_graph.specs.Judging.{IsLawful, IsOutcome, accepted_text}
+use Rattle.action_graph.specs.Judging.{IsLawful, IsOutcome, IsStuck, accepted_text}
 use Rattle.fact_cache.specs.declared.texts.Input.{Input}
 use Rattle.fact_cache.specs.declared.list.Entry.{Entry}
 use Rattle.gv_driver.specs.declared.tree.PackageTexts.{PackageTexts}
@@ -13,9 +13,9 @@ use Rattle.gv_driver.specs.Caches.{IsCacheAfter}
 use Rattle.gv_driver.specs.Loads.{IsPlan, all_inputs}
 use Rattle.gv_driver.specs.Reports.{IsFactReport, IsReport, IsRunReport}
 
--- no lawful load is without an outcome
+-- no lawful load but a stuck one is without an outcome
 abbrev pub AllHaveOutcomes : Type 0
-AllHaveOutcomes = (load : LoadInput) → IsLawful load → ((text : List ℕ) → IsOutcome load text → ⊥) → ⊥
+AllHaveOutcomes = (load : LoadInput) → IsLawful load → (IsStuck load → ⊥) → ((text : List ℕ) → IsOutcome load text → ⊥) → ⊥
 
 -- no lawful run over an accepted load is without an outcome
 abbrev pub AllRunsHaveOutcomes : Type 0

@@ -20,7 +20,7 @@ ghost use Rattle.gv_driver.specs.Facts.{HasFacts};
 ghost use Rattle.gv_driver.specs.Loads.{IsRunOf, IsPlan};
 ghost use Rattle.gv_driver.specs.Reports.{IsFactReport, IsReport, IsRunReport};
 ghost use Rattle.gv_driver.specs.Trees.{IsTree};
-ghost use Rattle.gv_driver.specs.Whole.{Checked};
+ghost use Rattle.gv_driver.specs.Whole.{Checked, HasStuck};
 
 /// A tree has one plan.
 pub fn one_plan()
@@ -56,14 +56,14 @@ pub fn one_cache()
     ensures within { (before after : List Entry) (inputs : List Input) → IsCacheAfter before after inputs → is_within after ≡ true }
 {}
 
-/// Where no lawful load and no lawful run is without an outcome, no tree is without verdicts, what the analyzers find,
-/// their facts, inputs of its nodes, and a cache that a run leaves.
+/// Where no lawful load but a stuck one and no lawful run is without an outcome, no tree in which no package is stuck is without verdicts,
+/// what the analyzers find, their facts, inputs of its nodes, and a cache that a run leaves.
 pub fn a_tree_has_a_report()
-    ensures { AllHaveOutcomes → AllRunsHaveOutcomes → (tree : List PackageTexts) (only : ℕ) → IsTree tree → (before : List Entry) → HasRun tree only before }
+    ensures { AllHaveOutcomes → AllRunsHaveOutcomes → (tree : List PackageTexts) (only : ℕ) → IsTree tree → (HasStuck tree → ⊥) → (before : List Entry) → HasRun tree only before }
 {}
 
-/// Where findings stay as more is seen of other packages, what is found of a package over its environment by mentions is what is found over all
-/// packages below it. That findings stay, where the package's imports and what is mentioned are known, is a law over all rules, which isn't proved.
+/// Where findings stay as more is seen of packages below, what is found of a package over its environment by mentions is what is found over all
+/// packages below it. That they stay, where the package's imports and what is mentioned are known, is a law over all rules, which isn't proved.
 pub fn an_environment_is_enough()
-    ensures { FindingsStay → (tree : List PackageTexts) → IsTree tree → (p : ℕ) (judged : Judged) → Checked tree p judged → Typed tree p judged }
+    ensures { (tree : List PackageTexts) → IsTree tree → FindingsStay tree → (p : ℕ) (judged : Judged) → Checked tree p judged → Typed tree p judged }
 {}

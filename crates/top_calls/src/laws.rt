@@ -6,7 +6,7 @@ ghost use Rattle.scripts.specs.declared.halt.Halt.{Halt};
 ghost use Rattle.top_calls.specs.declared.options.ToolOptions.{ToolOptions};
 ghost use Rattle.top_calls.specs.declared.stop.Stop.{Stop};
 ghost use Rattle.top_calls.specs.Due.{IsLawfulKept, Due, GoesOut};
-ghost use Rattle.top_calls.specs.Existence.{HasDue};
+ghost use Rattle.top_calls.specs.Existence.{HasDue, MeetsCircle};
 ghost use Rattle.top_calls.specs.Outcome.{Opens, Seen, Outcome};
 ghost use Rattle.tree_runs.specs.Existence.{AllHaveOutcomes, AllRunsHaveOutcomes};
 ghost use Rattle.tree_runs.specs.Reports.{Entries, HasText};
@@ -41,10 +41,10 @@ pub fn one_due_of_a_run()
     one_report_of_a_tree();
 }
 
-/// Where no lawful load and no lawful run of an analyzer is without an outcome, no script is without a due output, over each keeper whose bytes were looked at and whose cache has a text. There
-/// is one at most (`one_due_of_a_script`).
+/// Where no lawful load but a stuck one and no lawful run of an analyzer is without an outcome, no script that comes to no stuck package is without a due output, over each keeper whose bytes were
+/// looked at and whose cache has a text. There is one at most (`one_due_of_a_script`).
 pub fn each_script_has_a_due_output(script: &[u8])
-    ensures { AllHaveOutcomes → AllRunsHaveOutcomes → (options : ToolOptions) (kept : Option (List ℕ)) (cache : Entries) (greeting : List ℕ) → Opens kept cache greeting → HasText cache → HasDue options kept script.now }
+    ensures { AllHaveOutcomes → AllRunsHaveOutcomes → (options : ToolOptions) (kept : Option (List ℕ)) (cache : Entries) (greeting : List ℕ) → Opens kept cache greeting → HasText cache → (MeetsCircle options cache kept script.now → ⊥) → HasDue options kept script.now }
 {
     each_script_is_read_to_its_end(script);
     each_tree_has_a_report();

@@ -33,7 +33,7 @@ pub fn each_mark_has_its_text()
     ensures limit { (limit : Limit) → mark_text true (limit_number limit) ≡ limit_text limit }
 {}
 
-/// Where no lawful load and no lawful run of an analyzer is without an outcome, no tree that can be read is without a reply, over any cache.
+/// Where no lawful load but a stuck one and no lawful run of an analyzer is without an outcome, no tree that can be read and in which no package is stuck is without a reply, over any cache.
 pub fn a_tree_that_is_read_has_a_report()
     ensures { AllHaveOutcomes → AllRunsHaveOutcomes → (asked : Command) (only : ℕ) (tree : List Entry) → AreInOrder tree → (before : List Kept) → HasReport asked only tree before }
 {

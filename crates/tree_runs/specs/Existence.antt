@@ -1,4 +1,4 @@
--- That each tree can be read and has a report: a statement of existence is the denial that there is none.
+-- That each tree can be read, and where no package is stuck has a report: a statement of existence is the denial that there is none.
 use Rattle.std.specs.Prelude.{List}
 use Rattle.gv_base.specs.Files.{AreInOrder, Entry}
 use Rattle.tree_report.specs.Form.{HasReading}

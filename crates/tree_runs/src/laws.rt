@@ -3,7 +3,7 @@ ghost use Rattle.std.specs.Prelude.{◌≡◌, ◌<◌, ◌^◌, ◌↔◌, List
 ghost use Rattle.gv_base.specs.Files.{AreInOrder};
 ghost use Rattle.tree_runs.specs.Cutting.{CutsNothingSeen, read_cut, read_whole};
 ghost use Rattle.tree_runs.specs.Existence.{AllCanBeRead, AllHaveOutcomes, AllRunsHaveOutcomes, HasRun};
-ghost use Rattle.tree_runs.specs.Reports.{Tree, Entries, HasText, IsHonest, Reports, CacheSpelled};
+ghost use Rattle.tree_runs.specs.Reports.{Tree, Entries, HasCircle, HasText, IsHonest, Reports, CacheSpelled};
 ghost use Rattle.tree_runs.specs.declared.report.Task.{Task};
 ghost use Rattle.tree_runs.specs.declared.report.TreeReport.{TreeReport};
 
@@ -42,9 +42,10 @@ pub fn a_cut_is_not_seen()
     ensures report { (files : Tree) (task : Task) (before after : Entries) (report : TreeReport) → Reports (read_cut files) task before after report ↔ Reports (read_whole files) task before after report }
 {}
 
-/// Where no lawful load and no lawful run of an analyzer is without an outcome, no tree is without a report over a cache that has a text, in whatever form it is asked for; it leaves one that has a text.
+/// Where no lawful load but a stuck one and no lawful run of an analyzer is without an outcome, no tree in which no package is stuck is without a report over a cache that has a text, in whatever form
+/// it is asked for; it leaves one that has a text.
 pub fn each_tree_has_a_report()
-    ensures { AllHaveOutcomes → AllRunsHaveOutcomes → (tree : Tree) (task : Task) (before : Entries) → AreInOrder tree → HasText before → HasRun tree task before }
+    ensures { AllHaveOutcomes → AllRunsHaveOutcomes → (tree : Tree) (task : Task) (before : Entries) → AreInOrder tree → HasText before → (HasCircle tree → ⊥) → HasRun tree task before }
 {
     a_tree_that_is_read_has_a_report();
     each_tree_can_be_read();
