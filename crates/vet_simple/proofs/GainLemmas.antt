@@ -1,5 +1,5 @@
--- What is gained where two things hold at once, and where one of two does.
-use Rattle.std.proofs.Common.{◌≡◌, ◌↔◌, ◌⊎◌, inl, inr, Bool, true, false, List, [], ◌∷◌, ◌++◌, refl, sym, ap, ◌∙◌, subst}
+-- What is gained where two things hold at once.
+use Rattle.std.proofs.Common.{◌≡◌, ◌↔◌, Bool, true, false, List, [], ◌∷◌, ◌++◌, refl, sym, ap, ◌∙◌, subst}
 use Rattle.findings.specs.Gains.{Gains}
 use Rattle.findings.proofs.GainLemmas.{gains_none, gains_push}
 
@@ -9,15 +9,6 @@ gains_held {A} P b r old new tells held is = gains_push (λ (d : A). P × (d ≡
 
 pub gains_unheld : {A : Type 0} (P : Type 0) (b : Bool) (r : A) (list : List A) → (b ≡ true) ↔ P → b ≡ false → Gains (λ (d : A). P × (d ≡ r)) list list
 gains_unheld {A} P b r list tells failed = gains_none (λ (d : A). P × (d ≡ r)) list list refl (λ x (p, e). differ b failed (tells.1 p)) where
-  differ : (b : Bool) → b ≡ false → b ≡ true → ⊥
-  differ b p q = cc
-
--- one of two tests
-pub either_first : (P : Type 0) (a : Bool) → a ≡ true → (true ≡ true) ↔ ((a ≡ true) ⊎ P)
-either_first P a held = (λ e. inl held, λ h. refl)
-
-pub either_second : (P : Type 0) (a b : Bool) → a ≡ false → (b ≡ true) ↔ P → (b ≡ true) ↔ ((a ≡ true) ⊎ P)
-either_second P a b failed tells = (λ e. inr (tells.0 e), λ h. elim h [ inl first ↦ absurd (differ a failed first) | inr second ↦ tells.1 second ]) where
   differ : (b : Bool) → b ≡ false → b ≡ true → ⊥
   differ b p q = cc
 

@@ -1,5 +1,5 @@
--- Which selections are of methods.
-use Rattle.std.proofs.Common.{◌≡◌, ◌↔◌, Bool, true, false, ℕ, List, [], Option, Some, None, refl, sym, ap, ◌∙◌, subst}
+-- Which selections are of methods, and which nodes name a function.
+use Rattle.std.proofs.Common.{◌≡◌, ◌↔◌, ◌⊎◌, inl, inr, Bool, true, false, ℕ, List, [], Option, Some, None, refl, sym, ap, ◌∙◌, subst}
 use Rattle.type_model.specs.declared.table.TypeTable.{TypeTable}
 use Rattle.type_model.specs.GoTypes.{GoType, signature_of}
 use Rattle.type_model.specs.Declarations.{Declarations}
@@ -52,3 +52,9 @@ module _ (u : Unit) (marks : Item → Meaning) (f : ℕ) (node : Node) where
   selects_other failed = (λ e. absurd cc, λ s. absurd (differ (is_selector node.kind) failed s.selects)) where
     differ : (b : Bool) → b ≡ false → b ≡ true → ⊥
     differ b p q = cc
+
+-- of two ways the first is out
+pub second_way : (P : Type 0) (a b : Bool) → a ≡ false → (b ≡ true) ↔ P → (b ≡ true) ↔ ((a ≡ true) ⊎ P)
+second_way P a b failed tells = (λ e. inr (tells.0 e), λ h. elim h [ inl first ↦ absurd (differ a failed first) | inr second ↦ tells.1 second ]) where
+  differ : (b : Bool) → b ≡ false → b ≡ true → ⊥
+  differ b p q = cc
