@@ -1,13 +1,15 @@
 -- What is around each node, filled from the last node to the first.
-use Rattle.std.proofs.Common.{◌≡◌, ◌⊎◌, inl, inr, ◌<◌, ◌+◌, ℕ, zero, suc, List, length, get_or, set, replicate, Some, refl, sym, ap, ◌∙◌, subst, arith}
-use Rattle.std.specs.Prelude.{slice_get}
+use Rattle.std.proofs.Common.{◌≡◌, ◌⊎◌, inl, inr, ◌<◌, ◌+◌, ◌↔◌, ℕ, zero, suc, Bool, true, false, not, cond, List, [], ◌∷◌, length, get_or, set, replicate, Option, Some, None, refl, sym, ap, ◌∙◌, subst, arith}
+use Rattle.std.specs.Prelude.{slice_get, is_some}
 use Rattle.std.proofs.lemmas.List.{get_or-set_other, get_or-set_same, length-replicate, length-set}
 use Rattle.std.proofs.lemmas.Option.{slice_get-get_or, slice_get_within}
 use Rattle.std.proofs.lemmas.Bool.{cases_eq}
 use Rattle.go_tree.specs.declared.tree.FileTree.{FileTree}
 use Rattle.go_tree.specs.declared.tree.Node.{Node}
 use Rattle.flow.specs.declared.point.Around.{Around}
-use Rattle.flow.specs.Around.{nowhere, inside, around_at, IsTree, IsAround, AreAround, AreGiven, AreFilled}
+use Rattle.flow.specs.Kinds.{is_function, is_loop, is_left, is_switch}
+use Rattle.flow.specs.Edges.{after, turn_point}
+use Rattle.flow.specs.Around.{nowhere, looped, chosen, next_part, inside, around_at, IsTree, IsAround, AreAround, AreGiven, AreFilled}
 use Rattle.flow.specs.Around.IsAround.{top, part}
 
 pub either : {A B C : Type 0} → A ⊎ B → (A → C) → (B → C) → C
@@ -69,6 +71,71 @@ filled_more tree p node old new is f lt at g = record {
             (λ e. let same : there.0 ≡ node = same_some (sym there.1 ∙ (ap (slice_get tree.nodes) e ∙ at)) in
             let here : slice_get node.parts i ≡ Some n = subst (λ (x : Node). slice_get x.parts i ≡ Some n) same there.2 in
             kept.1 i (slice_get_within node.parts i n here) here)
+            (λ ne. none.1 q i (omega arith) there),
+      )));
+}
+
+abbrev leading : Option ℕ → Option ℕ → Option ℕ → Around
+leading leave again fall = record { leave = leave; again = again; fall = fall }
+
+nowhere_all : (a : Around) → a.leave ≡ None → a.again ≡ None → a.fall ≡ None → a ≡ nowhere
+nowhere_all a e f g = ap (λ x. leading x a.again a.fall) e ∙ (ap (λ x. leading None x a.fall) f ∙ ap (λ x. leading None None x) g)
+
+no_some : (o : Option ℕ) → is_some o ≡ false → o ≡ None
+no_some None e = refl
+no_some (Some x) e = absurd cc
+
+not_some : (o : Option ℕ) → not (is_some o) ≡ true → o ≡ None
+not_some None e = refl
+not_some (Some x) e = absurd cc
+
+-- jumps lead nowhere where neither the first two do nor the last
+pub nowhere_by : (a : Around) → is_some a.leave ≡ false → is_some a.again ≡ false → (not (is_some a.fall) ≡ true) ↔ (a ≡ nowhere)
+nowhere_by a leave again = (
+  λ e. nowhere_all a (no_some a.leave leave) (no_some a.again again) (not_some a.fall e),
+  λ e. ap (λ (x : Around). not (is_some x.fall)) e,
+)
+
+-- a part of a node is one of these, or none of them is it
+sought : (parts : List ℕ) (n : ℕ) → ((i : ℕ) × (slice_get parts i ≡ Some n)) ⊎ ((i : ℕ) → slice_get parts i ≡ Some n → ⊥)
+sought [] n = inr (λ i at. absurd (let low = slice_get_within [] i n at in omega (arith, low)))
+sought (x ∷ xs) n = either (cases_eq x n)
+    (λ same. inl (0, ap Some same))
+    (λ apart. either (sought xs n)
+    (λ found. inl (suc found.0, found.1))
+    (λ none. inr (elsewhere apart none)))
+  where
+    elsewhere : (x ≡ n → ⊥) → ((i : ℕ) → slice_get xs i ≡ Some n → ⊥) → (i : ℕ) → slice_get (x ∷ xs) i ≡ Some n → ⊥
+    elsewhere apart none zero at = apart (same_some at)
+    elsewhere apart none (suc i) at = none i at
+
+-- inside of what can't be left jumps lead nowhere, where they do around it
+nowhere_inside : (function loop left : Bool) (again past : Around) → loop ≡ false → left ≡ false → cond function nowhere (cond loop again (cond left past nowhere)) ≡ nowhere
+nowhere_inside true loop left again past e f = refl
+nowhere_inside false true left again past e f = absurd (cc)
+nowhere_inside false false true again past e f = absurd (cc)
+nowhere_inside false false false again past e f = refl
+
+inside_nowhere : (tree : FileTree) (p : ℕ) (node : Node) (i : ℕ) → is_loop node.kind ≡ false → is_left node.kind ≡ false → inside tree p node i nowhere ≡ nowhere
+inside_nowhere tree p node i loop left =
+    nowhere_inside (is_function node.kind) (is_loop node.kind) (is_left node.kind) (looped (after p) (turn_point tree p node.parts))
+    (chosen (after p) nowhere (cond (is_switch node.kind) (next_part node.parts i) None)) loop left
+
+-- the parts of a node inside of which jumps lead nowhere have that already
+pub filled_same : (tree : FileTree) (p : ℕ) (node : Node) (table : List Around) → IsTree tree.nodes → AreFilled tree (suc p) table → p < length tree.nodes
+    → slice_get tree.nodes p ≡ Some node → is_loop node.kind ≡ false → is_left node.kind ≡ false → around_at table p ≡ nowhere → AreFilled tree p table
+filled_same tree p node table is f lt at loop left none_around = record {
+  size = f.size;
+  each = λ n low. either (f.each n low)
+      (λ known. inl known)
+      (λ none. either (sought node.parts n)
+      (λ found. inl (subst (λ a. IsAround tree n a) (sym none.0)
+      (part p found.0 node nowhere at found.1 (sym (inside_nowhere tree p node found.0 loop left)) (subst (λ a. IsAround tree p a) none_around (settled tree p table is f lt)))))
+      (λ other. inr (
+        none.0,
+        λ q i le there. either (cases_eq q p)
+            (λ e. let same : there.0 ≡ node = same_some (sym there.1 ∙ (ap (slice_get tree.nodes) e ∙ at)) in
+            other i (subst (λ (x : Node). slice_get x.parts i ≡ Some n) same there.2))
             (λ ne. none.1 q i (omega arith) there),
       )));
 }

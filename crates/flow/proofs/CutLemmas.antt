@@ -1,6 +1,6 @@
 -- Statements that are cut off, and the numbers of flags.
 use Rattle.std.proofs.Common.{◌≡◌, ◌⊎◌, inl, inr, ◌<◌, ◌≤◌, ◌+◌, ◌*◌, ◌↔◌, ℕ, zero, suc, Bool, true, false, cond, List, [], ◌∷◌, ◌++◌, length, Option, Some, None, refl, sym, ap, ◌∙◌, subst, arith, if◌then◌else◌}
-use Rattle.std.specs.Prelude.{slice_get}
+use Rattle.std.specs.Prelude.{slice_get, is_some}
 use Rattle.std.specs.List.{Contains}
 use Rattle.std.proofs.lemmas.Option.{slice_get_within}
 use Rattle.std.proofs.lemmas.Bool.{cases_eq}
@@ -9,7 +9,7 @@ use Rattle.go_tree.specs.declared.tree.FileTree.{FileTree}
 use Rattle.go_tree.specs.declared.tree.Node.{Node}
 use Rattle.flow.specs.Around.{IsTree}
 use Rattle.flow.specs.Edges.{before}
-use Rattle.flow.specs.Passing.{is_statements, Names, IsNamed, Passes, IsUnreached, AreUnreached, flag_of, AreMarked, IsMarkedToo, ArePassing, cut_part, cut_at, IsCutOff, AreMarkedBehind, statements_of, IsCutOffIn, AreFlagged}
+use Rattle.flow.specs.Passing.{is_statements, Names, IsNamed, Passes, IsUnreached, AreUnreached, flag_of, AreMarked, IsMarkedToo, ArePassing, AreSurelyPassing, cut_part, cut_at, nowhere_named, IsCutOff, AreMarkedBehind, statements_of, IsCutOffIn, AreFlagged}
 use Rattle.flow.proofs.AroundLemmas.{either, same_some}
 use Rattle.flow.proofs.SearchLemmas.{no_truth, by_bool}
 use Rattle.flow.proofs.PassingLemmas.{there_in}
@@ -141,6 +141,71 @@ unreached_by tree labels stops passing named flags found is p m cut f = record {
         })),
   );
 }
+
+-- Where nothing is cut off.
+
+pub none_cut : (passing named : ℕ → Bool) (parts : List ℕ) (n : ℕ) → IsCutOff passing named parts 0 n → ⊥
+none_cut passing named parts n c = absurd (let low = c.1 in omega (arith, low))
+
+unsome : (o : Option ℕ) (n : ℕ) → is_some o ≡ false → o ≡ Some n → ⊥
+unsome None n e f = cc
+unsome (Some x) n e f = cc
+
+some_of : (o : Option ℕ) → is_some o ≡ true → (n : ℕ) × (o ≡ Some n)
+some_of None e = no_truth e
+some_of (Some x) e = (x, refl)
+
+-- the part at a place cuts off the one behind it
+pub cut_here : (passing named : ℕ → Bool) (parts : List ℕ) (i few : ℕ) → i < few → is_some (cut_at passing named parts i) ≡ true → (n : ℕ) × IsCutOff passing named parts few n
+cut_here passing named parts i few low some = let w = some_of (cut_at passing named parts i) some in (w.0, (i, low, w.1))
+
+pub uncut_more : (passing named : ℕ → Bool) (parts : List ℕ) (i : ℕ) → is_some (cut_at passing named parts i) ≡ false → ((n : ℕ) → IsCutOff passing named parts i n → ⊥) → (n : ℕ) → IsCutOff passing named parts (i + 1) n → ⊥
+uncut_more passing named parts i none before n c = either (cases_eq c.0 i)
+    (λ e. unsome (cut_at passing named parts i) n none (ap (cut_at passing named parts) (sym e) ∙ c.2))
+    (λ ne. before n (c.0, (let low = c.1 in omega arith), c.2))
+
+pub uncut_all : (passing named : ℕ → Bool) (parts : List ℕ) (i : ℕ) → i ≡ length parts → ((n : ℕ) → IsCutOff passing named parts i n → ⊥) → (n : ℕ) → IsCutOff passing named parts (length parts) n → ⊥
+uncut_all passing named parts i same none = subst (λ k. (n : ℕ) → IsCutOff passing named parts k n → ⊥) same none
+
+pub uncut_node : (passing named : ℕ → Bool) (nodes : List Node) (p : ℕ) (node : Node) (parts : List ℕ) → slice_get nodes p ≡ Some node → parts ≡ statements_of node
+    → ((n q : ℕ) → q < p → IsCutOffIn passing named nodes n q → ⊥) → ((n : ℕ) → IsCutOff passing named parts (length parts) n → ⊥) → (n q : ℕ) → q < p + 1 → IsCutOffIn passing named nodes n q → ⊥
+uncut_node passing named nodes p node parts at is before here n q low c = either (cases_eq q p)
+    (λ e.
+    let same : c.node ≡ node = same_some (sym c.there ∙ (ap (slice_get nodes) e ∙ at)) in
+    here n (subst (λ l. IsCutOff passing named l (length l) n) (ap statements_of same ∙ sym is) c.cut))
+    (λ ne. before n q (omega arith) c)
+
+-- a node cuts off one of its parts
+pub cut_in : (passing named : ℕ → Bool) (nodes : List Node) (p : ℕ) (node : Node) (parts : List ℕ) → slice_get nodes p ≡ Some node → parts ≡ statements_of node
+    → ((n : ℕ) × IsCutOff passing named parts (length parts) n) → (n : ℕ) × (q : ℕ) × IsCutOffIn passing named nodes n q
+cut_in passing named nodes p node parts at is w = (w.0, p, record { node = node; there = at; cut = subst (λ l. IsCutOff passing named l (length l) w.0) is w.1 })
+
+pub uncut_nodes : (passing named : ℕ → Bool) (nodes : List Node) (k : ℕ) → k ≡ length nodes → ((n q : ℕ) → q < k → IsCutOffIn passing named nodes n q → ⊥) → (n p : ℕ) → IsCutOffIn passing named nodes n p → ⊥
+uncut_nodes passing named nodes k same none n p c = none n p (let low = slice_get_within nodes p c.node c.there in omega arith) c
+
+-- where each statement before another passes
+pub none_unreached : (tree : FileTree) (labels : List (Option ℕ)) (stops : ℕ → Bool) (sure : List Bool) (found : List ℕ) → IsTree tree.nodes → AreSurelyPassing tree labels stops (length tree.nodes) sure → found ≡ []
+    → ((n p : ℕ) → IsCutOffIn (flag_of sure) nowhere_named tree.nodes n p → ⊥) → AreUnreached tree labels stops found
+none_unreached tree labels stops sure found is p bare none = subst (λ l. AreUnreached tree labels stops l) (sym bare) (record {
+  rises = λ j k a b lt at bt. absurd (let low = slice_get_within [] j a at in omega (arith, low));
+  each = λ n. (
+    λ c. absurd (let low = c.1 in omega (arith, low)),
+    λ u.
+        let list_low = slice_get_within tree.nodes u.list u.node u.there in
+        let first_low = is.after u.list u.place u.before (u.node, u.there, u.first) in
+        let stays : flag_of sure u.before ≡ false = by_bool (flag_of sure u.before) (λ e. absurd (u.stays (p.each u.before (omega arith) e))) (λ e. e) in
+        let here : cut_at (flag_of sure) nowhere_named u.node.parts u.place ≡ Some n =
+        ap (λ x. cut_part (flag_of sure) nowhere_named x (slice_get u.node.parts (suc u.place))) u.first
+        ∙ (ap (cut_part (flag_of sure) nowhere_named (Some u.before)) u.next ∙ so_cut (flag_of sure) nowhere_named u.before n stays refl) in
+        absurd (none n u.list
+        (record {
+          node = u.node;
+          there = u.there;
+          cut = subst (λ l. IsCutOff (flag_of sure) nowhere_named l (length l) n) (sym (list_of u.node u.statements))
+              (u.place, slice_get_within u.node.parts u.place u.before u.first, here);
+        })),
+  );
+})
 
 -- Numbers of flags.
 

@@ -1,6 +1,7 @@
 mod AroundLemmas
 mod RowLemmas
 mod SearchLemmas
+mod SeenLemmas
 mod GraphLemmas
 pub mod LawLemmas
 mod MarkLemmas

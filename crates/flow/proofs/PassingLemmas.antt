@@ -13,7 +13,7 @@ use Rattle.flow.specs.declared.point.Role.TheVariants as r
 use Rattle.flow.specs.Around.{IsTree}
 use Rattle.flow.specs.Edges.{after, has_role, may_pass, may_end}
 use Rattle.flow.specs.Kinds.{is_sequence, is_branching, is_loop, is_left, is_ending, step_role, steps_of}
-use Rattle.flow.specs.Passing.{is_leavable, Leaves, IsLeft, last_of, last_step, Passes, flag_of, some_passes, passes_if, is_left_at, passes_by, AreMarked, ArePassing}
+use Rattle.flow.specs.Passing.{is_leavable, Leaves, IsLeft, last_of, last_step, Passes, flag_of, some_passes, passes_if, is_left_at, passes_by, none_left, AreMarked, ArePassing, AreSurelyPassing}
 use Rattle.flow.specs.Passing.Passes.{simple, empty, last, beside, arm, ends, left}
 use Rattle.flow.proofs.AroundLemmas.{either, same_some}
 use Rattle.flow.proofs.SearchLemmas.{no_truth}
@@ -170,7 +170,12 @@ record Known (tree : FileTree) (labels : List (Option ℕ)) (stops left_points M
   sound : (m : ℕ) → m < n → M m ≡ true → Passes tree labels stops m
   every : (m : ℕ) → m < n → Passes tree labels stops m → M m ≡ true
 
-left_case : (tree : FileTree) (labels : List (Option ℕ)) (stops left_points M : ℕ → Bool) (n : ℕ) (node : Node) → Known tree labels stops left_points M n → slice_get tree.nodes n ≡ Some node
+-- the half of it that says what passes
+record Sound (tree : FileTree) (labels : List (Option ℕ)) (stops left_points M : ℕ → Bool) (n : ℕ) : Type 0 where
+  left_sound : left_points (after n) ≡ true → IsLeft tree labels n
+  sound : (m : ℕ) → m < n → M m ≡ true → Passes tree labels stops m
+
+left_case : (tree : FileTree) (labels : List (Option ℕ)) (stops left_points M : ℕ → Bool) (n : ℕ) (node : Node) → Sound tree labels stops left_points M n → slice_get tree.nodes n ≡ Some node
     → is_left_at left_points n node.kind ≡ true → Passes tree labels stops n
 left_case tree labels stops left_points M n node known at e = either (cond_true (is_leavable node.kind) (left_points (after n)) false e)
     (λ both. left node at both.0 (known.left_sound both.1))
@@ -191,7 +196,7 @@ branch tree marks M n node = is_left_at marks n node.kind || (may_pass tree node
 abbrev not_sequence : FileTree → (ℕ → Bool) → (ℕ → Bool) → (ℕ → Bool) → ℕ → Node → Bool
 not_sequence tree stops marks M n node = cond (is_branching node.kind) (branch tree marks M n node) (not_branch tree stops marks n node)
 
-passes_then : (tree : FileTree) (labels : List (Option ℕ)) (stops left_points M : ℕ → Bool) (n : ℕ) (node : Node) → IsTree tree.nodes → Known tree labels stops left_points M n
+passes_then : (tree : FileTree) (labels : List (Option ℕ)) (stops left_points M : ℕ → Bool) (n : ℕ) (node : Node) → IsTree tree.nodes → Sound tree labels stops left_points M n
     → slice_get tree.nodes n ≡ Some node → passes_by tree stops left_points M n node ≡ true → Passes tree labels stops n
 passes_then tree labels stops left_points M n node is known at e =
     either (cond_true (is_sequence node.kind) (passes_if M (last_step tree node)) (not_sequence tree stops left_points M n node) e)
@@ -312,7 +317,7 @@ passing_more tree labels stops marks flags new n b node is marked at told pushed
           let same : flag_of new m ≡ flag_of flags m = ap (λ l. flag_of l m) pushed ∙ flag_kept flags b m (omega arith) in
           (λ e. (a.each m under).0 (sym same ∙ e), λ p. same ∙ (a.each m under).1 p))
           (let here : flag_of new n ≡ b = ap (λ l. flag_of l n) pushed ∙ (ap (flag_of (flags ++ b ∷ [])) (sym s) ∙ flag_new flags b) in (
-            λ e. passes_then tree labels stops (flag_of marks) (flag_of flags) n node is known at (sym told ∙ (sym here ∙ e)),
+            λ e. passes_then tree labels stops (flag_of marks) (flag_of flags) n node is (record { left_sound = known.left_sound; sound = known.sound }) at (sym told ∙ (sym here ∙ e)),
             λ p. let w = then_passes tree labels stops (flag_of marks) (flag_of flags) n is known p in
                 let same : w.0 ≡ node = same_some (sym w.1 ∙ at) in
                 here ∙ (told ∙ (ap (passes_by tree stops (flag_of marks) (flag_of flags) n) (sym same) ∙ w.2)),
@@ -322,3 +327,55 @@ passing_more tree labels stops marks flags new n b node is marked at told pushed
 pub all_passing : (tree : FileTree) (labels : List (Option ℕ)) (stops : ℕ → Bool) (n few : ℕ) (flags : List Bool) → n ≡ few → ArePassing tree labels stops n flags
     → ArePassing tree labels stops few flags
 all_passing tree labels stops n few flags same a = subst (λ i. ArePassing tree labels stops i flags) same a
+
+-- The same of what surely passes. Only the flags of its parts count for a node.
+
+some_same : (tree : FileTree) (role : Role) (M N : ℕ → Bool) (xs : List ℕ) → ((m : ℕ) → Contains xs m → M m ≡ N m) → some_passes tree role M xs ≡ some_passes tree role N xs
+some_same tree role M N [] same = refl
+some_same tree role M N (x ∷ xs) same =
+    ap (λ b. cond (has_role tree role x) b false || some_passes tree role M xs) (same x (at_head x xs x refl))
+    ∙ ap (λ b. cond (has_role tree role x) (N x) false || b) (some_same tree role M N xs (λ m c. same m (in_tail x xs m c)))
+
+passes_same : (tree : FileTree) (stops marks M N : ℕ → Bool) (n : ℕ) (node : Node) → IsTree tree.nodes → slice_get tree.nodes n ≡ Some node → ((m : ℕ) → m < n → M m ≡ N m)
+    → passes_by tree stops marks M n node ≡ passes_by tree stops marks N n node
+passes_same tree stops marks M N n node is at same =
+    ap (λ b. cond (is_sequence node.kind) b (not_sequence tree stops marks M n node)) (step_same (last_step tree node) refl)
+    ∙ ap (λ b. cond (is_sequence node.kind) (passes_if N (last_step tree node))
+    (cond (is_branching node.kind) (is_left_at marks n node.kind || (may_pass tree node.kind node.parts || b)) (not_branch tree stops marks n node)))
+    (some_same tree r.Arm M N node.parts (λ m c. same m (part_before tree is n node at m c)))
+  where
+    step_same : (step : Option ℕ) → last_step tree node ≡ step → passes_if M step ≡ passes_if N step
+    step_same None told = refl
+    step_same (Some m) told = same m (part_before tree is n node at m (step_in tree node m told))
+
+pub none_sure : (tree : FileTree) (labels : List (Option ℕ)) (stops : ℕ → Bool) (flags : List Bool) → flags ≡ [] → AreSurelyPassing tree labels stops 0 flags
+none_sure tree labels stops flags is = record {
+  size = ap length is;
+  told = λ n low. absurd (omega (arith, low));
+  each = λ n low. absurd (omega (arith, low));
+}
+
+pub sure_more : (tree : FileTree) (labels : List (Option ℕ)) (stops : ℕ → Bool) (flags new : List Bool) (n : ℕ) (b : Bool) (node : Node) → IsTree tree.nodes → slice_get tree.nodes n ≡ Some node
+    → b ≡ passes_by tree stops none_left (flag_of flags) n node → new ≡ flags ++ b ∷ [] → AreSurelyPassing tree labels stops n flags → AreSurelyPassing tree labels stops (n + 1) new
+sure_more tree labels stops flags new n b node is at told pushed a =
+    let s = a.size in
+    let known : Sound tree labels stops none_left (flag_of flags) n = record {
+      left_sound = λ e. no_truth e;
+      sound = a.each;
+    } in
+    let kept : (m : ℕ) → m < n → flag_of flags m ≡ flag_of new m = λ m under. sym (ap (λ l. flag_of l m) pushed ∙ flag_kept flags b m (omega arith)) in
+    let here : flag_of new n ≡ b = ap (λ l. flag_of l n) pushed ∙ (ap (flag_of (flags ++ b ∷ [])) (sym s) ∙ flag_new flags b) in
+    record {
+      size = ap length pushed ∙ (length-append flags (b ∷ []) ∙ omega arith);
+      told = below_more (λ m. (other : Node) → slice_get tree.nodes m ≡ Some other → flag_of new m ≡ passes_by tree stops none_left (flag_of new) m other) n
+          (λ m under other there. sym (kept m under)
+          ∙ (a.told m under other there ∙ passes_same tree stops none_left (flag_of flags) (flag_of new) m other is there (λ k low. kept k (omega arith))))
+          (λ other there. here ∙ (told
+          ∙ (passes_same tree stops none_left (flag_of flags) (flag_of new) n node is at kept ∙ ap (passes_by tree stops none_left (flag_of new) n) (same_some (sym at ∙ there)))));
+      each = below_more (λ m. flag_of new m ≡ true → Passes tree labels stops m) n
+          (λ m under e. a.each m under (kept m under ∙ e))
+          (λ e. passes_then tree labels stops none_left (flag_of flags) n node is known at (sym told ∙ (sym here ∙ e)));
+    }
+
+pub all_sure : (tree : FileTree) (labels : List (Option ℕ)) (stops : ℕ → Bool) (n few : ℕ) (flags : List Bool) → n ≡ few → AreSurelyPassing tree labels stops n flags → AreSurelyPassing tree labels stops few flags
+all_sure tree labels stops n few flags same a = subst (λ i. AreSurelyPassing tree labels stops i flags) same a

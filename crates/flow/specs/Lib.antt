@@ -4,3 +4,4 @@ pub mod Around
 pub mod Flow
 pub mod Search
 pub mod Passing
+pub mod Seen

@@ -176,6 +176,16 @@ pub record ArePassing (tree : FileTree) (labels : List (Option ℕ)) (stops : �
   pub size : length flags ≡ few
   pub each : (n : ℕ) → n < few → (flag_of flags n ≡ true) ↔ Passes tree labels stops n
 
+-- no node is left by a `break`
+abbrev pub none_left : ℕ → Bool
+none_left q = false
+
+-- Of the first few nodes those are flagged that pass by the flags of their parts where no node is left. They pass; others may too.
+pub record AreSurelyPassing (tree : FileTree) (labels : List (Option ℕ)) (stops : ℕ → Bool) (few : ℕ) (flags : List Bool) : Type 0 where
+  pub size : length flags ≡ few
+  pub told : (n : ℕ) → n < few → (node : Node) → slice_get tree.nodes n ≡ Some node → flag_of flags n ≡ passes_by tree stops none_left (flag_of flags) n node
+  pub each : (n : ℕ) → n < few → flag_of flags n ≡ true → Passes tree labels stops n
+
 -- the second of two parts, where the first doesn't pass and the second isn't named
 abbrev pub cut_part : (ℕ → Bool) → (ℕ → Bool) → Option ℕ → Option ℕ → Option ℕ
 cut_part passing named None next = None
@@ -185,6 +195,10 @@ cut_part passing named (Some first) (Some next) = cond (passing first) None (con
 -- what is cut off by the part at a place, if that is the one behind it
 abbrev pub cut_at : (ℕ → Bool) → (ℕ → Bool) → List ℕ → ℕ → Option ℕ
 cut_at passing named parts i = cut_part passing named (slice_get parts i) (slice_get parts (suc i))
+
+-- where no statement is named by a `goto`
+abbrev pub nowhere_named : ℕ → Bool
+nowhere_named n = flag_of [] (before n)
 
 -- n is cut off by one of the first few parts
 abbrev pub IsCutOff : (ℕ → Bool) → (ℕ → Bool) → List ℕ → ℕ → ℕ → Type 0

@@ -1,7 +1,6 @@
 -- How far a search has come.
 use Rattle.std.specs.Prelude.{ℕ, suc, ◌≡◌, ◌⊎◌, ◌<◌, ◌≤◌, ◌+◌, ◌/◌, ◌%◌, ◌==◌, ◌↔◌, Bool, true, false, List, [], ◌∷◌, ◌++◌, length, get_or, slice_index_or, cond, nat_eq, Option, Some, None}
 use Rattle.std.specs.List.{Contains}
-use Rattle.std.specs.HashSet.{HashSet, contains_by}
 use Rattle.go_tree.specs.declared.tree.FileTree.{FileTree}
 use Rattle.flow.specs.declared.point.Call.{Call}
 use Rattle.flow.specs.declared.point.Call.TheVariants as c
@@ -22,9 +21,6 @@ IsGraph tree labels rows = (p q : ℕ) → StepsBy rows p q ↔ Leads tree label
 -- the targets of a point from which control goes on
 abbrev pub targets_from : List (List ℕ) → (ℕ → Bool) → ℕ → List ℕ
 targets_from rows stops p = cond (is_stopped stops p) [] (row_at rows p)
-
-abbrev pub has : {S : Type 0} → HashSet ℕ S → ℕ → Bool
-has seen q = contains_by (λ key. nat_eq q key) seen
 
 -- a point is marked and listed, where it wasn't yet
 pub record IsVisited (at : ℕ) (seen : ℕ → Bool) (found : List ℕ) (new_seen : ℕ → Bool) (new_found : List ℕ) : Type 0 where

@@ -1,7 +1,7 @@
 //! Where jumps without a label lead, for each node.
-ghost use Rattle.std.specs.Prelude.{◌≡◌, ◌<◌, ◌≤◌, ◌^◌, IfOk, length, replicate, slice_set, slice_get, Some, None, cond};
-ghost use Rattle.flow.specs.Kinds.{is_switch};
-ghost use Rattle.flow.specs.Around.{nowhere, looped, chosen, next_part, inside, around_at, IsTree, AreAround, AreGiven};
+ghost use Rattle.std.specs.Prelude.{◌≡◌, ◌<◌, ◌≤◌, ◌^◌, ◌↔◌, IfOk, true, false, suc, length, replicate, slice_set, slice_get, Some, None, cond};
+ghost use Rattle.flow.specs.Kinds.{is_switch, is_loop, is_left};
+ghost use Rattle.flow.specs.Around.{nowhere, looped, chosen, next_part, inside, around_at, IsTree, AreAround, AreGiven, AreFilled};
 
 use crate::edges::{after, before, turn_point};
 use crate::kinds::{is_function, is_left, is_loop, is_switch};
@@ -107,6 +107,47 @@ fn give(table: &mut Vec<Around>, tree: &FileTree, p: u32, node: &Node, around: A
     }
 }
 
+/// Whether jumps lead nowhere.
+fn is_nowhere(around: Around) -> bool
+    ensures { (result ≡ true) ↔ (around ≡ nowhere) }
+{
+    if around.leave.is_some() {
+        return false;
+    }
+    if around.again.is_some() {
+        return false;
+    }
+    !around.fall.is_some()
+}
+
+/// Whether jumps lead nowhere inside a node, since it can't be left and they lead nowhere around it.
+fn gives_nothing(kind: NodeKind, around: Around) -> bool
+    ensures { (result ≡ true) ↔ (is_loop kind ≡ false) × (is_left kind ≡ false) × (around ≡ nowhere) }
+{
+    if is_loop(kind) {
+        return false;
+    }
+    if is_left(kind) {
+        return false;
+    }
+    is_nowhere(around)
+}
+
+/// Gives the parts of a node what is inside of it. Mostly that is nothing, and they have it already.
+fn give_some(table: &mut Vec<Around>, tree: &FileTree, p: u32, node: &Node, around: Around)
+    requires tree { IsTree tree.now.nodes }
+    requires p { p < length tree.now.nodes }
+    requires node { slice_get tree.now.nodes p ≡ Some node.now }
+    requires filled { AreFilled tree.now (suc p) table.old.items }
+    requires around { around ≡ around_at table.old.items p }
+    ensures { AreFilled tree.now p table.new.items }
+{
+    if gives_nothing(node.kind, around) {
+        return;
+    }
+    give(table, tree, p, node, around);
+}
+
 fn all_nowhere(alloc: Global, count: usize) -> Result<Vec<Around>, NoMemory>
     ensures { IfOk result (λ table. table.items ≡ replicate count nowhere) }
 {
@@ -126,7 +167,7 @@ pub(crate) fn around_of(alloc: Global, tree: &FileTree) -> Result<Vec<Around>, N
     while left > 0 {
         left -= 1;
         let around = around_at(&table, left);
-        give(&mut table, tree, left as u32, &nodes[left], around);
+        give_some(&mut table, tree, left as u32, &nodes[left], around);
     }
     Ok(table)
 }

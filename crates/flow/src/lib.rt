@@ -15,6 +15,7 @@ mod point;
 mod roles;
 mod rows;
 mod search;
+mod seen;
 mod statements;
 mod targets;
 

@@ -54,7 +54,8 @@ fn called(alloc: Global, calls: &[Call], points: &[usize]) -> Result<Vec<u32>, N
 }
 
 /// The functions that a body calls at statements to which control leads from its start where no call stops
-/// it, one for each such call. In time in step with what is reached of the body.
+/// it, one for each such call. In time in step with what is reached of the body, and a byte for each of its
+/// points.
 pub fn mentioned(
     alloc: Global,
     graph: &Graph,

@@ -52,7 +52,8 @@ fn some_exit(tree: &FileTree, body: u32, points: &[usize]) -> bool
 
 /// Whether neither a return nor the end is reached from the start of a body, the block of this number,
 /// where `calls` has for the node of an expression statement what it calls, and `members` are the
-/// functions that never return. In time in step with what is reached of the body.
+/// functions that never return. In time in step with what is reached of the body,
+/// and a byte for each of its points.
 pub fn never_returns(
     alloc: Global,
     tree: &FileTree,

@@ -1,8 +1,8 @@
 //! Whether statements pass, by their syntax.
-ghost use Rattle.std.specs.Prelude.{◌≡◌, ◌||◌, ◌≤◌, ◌^◌, ◌*◌, IfOk, length, cond, false, Option, ℕ, None};
+ghost use Rattle.std.specs.Prelude.{◌≡◌, ◌||◌, ◌≤◌, ◌^◌, ◌*◌, IfOk, length, cond, false, List, Option, ℕ, None};
 ghost use Rattle.flow.specs.Around.{IsTree};
 ghost use Rattle.flow.specs.Edges.{has_role};
-ghost use Rattle.flow.specs.Passing.{is_leavable, last_of, last_step, some_passes, passes_if, is_left_at, passes_by, flag_of, AreMarked, Leaves, ArePassing};
+ghost use Rattle.flow.specs.Passing.{is_leavable, last_of, last_step, some_passes, passes_if, is_left_at, passes_by, flag_of, AreMarked, Leaves, ArePassing, AreSurelyPassing};
 ghost use Rattle.flow.specs.declared.point.Role.TheVariants as r;
 
 use crate::edges::after;
@@ -133,6 +133,25 @@ pub(crate) fn passing(
     let mut flags = Vec::new(alloc);
     for n in 0..nodes.len() {
         let flag = passes(tree, stops, left, &flags, n as u32, &nodes[n]);
+        flags.push(flag)?;
+    }
+    Ok(flags)
+}
+
+/// Which nodes pass whatever a `break` leaves. Others may pass too: for these jumps must be asked.
+pub(crate) fn surely_passing(
+    alloc: Global,
+    tree: &FileTree,
+    stops: &[bool],
+) -> Result<Vec<bool>, NoMemory>
+    requires tree { IsTree tree.now.nodes }
+    requires few { length tree.now.nodes ≤ 2 ^ 32 }
+    ensures { IfOk result (λ flags. (labels : List (Option ℕ)) → AreSurelyPassing tree.now labels (flag_of stops.now) (length tree.now.nodes) flags.items) }
+{
+    let nodes = tree.nodes.as_slice();
+    let mut flags = Vec::new(alloc);
+    for n in 0..nodes.len() {
+        let flag = passes(tree, stops, &[], &flags, n as u32, &nodes[n]);
         flags.push(flag)?;
     }
     Ok(flags)

@@ -1,22 +1,15 @@
-//! What is reached from a point. The cost is in step with what is reached, and not with the file.
-ghost use Rattle.std.specs.Prelude.{◌≡◌, ◌++◌, ◌∷◌, [], ◌<◌, ◌↔◌, ℕ, true, not, IfOk, OnOk, length, if◌then◌else◌, ◌||◌, nat_eq, Contains, cond, slice_index_or, get_or, false};
+//! What is reached from a point. The cost is in step with what is reached, and a byte for each point up to the farthest of that; not with
+//! the file.
+ghost use Rattle.std.specs.Prelude.{◌≡◌, ◌++◌, ◌∷◌, [], ◌<◌, ◌↔◌, ℕ, IfOk, OnOk, length, if◌then◌else◌, ◌||◌, Contains, slice_index_or, get_or, false};
 ghost use Rattle.flow.specs.Flow.{Reached, stops_by, call_at, stops_of, is_stopped};
-ghost use Rattle.flow.specs.Search.{row_at, targets_from, has, IsVisited, IsFollowed};
+ghost use Rattle.flow.specs.Search.{row_at, targets_from, IsVisited, IsFollowed};
+ghost use Rattle.flow.specs.Seen.{has};
 
 use crate::point::Call;
 use crate::rows::Targets;
+use crate::seen::{Seen, mark, none_seen};
 use gv_base::NoMemory;
 use std::alloc::Global;
-use std::collections::HashSet;
-
-/// Marks a point, and says whether it wasn't yet.
-fn mark(seen: &mut HashSet<usize>, at: usize) -> Result<bool, NoMemory>
-    ensures added { IfOk result (λ added. added ≡ not (has seen.old at)) }
-    ensures marked { OnOk result ((q : ℕ) → has seen.new q ≡ cond (nat_eq at q) true (has seen.old q)) }
-{
-    let added = seen.insert(at)?;
-    Ok(added)
-}
 
 fn push(found: &mut Vec<usize>, at: usize) -> Result<(), NoMemory>
     ensures { OnOk result (found.new.items ≡ found.old.items ++ at ∷ []) }
@@ -26,7 +19,7 @@ fn push(found: &mut Vec<usize>, at: usize) -> Result<(), NoMemory>
 }
 
 /// Marks and lists a point, if it isn't yet.
-fn visit(seen: &mut HashSet<usize>, found: &mut Vec<usize>, at: usize) -> Result<(), NoMemory>
+fn visit(seen: &mut Seen, found: &mut Vec<usize>, at: usize) -> Result<(), NoMemory>
     ensures { OnOk result (IsVisited at (has seen.old) found.old.items (has seen.new) found.new.items) }
 {
     let added = mark(seen, at)?;
@@ -48,7 +41,7 @@ fn point_at(found: &Vec<usize>, at: usize) -> usize
 fn follow(
     rows: &[Targets],
     at: usize,
-    seen: &mut HashSet<usize>,
+    seen: &mut Seen,
     found: &mut Vec<usize>,
 ) -> Result<(), NoMemory>
     ensures { OnOk result (IsFollowed rows.now (row_at rows.now at) (has seen.old) found.old.items (has seen.new) found.new.items) }
@@ -104,7 +97,7 @@ fn step(
     calls: &[Call],
     members: &[bool],
     at: usize,
-    seen: &mut HashSet<usize>,
+    seen: &mut Seen,
     found: &mut Vec<usize>,
 ) -> Result<(), NoMemory>
     ensures { OnOk result (IsFollowed rows.now (targets_from rows.now (stops_of calls.now (λ f. slice_index_or members.now f false)) at) (has seen.old) found.old.items (has seen.new) found.new.items) }
@@ -126,7 +119,7 @@ pub(crate) fn reach(
 ) -> Result<Vec<usize>, NoMemory>
     ensures { IfOk result (λ found. (q : ℕ) → Contains found.items q ↔ Reached (λ p r. Contains (targets_from rows.now (stops_of calls.now (λ f. slice_index_or members.now f false)) p) r) start q) }
 {
-    let mut seen = HashSet::new(alloc);
+    let mut seen = none_seen(alloc, start);
     let mut found = Vec::new(alloc);
     visit(&mut seen, &mut found, start)?;
     let mut next = 0;

@@ -1,13 +1,13 @@
 //! Statements that can't be reached.
-ghost use Rattle.std.specs.Prelude.{◌≡◌, ◌<◌, ◌≤◌, ◌^◌, ◌*◌, ◌++◌, ◌∷◌, [], IfOk, OnOk, length, suc, Some, slice_get, cond, option_map, if◌then◌else◌};
+ghost use Rattle.std.specs.Prelude.{◌≡◌, ◌<◌, ◌≤◌, ◌^◌, ◌*◌, ◌↔◌, ◌++◌, ◌∷◌, [], ℕ, true, IfOk, OnOk, is_some, length, suc, Some, slice_get, cond, option_map, if◌then◌else◌};
 ghost use Rattle.flow.specs.Around.{IsTree};
 ghost use Rattle.flow.specs.Edges.{before};
-ghost use Rattle.flow.specs.Passing.{is_statements, flag_of, AreUnreached, cut_part, cut_at, AreMarkedBehind, statements_of, IsCutOffIn, AreMarked, AreFlagged};
+ghost use Rattle.flow.specs.Passing.{is_statements, flag_of, AreUnreached, cut_part, cut_at, AreMarkedBehind, statements_of, nowhere_named, IsCutOff, IsCutOffIn, AreMarked, AreFlagged};
 
 use crate::around::around_of;
 use crate::edges::before;
 use crate::marks::{left_points, mark, named_points, no_marks};
-use crate::passing::{flag_at, passing};
+use crate::passing::{flag_at, passing, surely_passing};
 use go_tree::{FileTree, Node, NodeKind};
 use gv_base::NoMemory;
 use std::alloc::Global;
@@ -112,10 +112,43 @@ fn flagged(alloc: Global, flags: &[bool]) -> Result<Vec<u32>, NoMemory>
     Ok(numbers)
 }
 
-/// The statements of a file that can't be reached, by the numbers of their nodes, in order. `labels` has
-/// for the name behind a jump the labeled statement that it denotes, `stops` is set for the calls that
-/// don't pass. In time and memory in step with the file.
-pub fn unreached(
+/// Whether a part cuts off the one behind it, where no statement is named.
+fn cuts(passing: &[bool], parts: &[u32], i: usize) -> bool
+    requires { i < length parts.now }
+    ensures { result ≡ is_some (cut_at (flag_of passing.now) nowhere_named parts.now i) }
+{
+    match cut_at(passing, &[], parts, i) {
+        Some(_) => true,
+        None => false,
+    }
+}
+
+/// Whether some part cuts off the one behind it.
+fn cuts_some(passing: &[bool], parts: &[u32]) -> bool
+    ensures { (result ≡ true) ↔ ((n : ℕ) × IsCutOff (flag_of passing.now) nowhere_named parts.now (length parts.now) n) }
+{
+    for i in 0..parts.len() {
+        if cuts(passing, parts, i) {
+            return true;
+        }
+    }
+    false
+}
+
+/// Whether some statement stands behind one that isn't among those that pass.
+fn may_be_cut(nodes: &[Node], passing: &[bool]) -> bool
+    ensures { (result ≡ true) ↔ ((n : ℕ) × (p : ℕ) × IsCutOffIn (flag_of passing.now) nowhere_named nodes.now n p) }
+{
+    for p in 0..nodes.len() {
+        if cuts_some(passing, statements_of(&nodes[p])) {
+            return true;
+        }
+    }
+    false
+}
+
+/// The statements that can't be reached, where jumps must be asked.
+fn all_unreached(
     alloc: Global,
     tree: &FileTree,
     labels: &[Option<u32>],
@@ -131,5 +164,27 @@ pub fn unreached(
     let passing = passing(alloc, tree, labels, stops, &left)?;
     let flags = cut_off(alloc, tree.nodes.as_slice(), &passing, &named)?;
     let found = flagged(alloc, &flags)?;
+    Ok(found)
+}
+
+/// The statements of a file that can't be reached, by the numbers of their nodes, in order. `labels` has
+/// for the name behind a jump the labeled statement that it denotes, `stops` is set for the calls that
+/// don't pass. In time and memory in step with the file. Jumps are asked only where a statement before another
+/// may not pass.
+pub fn unreached(
+    alloc: Global,
+    tree: &FileTree,
+    labels: &[Option<u32>],
+    stops: &[bool],
+) -> Result<Vec<u32>, NoMemory>
+    requires tree { IsTree tree.now.nodes }
+    requires few { length tree.now.nodes ≤ 2 ^ 32 }
+    ensures { IfOk result (λ found. AreUnreached tree.now labels.now (flag_of stops.now) found.items) }
+{
+    let sure = surely_passing(alloc, tree, stops)?;
+    if !may_be_cut(tree.nodes.as_slice(), &sure) {
+        return Ok(Vec::new(alloc));
+    }
+    let found = all_unreached(alloc, tree, labels, stops)?;
     Ok(found)
 }

@@ -1,6 +1,7 @@
 use Rattle.std.proofs.Common.{◌∙◌, subst, arith}
 use Rattle.std.proofs.lemmas.List.{take_all}
-use Rattle.flow.specs.Search.{has, IsFollowed}
+use Rattle.flow.specs.Search.{IsFollowed}
+use Rattle.flow.specs.Seen.{has}
 use Rattle.flow.proofs.SearchLemmas.{followed_more, row_read}
 use Rattle.flow.proofs.search.follow.Goals as goal
 

@@ -1,5 +1,6 @@
 use Rattle.std.proofs.Common.{take}
-use Rattle.flow.specs.Search.{has, IsFollowed}
+use Rattle.flow.specs.Search.{IsFollowed}
+use Rattle.flow.specs.Seen.{has}
 use Rattle.flow.proofs.search.follow.Given as goal
 
 abbrev pub invariant-loop-target : goal.invariant-loop-target

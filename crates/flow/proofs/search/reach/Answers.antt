@@ -1,15 +1,16 @@
-use Rattle.std.proofs.Common.{◌≡◌, ℕ, false, List, length, refl, ap, arith}
+use Rattle.std.proofs.Common.{◌≡◌, ℕ, false, List, length, ap, arith}
 use Rattle.std.specs.Prelude.{slice_index_or}
 use Rattle.flow.specs.Flow.{stops_of}
-use Rattle.flow.specs.Search.{has, targets_from}
+use Rattle.flow.specs.Search.{targets_from}
+use Rattle.flow.specs.Seen.{has}
 use Rattle.flow.proofs.SearchLemmas.{started, search_more, all_marked}
 use Rattle.flow.proofs.search.reach.Goals as goal
 
 pub loop-next-init : goal.loop-next-init
 loop-next-init c =
     started (targets_from c.args.rows.now (stops_of c.args.calls.now (λ f. slice_index_or c.args.members.now f false))) c.args.start
-    (has c.new-seen.result) c.new-found.result.items (has c.visit.new.seen) c.visit.new.found.items
-    (λ q. rw c.new-seen.ensures.empty refl) c.new-found.ensures.items c.in_ok-visit.ensures
+    (has c.none_seen-seen.result) c.new-found.result.items (has c.visit.new.seen) c.visit.new.found.items
+    c.none_seen-seen.ensures c.new-found.ensures.items c.in_ok-visit.ensures
 
 pub loop-next-preserved : goal.loop-next-preserved
 loop-next-preserved c =

@@ -1,7 +1,8 @@
 use Rattle.std.proofs.Common.{◌+◌, ◌-◌, false, length}
 use Rattle.std.specs.Prelude.{slice_index_or}
 use Rattle.flow.specs.Flow.{stops_of}
-use Rattle.flow.specs.Search.{has, targets_from, all_unseen, IsSearch}
+use Rattle.flow.specs.Search.{targets_from, all_unseen, IsSearch}
+use Rattle.flow.specs.Seen.{has}
 use Rattle.flow.proofs.search.reach.Given as goal
 
 abbrev pub invariant-loop-next : goal.invariant-loop-next

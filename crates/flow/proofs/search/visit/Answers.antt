@@ -1,4 +1,4 @@
-use Rattle.flow.specs.Search.{has}
+use Rattle.flow.specs.Seen.{has}
 use Rattle.flow.proofs.SearchLemmas.{visited_new, visited_old}
 use Rattle.flow.proofs.search.visit.Goals as goal
 
