@@ -1,15 +1,14 @@
--- The innermost function that holds each node, from what each is a part of.
-use Rattle.std.proofs.Common.{◌≡◌, ◌≢◌, ℕ, zero, suc, ◌<◌, ◌+◌, ◌≤◌, ◌⊎◌, Bool, true, false, cond, List, [], ◌∷◌, ◌++◌, length, take, replicate, set, get_or, slice_get, Some, None, refl, sym, ap, ◌∙◌, subst, inl, inr, arith, get_or-set_same, get_or-set_other}
+-- The innermost function that holds each node, given from each node to its parts.
+use Rattle.std.proofs.Common.{◌≡◌, ℕ, zero, suc, ◌<◌, ◌+◌, ◌≤◌, ◌⊎◌, Bool, true, false, cond, List, [], ◌∷◌, ◌++◌, length, take, replicate, set, get_or, slice_get, Some, refl, sym, ap, ◌∙◌, subst, inl, inr, arith, get_or-set_same, get_or-set_other}
 use Rattle.std.specs.List.{Contains}
-use Rattle.std.specs.Option.{option_map_or}
 use Rattle.std.proofs.Math.ListN.{length-set}
 use Rattle.std.proofs.lemmas.List.{take_more}
 use Rattle.std.proofs.lemmas.List.Elements.{Contains-push, Contains-push_cases, Contains-append_left}
 use Rattle.std.proofs.lemmas.Option.{slice_get_within}
 use Rattle.go_tree.specs.declared.tree.Node.{Node}
-use Rattle.label_uses.proofs.CaseLemmas.{nat_cases, before_or_at}
+use Rattle.label_uses.proofs.CaseLemmas.{nat_cases}
 use Rattle.label_uses.specs.Functions.{is_function, IsFunction, IsPart, Holds, part, deep, FunctionOf, SameFunction}
-use Rattle.label_uses.specs.Parents.{at, AreGiven, IsParent, AreParents, IsTree, within, AreFilled, AreFunctions}
+use Rattle.label_uses.specs.Parents.{at, AreGiven, IsTree, inside, Innermost, AreFilled, AreFunctions}
 use Rattle.gv_base.proofs.Lists.{same_some}
 
 none_in : (n : ℕ) → Contains [] n → ⊥
@@ -56,7 +55,7 @@ given_more parts i p a b c low x y = record {
   at_end : (z n : ℕ) → z ≡ n → Contains (take i parts ++ z ∷ []) n
   at_end z n e = subst (λ (w : ℕ). Contains (take i parts ++ z ∷ []) w) e (Contains-push (take i parts) z)
 
--- ---- parents
+-- ---- numbers of one value
 
 all_of : (count p n : ℕ) → n < count → at (replicate count p) n ≡ p
 all_of zero p n h = absurd (omega arith)
@@ -66,33 +65,6 @@ all_of (suc count) p (suc n) h = all_of count p n (omega arith)
 pub count_of : (count p : ℕ) → length (replicate count p) ≡ count
 count_of zero p = refl
 count_of (suc count) p = ap (λ n. suc n) (count_of count p)
-
-pub no_parents : (nodes : List Node) (parents : List ℕ) → parents ≡ replicate (length nodes) (length nodes) → AreParents nodes 0 parents
-no_parents nodes parents is = record {
-  size = ap length is ∙ count_of (length nodes) (length nodes);
-  each = λ n low. inr (ap (λ x. at x n) is ∙ all_of (length nodes) (length nodes) n low, λ q less. absurd (omega arith));
-}
-
-pub parents_more : (nodes : List Node) (i : ℕ) (node : Node) (a b : List ℕ) → slice_get nodes i ≡ Some node → AreParents nodes i a → AreGiven node.parts i a b → AreParents nodes (i + 1) b
-parents_more nodes i node a b there was now = record {
-  size = now.size ∙ was.size;
-  each = λ n low. elim (now.each n (let s = was.size in omega arith)) [
-    | inl this ↦ inl (subst (λ (p : ℕ). IsPart nodes p n) (sym this.0) (node, there, this.1))
-    | inr other ↦ elim (was.each n low) [
-      | inl old ↦ inl (subst (λ (p : ℕ). IsPart nodes p n) (sym other.0) old)
-      | inr none ↦ inr (
-        other.0 ∙ none.0,
-        λ q less is. elim (before_or_at q i less) [
-          | inl before ↦ none.1 q before is
-          | inr here ↦ other.1 (subst (λ (x : Node). Contains x.parts n) (same_some (slice_get nodes q) is.0 node is.1 (ap (λ x. slice_get nodes x) here ∙ there)) is.2)
-        ],
-      )
-    ]
-  ];
-}
-
-pub all_parents : (nodes : List Node) (i : ℕ) (parents : List ℕ) → i ≡ length nodes → AreParents nodes i parents → AreParents nodes (length nodes) parents
-all_parents nodes i parents is h = subst (λ (x : ℕ). AreParents nodes x parents) is h
 
 -- ---- functions
 
@@ -117,10 +89,6 @@ one_function nodes tree n f g x y = by (x.innermost g y.function y.holds) (y.inn
   by (inl e) other = sym e
   by (inr h) (inl e) = e
   by (inr h) (inr k) = let x = holds_after nodes tree g f h in let y = holds_after nodes tree f g k in absurd (omega arith)
-
--- the number is that of the innermost function, or of none
-abbrev Innermost : List Node → ℕ → ℕ → Type 0
-Innermost nodes n b = FunctionOf nodes n b ⊎ ((b ≡ length nodes) × ((g : ℕ) → IsFunction nodes g → Holds nodes g n → ⊥))
 
 no_function : (nodes : List Node) (g : ℕ) (node : Node) → slice_get nodes g ≡ Some node → is_function node.kind ≡ false → IsFunction nodes g → ⊥
 no_function nodes g node there is (other, there2, is2) =
@@ -153,35 +121,12 @@ in_other nodes tree p n b node there is has (inr none) = inr (
   ],
 )
 
--- what `within` says of a node, by whether it is a function
-within_is : (nodes : List Node) (functions : List ℕ) (p : ℕ) (node : Node) → slice_get nodes p ≡ Some node → within nodes functions p ≡ cond (is_function node.kind) p (at functions p)
-within_is nodes functions p node there = ap (λ o. option_map_or (λ (x : Node). cond (is_function x.kind) p (at functions p)) o (length nodes)) there
-
-get_past : (nodes : List Node) (k : ℕ) → length nodes ≤ k → slice_get nodes k ≡ None
-get_past [] k h = refl
-get_past (x ∷ xs) zero h = absurd (omega arith)
-get_past (x ∷ xs) (suc k) h = get_past xs k (omega arith)
-
-within_past : (nodes : List Node) (functions : List ℕ) (p : ℕ) → p ≡ length nodes → within nodes functions p ≡ length nodes
-within_past nodes functions p is = ap (λ o. option_map_or (λ (x : Node). cond (is_function x.kind) p (at functions p)) o (length nodes)) (get_past nodes p (omega arith))
-
-innermost_step : (nodes : List Node) (functions : List ℕ) (n p : ℕ) → IsTree nodes → IsParent nodes (length nodes) n p → at functions n ≡ within nodes functions p
-    → (IsPart nodes p n → Innermost nodes p (at functions p)) → Innermost nodes n (at functions n)
-innermost_step nodes functions n p tree (inl (node, there, has)) is up = by (is_function node.kind) refl where
-  by : (b : Bool) → is_function node.kind ≡ b → Innermost nodes n (at functions n)
-  by true e = subst (λ (x : ℕ). Innermost nodes n x) (sym (is ∙ (within_is nodes functions p node there ∙ ap (λ c. cond c p (at functions p)) e)))
-      (inl (in_function nodes tree p n node there e (node, there, has)))
-  by false e = subst (λ (x : ℕ). Innermost nodes n x) (sym (is ∙ (within_is nodes functions p node there ∙ ap (λ c. cond c p (at functions p)) e)))
-      (in_other nodes tree p n (at functions p) node there e (node, there, has) (up (node, there, has)))
-innermost_step nodes functions n p tree (inr none) is up = subst (λ (x : ℕ). Innermost nodes n x) (sym (is ∙ within_past nodes functions p none.0))
-    (inr (refl, λ g fun held. holds_none nodes g n (λ q has. none.1 q (slice_get_within nodes q has.0 has.1) has) held))
-
-innermost_from : (nodes : List Node) (parents functions : List ℕ) → IsTree nodes → AreParents nodes (length nodes) parents → AreFilled nodes parents 0 functions
-    → (left n : ℕ) → n < length nodes → length nodes ≤ n + left → Innermost nodes n (at functions n)
-innermost_from nodes parents functions tree parts filled zero n low end = absurd (omega arith)
-innermost_from nodes parents functions tree parts filled (suc left) n low end =
-    innermost_step nodes functions n (at parents n) tree (parts.each n low) (filled.each n (omega arith) low)
-    (λ has. innermost_from nodes parents functions tree parts filled left (at parents n) (slice_get_within nodes (at parents n) has.0 has.1) (let a = tree.after (at parents n) n has in omega arith))
+-- the function of a part, by whether what it is a part of is one
+inside_is : (nodes : List Node) → IsTree nodes → (functions : List ℕ) (p n : ℕ) (node : Node) → slice_get nodes p ≡ Some node → IsPart nodes p n → Innermost nodes p (at functions p) → Innermost nodes n (inside functions p node)
+inside_is nodes tree functions p n node there has up = by (is_function node.kind) refl where
+  by : (b : Bool) → is_function node.kind ≡ b → Innermost nodes n (inside functions p node)
+  by true e = subst (λ (x : ℕ). Innermost nodes n x) (sym (ap (λ c. cond c p (at functions p)) e)) (inl (in_function nodes tree p n node there e has))
+  by false e = subst (λ (x : ℕ). Innermost nodes n x) (sym (ap (λ c. cond c p (at functions p)) e)) (in_other nodes tree p n (at functions p) node there e has up)
 
 -- nodes of one number have one function, and the other way round
 same_from : (nodes : List Node) → IsTree nodes → (a b x y : ℕ) → Innermost nodes a x → Innermost nodes b y → x ≡ y → SameFunction nodes a b
@@ -203,50 +148,45 @@ from_same nodes tree a b x y (inl f) (inr nothing) same = absurd (nothing.1 x f.
 from_same nodes tree a b x y (inr none) (inl g) same = absurd (none.1 y g.function ((same y).1 g).holds)
 from_same nodes tree a b x y (inr none) (inr nothing) same = none.0 ∙ sym nothing.0
 
-pub all_functions : (nodes : List Node) (parents functions : List ℕ) (left : ℕ) → IsTree nodes → AreParents nodes (length nodes) parents → left ≤ 0 → AreFilled nodes parents left functions
-    → AreFunctions nodes functions
-all_functions nodes parents functions left tree parts end filled = record {
+-- what is known of a node that is a part of none of the nodes that are left
+alone : (nodes : List Node) → IsTree nodes → (functions : List ℕ) (few n : ℕ) → few ≤ suc n → AreFilled nodes few functions → n < length nodes → Innermost nodes n (at functions n)
+alone nodes tree functions few n low filled below = elim (filled.each n below) [
+  | inl known ↦ known
+  | inr none ↦ inr (none.0, λ g fun held. holds_none nodes g n (λ q has. none.1 q (let after = tree.after q n has in omega arith) has) held)
+]
+
+pub all_functions : (nodes : List Node) (functions : List ℕ) (left : ℕ) → IsTree nodes → left ≤ 0 → AreFilled nodes left functions → AreFunctions nodes functions
+all_functions nodes functions left tree end filled = record {
   size = filled.size;
   same = λ a b low_a low_b. ((λ e. same_from nodes tree a b (at functions a) (at functions b) (each a low_a) (each b low_b) e), (λ same. from_same nodes tree a b (at functions a) (at functions b) (each a low_a) (each b low_b) same));
 } where
-  all : AreFilled nodes parents 0 functions
-  all = record { size = filled.size; each = λ n low high. filled.each n (omega arith) high }
-
   each : (n : ℕ) → n < length nodes → Innermost nodes n (at functions n)
-  each n low = innermost_from nodes parents functions tree parts all (length nodes) n low (omega arith)
+  each n low = alone nodes tree functions left n (omega arith) filled low
 
 -- ---- filling in the functions
 
-parent_after : (nodes : List Node) (n p : ℕ) → IsTree nodes → n < length nodes → IsParent nodes (length nodes) n p → n < p
-parent_after nodes n p tree low (inl has) = tree.after p n has
-parent_after nodes n p tree low (inr none) = let e = none.0 in omega arith
-
-within_other : (nodes : List Node) (functions : List ℕ) (i v p : ℕ) → p ≢ i → within nodes (set functions i v) p ≡ within nodes functions p
-within_other nodes functions i v p other =
-    ap (λ (x : ℕ). option_map_or (λ (node : Node). cond (is_function node.kind) p x) (slice_get nodes p) (length nodes)) (get_or-set_other functions i p v 0 other)
-
-pub filled_none : (nodes : List Node) (parents functions : List ℕ) → functions ≡ replicate (length nodes) (length nodes) → AreFilled nodes parents (length nodes) functions
-filled_none nodes parents functions is = record {
+pub filled_none : (nodes : List Node) (functions : List ℕ) → functions ≡ replicate (length nodes) (length nodes) → AreFilled nodes (length nodes) functions
+filled_none nodes functions is = record {
   size = ap length is ∙ count_of (length nodes) (length nodes);
-  each = λ n high low. absurd (omega arith);
+  each = λ n low. inr (ap (λ x. at x n) is ∙ all_of (length nodes) (length nodes) n low, λ q high has. absurd (let w = slice_get_within nodes q has.0 has.1 in omega arith));
 }
 
-pub filled_more : (nodes : List Node) (parents functions : List ℕ) (i v : ℕ) → IsTree nodes → AreParents nodes (length nodes) parents → i < length nodes → v ≡ within nodes functions (at parents i)
-    → AreFilled nodes parents (i + 1) functions → AreFilled nodes parents i (set functions i v)
-filled_more nodes parents functions i v tree parts low is was = record {
-  size = length-set functions i v ∙ was.size;
-  each = λ n high below. elim (nat_cases n i) [
-    | inl same ↦ here n same below
-    | inr other ↦ get_or-set_other functions i n v 0 other ∙ (was.each n (later n high other) below ∙ sym (within_other nodes functions i v (at parents n) (apart n high below)))
+-- the parts of one node more have their function
+pub filled_more : (nodes : List Node) (p : ℕ) (node : Node) (old new : List ℕ) → IsTree nodes → slice_get nodes p ≡ Some node → AreFilled nodes (p + 1) old → AreGiven node.parts (inside old p node) old new → AreFilled nodes p new
+filled_more nodes p node old new tree there was now = record {
+  size = now.size ∙ was.size;
+  each = λ n low. elim (now.each n (let s = was.size in omega arith)) [
+    | inl this ↦ inl (subst (λ (x : ℕ). Innermost nodes n x) (sym this.0) (inside_is nodes tree old p n node there (node, there, this.1)
+        (alone nodes tree old (p + 1) p (omega arith) was (slice_get_within nodes p node there))))
+    | inr other ↦ elim (was.each n low) [
+      | inl known ↦ inl (subst (λ (x : ℕ). Innermost nodes n x) (sym other.0) known)
+      | inr none ↦ inr (
+        other.0 ∙ none.0,
+        λ q high has. elim (nat_cases q p) [
+          | inl here ↦ other.1 (subst (λ (x : Node). Contains x.parts n) (same_some (slice_get nodes q) has.0 node has.1 (ap (λ x. slice_get nodes x) here ∙ there)) has.2)
+          | inr apart ↦ none.1 q (omega arith) has
+        ],
+      )
+    ]
   ];
-} where
-  later : (n : ℕ) → i ≤ n → n ≢ i → i + 1 ≤ n
-  later n high other = omega arith
-
-  apart : (n : ℕ) → i ≤ n → n < length nodes → at parents n ≢ i
-  apart n high below e = let a = parent_after nodes n (at parents n) tree below (parts.each n below) in absurd (omega arith)
-
-  here : (n : ℕ) → n ≡ i → n < length nodes → at (set functions i v) n ≡ within nodes (set functions i v) (at parents n)
-  here n same below =
-      ap (λ x. at (set functions i v) x) same ∙ (get_or-set_same functions i v 0 (let s = was.size in omega arith) ∙ (is ∙ (ap (λ x. within nodes functions (at parents x)) (sym same)
-      ∙ sym (within_other nodes functions i v (at parents n) (apart n (omega arith) below)))))
+}

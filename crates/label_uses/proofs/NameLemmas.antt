@@ -1,14 +1,16 @@
 -- Which nodes are the first part of a label or a jump.
-use Rattle.std.proofs.Common.{◌≡◌, ℕ, ◌≤◌, ◌↔◌, Bool, true, false, List, [], ◌∷◌, length, slice_get, Option, Some, None, refl, sym, ap, ◌∙◌, subst, inl, inr, arith}
+use Rattle.std.proofs.Common.{◌≡◌, ℕ, zero, suc, ◌<◌, ◌≤◌, ◌+◌, ◌↔◌, Bool, true, false, cond, List, [], ◌∷◌, length, replicate, get_or, slice_get, Option, Some, None, refl, sym, ap, ◌∙◌, subst, inl, inr, arith}
 use Rattle.std.specs.List.{Contains}
-use Rattle.std.specs.Option.{option_map_or}
 use Rattle.std.proofs.lemmas.Option.{slice_get_within}
 use Rattle.go_tree.specs.declared.tree.Node.{Node}
 use Rattle.go_tree.specs.declared.tree.NodeKind.{NodeKind}
 use Rattle.label_uses.specs.Functions.{IsPart}
+use Rattle.label_uses.specs.Heads.{head_in, flagged, AreHeads, IsNoted}
 use Rattle.label_uses.specs.Labels.{Heads}
-use Rattle.label_uses.specs.Names.{IsHead, HeadOf}
-use Rattle.label_uses.specs.Parents.{IsParent, IsTree}
+use Rattle.label_uses.specs.Parents.{IsTree}
+use Rattle.label_uses.specs.Rows.{Sets}
+use Rattle.label_uses.specs.declared.heads.Headed.{Headed}
+use Rattle.label_uses.proofs.CaseLemmas.{before_or_at}
 use Rattle.gv_base.proofs.Lists.{same_some}
 
 first_in : (parts : List ℕ) (n : ℕ) → slice_get parts 0 ≡ Some n → Contains parts n
@@ -18,52 +20,103 @@ first_in (x ∷ xs) n e = (0, omega arith, same_some (Some x) x n refl e)
 pub part_of : (nodes : List Node) (p n : ℕ) (node : Node) → slice_get nodes p ≡ Some node → slice_get node.parts 0 ≡ Some n → IsPart nodes p n
 part_of nodes p n node there first = (node, there, first_in node.parts n first)
 
--- a node with a head is a part of what is known as its parent
-parent_is : (nodes : List Node) (n p q : ℕ) → IsTree nodes → IsParent nodes (length nodes) n p → IsPart nodes q n → q ≡ p
-parent_is nodes n p q tree (inl has) is = tree.one q p n is has
-parent_is nodes n p q tree (inr none) is = absurd (none.1 q (slice_get_within nodes q is.0 is.1) is)
+-- a node that heads another is one of the nodes
+pub head_low : (kinds : NodeKind → Bool) (nodes : List Node) (n : ℕ) → IsTree nodes → Heads kinds nodes n → n < length nodes
+head_low kinds nodes n tree (p, node, there, is, first) = let a = tree.after p n (part_of nodes p n node there first) in let b = slice_get_within nodes p node there in omega arith
 
-pub no_head_past : (nodes : List Node) (n p : ℕ) → IsTree nodes → IsParent nodes (length nodes) n p → length nodes ≤ p → HeadOf nodes n None
-no_head_past nodes n p tree parent past sort (q, node, there, is, first) =
-    let same = parent_is nodes n p q tree parent (part_of nodes q n node there first) in
-    let low = slice_get_within nodes q node there in absurd (omega arith)
+-- ---- flags
 
--- what is known of another head of n
-one_head : (nodes : List Node) (n p : ℕ) (node : Node) → IsTree nodes → IsParent nodes (length nodes) n p → slice_get nodes p ≡ Some node → (kind : NodeKind) → IsHead nodes n kind
-    → (node.kind ≡ kind) × (slice_get node.parts 0 ≡ Some n)
-one_head nodes n p node tree parent there sort (q, other, there2, is, first) =
-    let at_p : q ≡ p = parent_is nodes n p q tree parent (part_of nodes q n other there2 first) in
-    let same : other ≡ node = same_some (slice_get nodes q) other node there2 (ap (λ x. slice_get nodes x) at_p ∙ there) in
-    (ap (λ (x : Node). x.kind) (sym same) ∙ is, ap (λ (x : Node). slice_get x.parts 0) (sym same) ∙ first)
+no_flag : (count n : ℕ) → get_or (replicate count false) n false ≡ true → ⊥
+no_flag zero n e = absurd (cc)
+no_flag (suc count) zero e = absurd (cc)
+no_flag (suc count) (suc n) e = no_flag count n e
 
-pub no_head : (nodes : List Node) (n p : ℕ) (node : Node) → IsTree nodes → IsParent nodes (length nodes) n p → slice_get nodes p ≡ Some node → (slice_get node.parts 0 ≡ Some n → ⊥) → HeadOf nodes n None
-no_head nodes n p node tree parent there not_first kind head = not_first (one_head nodes n p node tree parent there kind head).1
+pub none_headed : (kinds : NodeKind → Bool) (nodes : List Node) (h : Headed) → h.flags.items ≡ replicate (length nodes) false → h.low ≡ length nodes → h.high ≡ 0 → AreHeads kinds nodes 0 h
+none_headed kinds nodes h is low high = record {
+  size = ap length is ∙ count_false (length nodes);
+  sound = λ n e. absurd (no_flag (length nodes) n (sym (ap (λ l. get_or l n false) is) ∙ e));
+  every = λ p n node few there head below. absurd (omega arith);
+  within = λ n e. absurd (no_flag (length nodes) n (sym (ap (λ l. get_or l n false) is) ∙ e));
+  begins = omega (arith, low);
+  ends = omega (arith, high);
+} where
+  count_false : (count : ℕ) → length (replicate count false) ≡ count
+  count_false zero = refl
+  count_false (suc count) = ap (λ n. suc n) (count_false count)
 
-pub head : (nodes : List Node) (n p : ℕ) (node : Node) → IsTree nodes → IsParent nodes (length nodes) n p → slice_get nodes p ≡ Some node → slice_get node.parts 0 ≡ Some n → HeadOf nodes n (Some node.kind)
-head nodes n p node tree parent there first = ((p, node, there, refl, first), λ kind other. (one_head nodes n p node tree parent there kind other).0)
+pub head_of : (b : Bool) (o : Option ℕ) (n : ℕ) → cond b o None ≡ Some n → (b ≡ true) × (o ≡ Some n)
+head_of true o n e = (refl, e)
+head_of false o n e = absurd (cc)
 
--- ---- of such a kind
+pub heads_more : (kinds : NodeKind → Bool) (nodes : List Node) (p : ℕ) (node : Node) (old new : Headed) → slice_get nodes p ≡ Some node → AreHeads kinds nodes p old → IsNoted (head_in kinds node) old new → AreHeads kinds nodes (p + 1) new
+heads_more kinds nodes p node old new there was now = record {
+  size = now.size ∙ was.size;
+  sound = λ n e. elim (now.sound n e) [
+    | inl before ↦ was.sound n before
+    | inr here ↦ (let h = head_of (kinds node.kind) (slice_get node.parts 0) n here.0 in (p, node, there, h.0, h.1))
+  ];
+  every = λ q n other few at head below. elim (before_or_at q p few) [
+    | inl before ↦ now.kept n (was.every q n other before at head below)
+    | inr here ↦ now.set n (ap (head_in kinds) (same_some (slice_get nodes p) node other there (ap (slice_get nodes) (sym here) ∙ at)) ∙ head) (let s = was.size in omega arith)
+  ];
+  within = λ n e. elim (now.sound n e) [
+    | inl before ↦ (let w = was.within n before in let l = now.lower in let h = now.higher in let a = w.0 in let b = w.1 in (omega arith, omega arith))
+    | inr here ↦ here.1
+  ];
+  begins = (let l = now.lower in let b = was.begins in omega arith);
+  ends = (let e = now.ends (let b = was.ends in let s = was.size in omega arith) in let s = was.size in omega arith);
+}
 
-pub heads_some : (kinds : NodeKind → Bool) (nodes : List Node) (n : ℕ) (kind : NodeKind) (o : Option NodeKind) (b : Bool) → o ≡ Some kind → HeadOf nodes n o → b ≡ kinds kind → (b ≡ true) ↔ Heads kinds nodes n
-heads_some kinds nodes n kind o b is_some head is = by (subst (λ (x : Option NodeKind). HeadOf nodes n x) is_some head) where
-  by : HeadOf nodes n (Some kind) → (b ≡ true) ↔ Heads kinds nodes n
-  by ((p, node, there, same, first), one) = (
-    (λ e. (p, node, there, ap kinds same ∙ (sym is ∙ e), first)),
-    (λ h. is ∙ (ap kinds (one h.1.kind (h.0, h.1, h.2, refl, h.4)) ∙ h.3)),
-  )
+pub heads_all : (kinds : NodeKind → Bool) (nodes : List Node) (p : ℕ) (h : Headed) → p ≡ length nodes → AreHeads kinds nodes p h → AreHeads kinds nodes (length nodes) h
+heads_all kinds nodes p h same are = subst (λ (x : ℕ). AreHeads kinds nodes x h) same are
 
-pub heads_none : (kinds : NodeKind → Bool) (nodes : List Node) (n : ℕ) (o : Option NodeKind) → o ≡ None → HeadOf nodes n o → (false ≡ true) ↔ Heads kinds nodes n
-heads_none kinds nodes n o is head = by (subst (λ (x : Option NodeKind). HeadOf nodes n x) is head) where
-  by : HeadOf nodes n None → (false ≡ true) ↔ Heads kinds nodes n
-  by none = ((λ e. absurd (cc)), (λ h. absurd (none h.1.kind (h.0, h.1, h.2, refl, h.4))))
+pub noted_none : (head : Option ℕ) (h new : Headed) → new ≡ h → head ≡ None → IsNoted head h new
+noted_none head h new same none = subst (IsNoted head h) (sym same) record {
+  size = refl;
+  sound = λ n e. inl e;
+  kept = λ n e. e;
+  set = λ n is low. nowhere head n none is;
+  lower = omega arith;
+  higher = omega arith;
+  ends = λ e. e;
+} where
+  nowhere : {C : Type 0} (o : Option ℕ) (n : ℕ) → o ≡ None → o ≡ Some n → C
+  nowhere o n p q = absurd (cc)
 
--- where what a node is a part of is of no such kind
-pub no_heads_at : (kinds : NodeKind → Bool) (nodes : List Node) (n p : ℕ) → IsTree nodes → IsParent nodes (length nodes) n p → option_map_or (λ (node : Node). kinds node.kind) (slice_get nodes p) false ≡ false
-    → (false ≡ true) ↔ Heads kinds nodes n
-no_heads_at kinds nodes n p tree parent none = (
-  (λ e. absurd (cc)),
-  (λ h. absurd (
-      let at_p : h.0 ≡ p = parent_is nodes n p h.0 tree parent (part_of nodes h.0 n h.1 h.2 h.4) in
-      let e : false ≡ true = sym none ∙ (ap (λ (o : Option Node). option_map_or (λ (node : Node). kinds node.kind) o false) (ap (slice_get nodes) (sym at_p) ∙ h.2) ∙ h.3) in cc
-      )),
+pub noted_past : (head : Option ℕ) (h new : Headed) (m : ℕ) → new ≡ h → head ≡ Some m → length h.flags.items ≤ m → IsNoted head h new
+noted_past head h new m same is high = subst (IsNoted head h) (sym same) record {
+  size = refl;
+  sound = λ n e. inl e;
+  kept = λ n e. e;
+  set = λ n at low. absurd (let e = same_some head n m at is in omega arith);
+  lower = omega arith;
+  higher = omega arith;
+  ends = λ e. e;
+}
+
+pub noted_one : (head : Option ℕ) (old new : Headed) (m : ℕ) → head ≡ Some m → m < length old.flags.items → Sets old.flags.items new.flags.items m → new.low ≤ old.low → new.low ≤ m → old.high ≤ new.high → m < new.high
+    → (old.high ≤ length old.flags.items → new.high ≤ length old.flags.items) → IsNoted head old new
+noted_one head old new m is low sets lower left higher right ends = record {
+  size = sets.size;
+  sound = λ n e. elim (sets.sound n e) [ inl before ↦ inl before | inr here ↦ inr (is ∙ ap (λ x. Some x) here, (omega arith, omega arith)) ];
+  kept = sets.kept;
+  set = λ n at below. subst (λ (x : ℕ). flagged new x ≡ true) (same_some head m n is at) (sets.set low);
+  lower = lower;
+  higher = higher;
+  ends = ends;
+}
+
+-- ---- what is flagged
+
+pub headed_is : (kinds : NodeKind → Bool) (nodes : List Node) (h : Headed) (n : ℕ) (b : Bool) → AreHeads kinds nodes (length nodes) h → n < length nodes → b ≡ flagged h n → (b ≡ true) ↔ Heads kinds nodes n
+headed_is kinds nodes h n b are low is = (
+  (λ e. are.sound n (sym is ∙ e)),
+  (λ (p, node, there, kind, first). is ∙ are.every p n node (slice_get_within nodes p node there) there (ap (λ k. cond k (slice_get node.parts 0) None) kind ∙ first) low),
 )
+
+-- what heads another stands between the two numbers
+pub headed_within : (kinds : NodeKind → Bool) (nodes : List Node) (h : Headed) (n : ℕ) → IsTree nodes → AreHeads kinds nodes (length nodes) h → Heads kinds nodes n → (h.low ≤ n) × (n < h.high)
+headed_within kinds nodes h n tree are is = are.within n ((headed_is kinds nodes h n (flagged h n) are (head_low kinds nodes n tree is) refl).1 is)
+
+pub headed_none : (kinds : NodeKind → Bool) (nodes : List Node) (h : Headed) → IsTree nodes → AreHeads kinds nodes (length nodes) h → h.high ≤ h.low → (n : ℕ) → Heads kinds nodes n → ⊥
+headed_none kinds nodes h tree are bare n is = let w = headed_within kinds nodes h n tree are is in let a = w.0 in let b = w.1 in omega arith

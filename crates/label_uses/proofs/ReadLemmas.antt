@@ -1,9 +1,7 @@
 -- What the rows of labels and jumps say.
-use Rattle.std.proofs.Common.{◌≡◌, ℕ, ◌<◌, ◌↔◌, Bool, true, false, List, length, get_or, slice_get, Option, Some, None, unwrap_or, refl, sym, ap, ◌∙◌, subst, inl, inr, arith}
+use Rattle.std.proofs.Common.{◌≡◌, ℕ, ◌<◌, ◌↔◌, Bool, true, false, List, [], length, get_or, slice_get, Option, Some, None, unwrap_or, refl, sym, ap, ◌∙◌, subst, inl, inr, arith}
 use Rattle.std.proofs.lemmas.Option.{slice_get_within}
 use Rattle.go_tree.specs.declared.tree.FileTree.{FileTree}
-use Rattle.go_tree.specs.declared.tree.Node.{Node}
-use Rattle.go_tree.specs.declared.tree.NodeKind.{NodeKind}
 use Rattle.file_uses.specs.Numbers.{name_in}
 use Rattle.label_uses.specs.declared.answer.Jump.{Jump}
 use Rattle.label_uses.specs.declared.answer.Label.{Label}
@@ -14,8 +12,8 @@ use Rattle.label_uses.specs.Read.{AreListed, JumpAnswer, IsRow, AreLabels}
 use Rattle.label_uses.specs.Rows.{AreGathered, HasName, IsJumpRow, IsLabelRow, AreUsed}
 use Rattle.label_uses.specs.Tables.{FirstBelow, AreFirst}
 use Rattle.label_uses.proofs.CaseLemmas.{three_ways}
-use Rattle.label_uses.proofs.NameLemmas.{part_of}
-use Rattle.gv_base.proofs.Lists.{same_some}
+use Rattle.label_uses.proofs.NameLemmas.{head_low}
+use Rattle.gv_base.proofs.Lists.{same_some, nothing_there}
 
 pub one_first : (bytes : List ℕ) (tree : FileTree) (n : ℕ) (name : List ℕ) (a b : ℕ) → IsFirst bytes tree n name a → IsFirst bytes tree n name b → a ≡ b
 one_first bytes tree n name a b x y = elim (three_ways a b) [
@@ -27,10 +25,6 @@ one_first bytes tree n name a b x y = elim (three_ways a b) [
 pub one_denoted : (bytes : List ℕ) (tree : FileTree) (jump a b : ℕ) → DenotesLabel bytes tree jump a → DenotesLabel bytes tree jump b → a ≡ b
 one_denoted bytes tree jump a b (p, is, x) (q, is2, y) =
     one_first bytes tree jump p a b x (subst (λ (r : List ℕ). IsFirst bytes tree jump r b) (same_some (name_in bytes tree jump) q p is2.1 is.1) y)
-
--- a node that heads another is one of the nodes
-head_low : (kinds : NodeKind → Bool) (nodes : List Node) (n : ℕ) → IsTree nodes → Heads kinds nodes n → n < length nodes
-head_low kinds nodes n tree (p, node, there, is, first) = let a = tree.after p n (part_of nodes p n node there first) in let b = slice_get_within nodes p node there in omega arith
 
 label_low : (bytes : List ℕ) (tree : FileTree) (n : ℕ) (q : List ℕ) → IsTree tree.nodes → IsLabel bytes tree n q → n < length tree.nodes
 label_low bytes tree n q is has = head_low is_label tree.nodes n is has.0
@@ -130,3 +124,18 @@ all_read bytes tree functions table used r is are firsts jumps flags labels = re
         repeated = repeated_is bytes tree l.name l.first q has it;
         used = ((λ e. denotes l.name (sym flag ∙ e)), (λ d. flag ∙ is_set l.name d.0 (label_low bytes tree l.name q is has) d.1));
       }
+
+-- a file without names of labels and without jumps to any
+pub none_read : (bytes : List ℕ) (tree : FileTree) (r : Labels) → r.labels.items ≡ [] → r.jumps.items ≡ [] → ((n : ℕ) → Heads is_label tree.nodes n → ⊥) → ((n : ℕ) → Heads is_jump tree.nodes n → ⊥) → AreLabels bytes tree r
+none_read bytes tree r labels jumps unnamed still = record {
+  labels = nothing (λ (l : Label). l.name) (λ n. (name : List ℕ) × IsLabel bytes tree n name) r.labels.items labels (λ n has. unnamed n has.1.0);
+  rows = λ k l there. absurd (nothing_there l (sym (ap (λ x. slice_get x k) labels) ∙ there));
+  jumps = nothing (λ (j : Jump). j.name) (λ n. (name : List ℕ) × IsJump bytes tree n name) r.jumps.items jumps (λ n has. still n has.1.0);
+  denoted = λ k j there. absurd (nothing_there j (sym (ap (λ x. slice_get x k) jumps) ∙ there));
+} where
+  nothing : {A : Type 0} (name : A → ℕ) (Is : ℕ → Type 0) (rows : List A) → rows ≡ [] → ((n : ℕ) → Is n → ⊥) → AreListed name Is rows
+  nothing name Is rows e none = subst (AreListed name Is) (sym e) (record {
+    order = λ j k a b less at_j at_k. absurd (nothing_there a at_j);
+    each = λ k a there. absurd (nothing_there a there);
+    all = λ n is. absurd (none n is);
+  })

@@ -3,7 +3,7 @@ use Rattle.std.proofs.Common.{◌≡◌, ℕ, zero, suc, ◌<◌, ◌+◌, ◌�
 use Rattle.std.proofs.Math.ListN.{length-set}
 use Rattle.std.proofs.lemmas.Option.{slice_get_within}
 use Rattle.label_uses.specs.Rows.{Appends, AreGathered, Sets}
-use Rattle.label_uses.proofs.CaseLemmas.{nat_cases, before_or_at}
+use Rattle.label_uses.proofs.CaseLemmas.{nat_cases, before_or_at, before_or_not}
 use Rattle.gv_base.proofs.Lists.{at_end, get_left, nothing_there, same_some}
 
 get_cases : {A : Type 0} (xs : List A) (y a : A) (k : ℕ) → slice_get (xs ++ y ∷ []) k ≡ Some a → (slice_get xs k ≡ Some a) ⊎ ((k ≡ length xs) × (y ≡ a))
@@ -12,12 +12,24 @@ get_cases [] y a (suc k) e = absurd (nothing_there a e)
 get_cases (x ∷ xs) y a zero e = inl e
 get_cases (x ∷ xs) y a (suc k) e = elim (get_cases xs y a k e) [ inl old ↦ inl old | inr this ↦ inr (ap (λ n. suc n) this.0, this.1) ]
 
-pub gathered_none : {A : Type 0} (name : A → ℕ) (Is : A → Type 0) (Has : ℕ → Type 0) (rows : List A) → rows ≡ [] → AreGathered name Is Has 0 rows
-gathered_none name Is Has rows e = subst (AreGathered name Is Has 0) (sym e) (record {
+-- where none has a name among the first few
+pub gathered_none : {A : Type 0} (name : A → ℕ) (Is : A → Type 0) (Has : ℕ → Type 0) (i : ℕ) (rows : List A) → rows ≡ [] → ((n : ℕ) → n < i → Has n → ⊥) → AreGathered name Is Has i rows
+gathered_none name Is Has i rows e none = subst (AreGathered name Is Has i) (sym e) (record {
   order = λ j k a b less at_j at_k. absurd (nothing_there a at_j);
   each = λ k a there. absurd (nothing_there a there);
-  all = λ n low has. absurd (omega arith);
+  all = λ n low has. absurd (none n low has);
 })
+
+-- where none has one behind them
+pub gathered_past : {A : Type 0} (name : A → ℕ) (Is : A → Type 0) (Has : ℕ → Type 0) (i j : ℕ) (rows : List A) → i ≤ j → ((n : ℕ) → i ≤ n → Has n → ⊥) → AreGathered name Is Has i rows → AreGathered name Is Has j rows
+gathered_past name Is Has i j rows high none was = record {
+  order = was.order;
+  each = λ k a there. let o = was.each k a there in (o.0, let low = o.1 in omega arith);
+  all = λ n low has. elim (before_or_not n i) [
+    | inl before ↦ was.all n before has
+    | inr past ↦ absurd (none n past has)
+  ];
+}
 
 -- a row more, that of the next node
 with_row : {A : Type 0} (name : A → ℕ) (Is : A → Type 0) (Has : ℕ → Type 0) (i : ℕ) (rows : List A) (y : A) → AreGathered name Is Has i rows → name y ≡ i → Is y → AreGathered name Is Has (i + 1) (rows ++ y ∷ [])

@@ -2,6 +2,7 @@ pub mod Functions
 pub mod Labels
 pub mod Read
 pub mod Parents
+pub mod Heads
 pub mod Names
 pub mod Tables
 pub mod Rows

@@ -1,9 +1,9 @@
 //! The innermost function that holds each node.
-ghost use Rattle.std.specs.Prelude.{◌≡◌, ◌<◌, ◌≤◌, IfOk, length, ℕ};
+ghost use Rattle.std.specs.Prelude.{◌≡◌, IfOk};
 ghost use Rattle.label_uses.specs.Functions.{is_function};
-ghost use Rattle.label_uses.specs.Parents.{at, within, AreParents, IsTree, AreFilled, AreFunctions};
+ghost use Rattle.label_uses.specs.Parents.{at, inside, IsTree, AreFunctions};
 
-use crate::parents::all_same;
+use crate::parts::{all_same, give};
 use go_tree::{Node, NodeKind};
 use gv_base::NoMemory;
 use std::alloc::Global;
@@ -25,35 +25,27 @@ pub(crate) fn at(numbers: &[usize], n: usize) -> usize
 }
 
 /// The innermost function that holds the parts of a node.
-fn within(nodes: &[Node], functions: &[usize], p: usize) -> usize
-    ensures { result ≡ within nodes.now functions.now p }
+fn inside(functions: &[usize], p: usize, node: &Node) -> usize
+    ensures { result ≡ inside functions.now p node.now }
 {
-    if p >= nodes.len() {
-        return nodes.len();
-    }
-    let node = &nodes[p];
     if is_function(node.kind) {
         return p;
     }
     at(functions, p)
 }
 
-/// The innermost function that holds each node. Nodes outside functions have the number of all nodes.
-pub(crate) fn functions_of(
-    alloc: Global,
-    nodes: &[Node],
-    parents: &[usize],
-) -> Result<Vec<usize>, NoMemory>
-    requires tree { IsTree nodes.now }
-    requires parents { AreParents nodes.now (length nodes.now) parents.now }
+/// The innermost function that holds each node, from the last node to the first. Nodes outside functions have the number of all nodes.
+pub(crate) fn functions_of(alloc: Global, nodes: &[Node]) -> Result<Vec<usize>, NoMemory>
+    requires { IsTree nodes.now }
     ensures { IfOk result (λ functions. AreFunctions nodes.now functions.items) }
 {
     let mut functions = all_same(alloc, nodes.len(), nodes.len())?;
     let mut left = nodes.len();
     while left > 0 {
         left -= 1;
-        let function = within(nodes, &functions, at(parents, left));
-        functions[left] = function;
+        let node = &nodes[left];
+        let function = inside(&functions, left, node);
+        give(&mut functions, node.parts.as_slice(), function);
     }
     Ok(functions)
 }

@@ -3,9 +3,10 @@
 
 mod answer;
 mod functions;
+mod heads;
 mod laws;
 mod names;
-mod parents;
+mod parts;
 mod read;
 mod rows;
 mod table;

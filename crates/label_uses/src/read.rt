@@ -1,23 +1,81 @@
 //! Which label each jump of a file denotes.
-ghost use Rattle.std.specs.Prelude.{◌≡◌, IfOk, length};
+ghost use Rattle.std.specs.Prelude.{◌≡◌, [], IfOk, length};
 ghost use Rattle.go_tree.specs.Pieces.{Spelled};
-ghost use Rattle.label_uses.specs.Parents.{AreParents};
+ghost use Rattle.label_uses.specs.Heads.{AreHeads};
+ghost use Rattle.label_uses.specs.Labels.{is_label, is_jump};
 ghost use Rattle.label_uses.specs.Read.{AreLabels};
 
 use crate::answer::Labels;
 use crate::functions::functions_of;
-use crate::parents::parents_of;
+use crate::heads::{Headed, are_bare, jump_heads, label_heads};
 use crate::rows::{jumps_of, labels_of, used_of};
 use crate::table::{count_nodes, first_labels};
 use go_tree::FileTree;
 use gv_base::NoMemory;
 use std::alloc::Global;
 
-fn node_parents(alloc: Global, tree: &FileTree) -> Result<Vec<usize>, NoMemory>
-    ensures { IfOk result (λ parents. AreParents tree.now.nodes (length tree.now.nodes) parents.items) }
+fn no_labels(alloc: Global) -> Labels
+    ensures labels { result.labels.items ≡ [] }
+    ensures jumps { result.jumps.items ≡ [] }
 {
-    let parents = parents_of(alloc, tree.nodes.as_slice())?;
-    Ok(parents)
+    Labels {
+        labels: Vec::new(alloc),
+        jumps: Vec::new(alloc),
+    }
+}
+
+/// The same of a file that has some: by the names of its labels, and those behind its jumps.
+fn labels_by(
+    alloc: Global,
+    tree: &FileTree,
+    bytes: &[u8],
+    named: &Headed,
+    jumping: &Headed,
+) -> Result<Labels, NoMemory>
+    requires spelled { Spelled tree.now.tokens bytes.now tree.now }
+    requires named { AreHeads is_label tree.now.nodes (length tree.now.nodes) named.now }
+    requires jumping { AreHeads is_jump tree.now.nodes (length tree.now.nodes) jumping.now }
+    ensures { IfOk result (λ r. AreLabels bytes.now tree.now r) }
+{
+    let functions = functions_of(alloc, tree.nodes.as_slice())?;
+    let table = first_labels(alloc, bytes, tree, named, &functions)?;
+    let jumps = jumps_of(alloc, bytes, tree, jumping, &functions, &table)?;
+    let used = used_of(alloc, &jumps, count_nodes(tree))?;
+    let labels = labels_of(alloc, bytes, tree, named, &functions, &table, &used)?;
+    Ok(Labels { labels, jumps })
+}
+
+fn all_labels(
+    alloc: Global,
+    tree: &FileTree,
+    bytes: &[u8],
+    named: &Headed,
+    jumping: &Headed,
+) -> Result<Labels, NoMemory>
+    requires spelled { Spelled tree.now.tokens bytes.now tree.now }
+    requires named { AreHeads is_label tree.now.nodes (length tree.now.nodes) named.now }
+    requires jumping { AreHeads is_jump tree.now.nodes (length tree.now.nodes) jumping.now }
+    ensures { IfOk result (λ r. AreLabels bytes.now tree.now r) }
+{
+    if are_bare(named, jumping) {
+        return Ok(no_labels(alloc));
+    }
+    let found = labels_by(alloc, tree, bytes, named, jumping)?;
+    Ok(found)
+}
+
+fn named_in(alloc: Global, tree: &FileTree) -> Result<Headed, NoMemory>
+    ensures { IfOk result (AreHeads is_label tree.now.nodes (length tree.now.nodes)) }
+{
+    let heads = label_heads(alloc, tree.nodes.as_slice())?;
+    Ok(heads)
+}
+
+fn jumping_in(alloc: Global, tree: &FileTree) -> Result<Headed, NoMemory>
+    ensures { IfOk result (AreHeads is_jump tree.now.nodes (length tree.now.nodes)) }
+{
+    let heads = jump_heads(alloc, tree.nodes.as_slice())?;
+    Ok(heads)
 }
 
 /// The labels of a file and its jumps to labels, each jump with the label that it denotes.
@@ -25,11 +83,8 @@ pub fn labels(alloc: Global, tree: &FileTree, bytes: &[u8]) -> Result<Labels, No
     requires { Spelled tree.now.tokens bytes.now tree.now }
     ensures { IfOk result (λ r. AreLabels bytes.now tree.now r) }
 {
-    let parents = node_parents(alloc, tree)?;
-    let functions = functions_of(alloc, tree.nodes.as_slice(), &parents)?;
-    let table = first_labels(alloc, bytes, tree, &parents, &functions)?;
-    let jumps = jumps_of(alloc, bytes, tree, &parents, &functions, &table)?;
-    let used = used_of(alloc, &jumps, count_nodes(tree))?;
-    let labels = labels_of(alloc, bytes, tree, &parents, &functions, &table, &used)?;
-    Ok(Labels { labels, jumps })
+    let named = named_in(alloc, tree)?;
+    let jumping = jumping_in(alloc, tree)?;
+    let found = all_labels(alloc, tree, bytes, &named, &jumping)?;
+    Ok(found)
 }

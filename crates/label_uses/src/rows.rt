@@ -1,14 +1,16 @@
 //! A row for each jump, and one for each label.
 ghost use Rattle.std.specs.Prelude.{◌≡◌, ◌<◌, ◌≤◌, ◌+◌, ℕ, List, IfOk, OnOk, Some, length, unwrap_or, get_or, false, replicate};
-ghost use Rattle.label_uses.specs.Labels.{IsLabel, IsJump};
-ghost use Rattle.label_uses.specs.Parents.{at, AreParents, IsTree};
+ghost use Rattle.label_uses.specs.Heads.{AreHeads};
+ghost use Rattle.label_uses.specs.Labels.{is_label, is_jump, IsLabel, IsJump};
+ghost use Rattle.label_uses.specs.Parents.{at, IsTree};
 ghost use Rattle.label_uses.specs.Tables.{found};
 ghost use Rattle.label_uses.specs.Rows.{Appends, AreGathered, HasName, IsJumpRow, IsLabelRow, Sets, Marks, AreUsed};
 
 use crate::answer::{Jump, Label};
 use crate::functions::at;
+use crate::heads::{Headed, end_of};
 use crate::names::{jump_name, label_name};
-use crate::table::{count_nodes, find};
+use crate::table::find;
 use go_tree::FileTree;
 use gv_base::NoMemory;
 use std::alloc::Global;
@@ -18,18 +20,17 @@ use std::collections::HashMap;
 fn push_jump(
     bytes: &[u8],
     tree: &FileTree,
-    parents: &[usize],
+    heads: &Headed,
     functions: &[usize],
     table: &HashMap<(usize, &[u8]), usize>,
     n: usize,
     jumps: &mut Vec<Jump>,
 ) -> Result<(), NoMemory>
-    requires tree { IsTree tree.now.nodes }
-    requires parents { AreParents tree.now.nodes (length tree.now.nodes) parents.now }
+    requires heads { AreHeads is_jump tree.now.nodes (length tree.now.nodes) heads.now }
     requires n { n < length tree.now.nodes }
     ensures { OnOk result (Appends (λ (j : Jump). (j.name ≡ n) × IsJumpRow (IsJump bytes.now tree.now) (at functions.now) (found table.now) j) (HasName (IsJump bytes.now tree.now n) → ⊥) jumps.old.items jumps.new.items) }
 {
-    match jump_name(bytes, tree, parents, n) {
+    match jump_name(bytes, tree, heads, n) {
         Some(name) => {
             let label = find(table, at(functions, n), name);
             jumps.push(Jump { name: n, label })?;
@@ -44,22 +45,23 @@ pub(crate) fn jumps_of(
     alloc: Global,
     bytes: &[u8],
     tree: &FileTree,
-    parents: &[usize],
+    heads: &Headed,
     functions: &[usize],
     table: &HashMap<(usize, &[u8]), usize>,
 ) -> Result<Vec<Jump>, NoMemory>
     requires tree { IsTree tree.now.nodes }
-    requires parents { AreParents tree.now.nodes (length tree.now.nodes) parents.now }
+    requires heads { AreHeads is_jump tree.now.nodes (length tree.now.nodes) heads.now }
     ensures { IfOk result (λ jumps. AreGathered (λ (j : Jump). j.name) (IsJumpRow (IsJump bytes.now tree.now) (at functions.now) (found table.now)) (λ n. HasName (IsJump bytes.now tree.now n)) (length tree.now.nodes) jumps.items) }
 {
     let mut jumps = Vec::new(alloc);
-    for n in 0..count_nodes(tree) {
-        push_jump(bytes, tree, parents, functions, table, n, &mut jumps)?;
+    let end = end_of(heads);
+    for n in heads.low..end {
+        push_jump(bytes, tree, heads, functions, table, n, &mut jumps)?;
     }
     Ok(jumps)
 }
 
-fn set(flags: &mut Vec<bool>, n: usize)
+pub(crate) fn set(flags: &mut Vec<bool>, n: usize)
     ensures { Sets flags.old.items flags.new.items n }
 {
     if n < flags.as_slice().len() {
@@ -77,7 +79,7 @@ fn mark(flags: &mut Vec<bool>, label: Option<usize>)
     }
 }
 
-fn all_false(alloc: Global, count: usize) -> Result<Vec<bool>, NoMemory>
+pub(crate) fn all_false(alloc: Global, count: usize) -> Result<Vec<bool>, NoMemory>
     ensures { IfOk result (λ flags. flags.items ≡ replicate count false) }
 {
     let flags = vec![in alloc; false; count]?;
@@ -114,19 +116,18 @@ fn or_itself(label: Option<usize>, n: usize) -> usize
 fn push_label(
     bytes: &[u8],
     tree: &FileTree,
-    parents: &[usize],
+    heads: &Headed,
     functions: &[usize],
     table: &HashMap<(usize, &[u8]), usize>,
     used: &[bool],
     n: usize,
     labels: &mut Vec<Label>,
 ) -> Result<(), NoMemory>
-    requires tree { IsTree tree.now.nodes }
-    requires parents { AreParents tree.now.nodes (length tree.now.nodes) parents.now }
+    requires heads { AreHeads is_label tree.now.nodes (length tree.now.nodes) heads.now }
     requires n { n < length tree.now.nodes }
     ensures { OnOk result (Appends (λ (l : Label). (l.name ≡ n) × IsLabelRow (IsLabel bytes.now tree.now) (at functions.now) (found table.now) used.now l) (HasName (IsLabel bytes.now tree.now n) → ⊥) labels.old.items labels.new.items) }
 {
-    match label_name(bytes, tree, parents, n) {
+    match label_name(bytes, tree, heads, n) {
         Some(name) => {
             let first = or_itself(find(table, at(functions, n), name), n);
             let used = flag(used, n);
@@ -146,18 +147,19 @@ pub(crate) fn labels_of(
     alloc: Global,
     bytes: &[u8],
     tree: &FileTree,
-    parents: &[usize],
+    heads: &Headed,
     functions: &[usize],
     table: &HashMap<(usize, &[u8]), usize>,
     used: &[bool],
 ) -> Result<Vec<Label>, NoMemory>
     requires tree { IsTree tree.now.nodes }
-    requires parents { AreParents tree.now.nodes (length tree.now.nodes) parents.now }
+    requires heads { AreHeads is_label tree.now.nodes (length tree.now.nodes) heads.now }
     ensures { IfOk result (λ labels. AreGathered (λ (l : Label). l.name) (IsLabelRow (IsLabel bytes.now tree.now) (at functions.now) (found table.now) used.now) (λ n. HasName (IsLabel bytes.now tree.now n)) (length tree.now.nodes) labels.items) }
 {
     let mut labels = Vec::new(alloc);
-    for n in 0..count_nodes(tree) {
-        push_label(bytes, tree, parents, functions, table, used, n, &mut labels)?;
+    let end = end_of(heads);
+    for n in heads.low..end {
+        push_label(bytes, tree, heads, functions, table, used, n, &mut labels)?;
     }
     Ok(labels)
 }

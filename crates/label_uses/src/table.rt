@@ -1,10 +1,12 @@
 //! The first label of each name in each function.
 ghost use Rattle.std.specs.Prelude.{◌≡◌, ◌<◌, ◌&&◌, ℕ, List, IfOk, OnOk, Some, length, if◌then◌else◌, bytes_eq, nat_eq, unwrap_or};
-ghost use Rattle.label_uses.specs.Labels.{IsLabel};
-ghost use Rattle.label_uses.specs.Parents.{at, AreParents, IsTree};
+ghost use Rattle.label_uses.specs.Heads.{AreHeads};
+ghost use Rattle.label_uses.specs.Labels.{is_label, IsLabel};
+ghost use Rattle.label_uses.specs.Parents.{at, IsTree};
 ghost use Rattle.label_uses.specs.Tables.{found, Adds, AreFirst};
 
 use crate::functions::at;
+use crate::heads::{Headed, end_of};
 use crate::names::label_name;
 use go_tree::FileTree;
 use gv_base::NoMemory;
@@ -56,17 +58,16 @@ fn keep_first<'a>(
 fn add<'a>(
     bytes: &'a [u8],
     tree: &FileTree,
-    parents: &[usize],
+    heads: &Headed,
     functions: &[usize],
     table: &mut HashMap<(usize, &'a [u8]), usize>,
     n: usize,
 ) -> Result<(), NoMemory>
-    requires tree { IsTree tree.now.nodes }
-    requires parents { AreParents tree.now.nodes (length tree.now.nodes) parents.now }
+    requires heads { AreHeads is_label tree.now.nodes (length tree.now.nodes) heads.now }
     requires n { n < length tree.now.nodes }
     ensures { OnOk result (Adds (IsLabel bytes.now tree.now) (at functions.now) n (found table.old) (found table.new)) }
 {
-    match label_name(bytes, tree, parents, n) {
+    match label_name(bytes, tree, heads, n) {
         Some(name) => {
             keep_first(table, at(functions, n), name, n)?;
             Ok(())
@@ -86,16 +87,17 @@ pub(crate) fn first_labels<'a>(
     alloc: Global,
     bytes: &'a [u8],
     tree: &FileTree,
-    parents: &[usize],
+    heads: &Headed,
     functions: &[usize],
 ) -> Result<HashMap<(usize, &'a [u8]), usize>, NoMemory>
     requires tree { IsTree tree.now.nodes }
-    requires parents { AreParents tree.now.nodes (length tree.now.nodes) parents.now }
+    requires heads { AreHeads is_label tree.now.nodes (length tree.now.nodes) heads.now }
     ensures { IfOk result (λ table. AreFirst (IsLabel bytes.now tree.now) (at functions.now) (length tree.now.nodes) (found table)) }
 {
     let mut table = HashMap::new(alloc);
-    for n in 0..count_nodes(tree) {
-        add(bytes, tree, parents, functions, &mut table, n)?;
+    let end = end_of(heads);
+    for n in heads.low..end {
+        add(bytes, tree, heads, functions, &mut table, n)?;
     }
     Ok(table)
 }

@@ -1,5 +1,5 @@
 use Rattle.label_uses.proofs.FunctionLemmas.{given_none, given_more}
-use Rattle.label_uses.proofs.parents.give.Goals as goal
+use Rattle.label_uses.proofs.parts.give.Goals as goal
 
 pub loop-part-init : goal.loop-part-init
 loop-part-init c = given_none c.args.numbers.now.items c.args.number

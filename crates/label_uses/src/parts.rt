@@ -1,8 +1,7 @@
-//! What each node is a part of.
+//! A number for the parts of a node.
 ghost use Rattle.std.specs.Prelude.{◌≡◌, ◌<◌, ◌≤◌, [], ◌∷◌, IfOk, length, replicate};
-ghost use Rattle.label_uses.specs.Parents.{AreGiven, AreParents};
+ghost use Rattle.label_uses.specs.Parents.{AreGiven};
 
-use go_tree::Node;
 use gv_base::NoMemory;
 use std::alloc::Global;
 
@@ -21,7 +20,7 @@ fn put(numbers: &mut Vec<usize>, at: usize, number: usize)
 }
 
 /// Gives the parts a number.
-fn give(numbers: &mut Vec<usize>, parts: &[u32], number: usize)
+pub(crate) fn give(numbers: &mut Vec<usize>, parts: &[u32], number: usize)
     ensures { AreGiven parts.now number numbers.old.items numbers.new.items }
 {
     for part in parts {
@@ -35,16 +34,4 @@ pub(crate) fn all_same(alloc: Global, count: usize, number: usize) -> Result<Vec
 {
     let numbers = vec![in alloc; number; count]?;
     Ok(numbers)
-}
-
-/// What each node is a part of. A node that is a part of none has the number of all nodes.
-pub(crate) fn parents_of(alloc: Global, nodes: &[Node]) -> Result<Vec<usize>, NoMemory>
-    ensures { IfOk result (λ parents. AreParents nodes.now (length nodes.now) parents.items) }
-{
-    let mut parents = all_same(alloc, nodes.len(), nodes.len())?;
-    for at in 0..nodes.len() {
-        let node = &nodes[at];
-        give(&mut parents, node.parts.as_slice(), at);
-    }
-    Ok(parents)
 }
