@@ -5,4 +5,5 @@ pub mod FileLemmas
 pub mod ViewLemmas
 pub mod StrayLemmas
 pub mod KindLemmas
+pub mod BareLemmas
 pub mod AskedLemmas

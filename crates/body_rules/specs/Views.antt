@@ -10,13 +10,14 @@ use Rattle.body_rules.specs.declared.branches.Branch.TheVariants as w
 use Rattle.body_rules.specs.declared.endings.Ending.{Ending}
 use Rattle.body_rules.specs.declared.file.File.{File}
 use Rattle.body_rules.specs.declared.view.View.{View}
-use Rattle.body_rules.specs.Branches.{stops, AreLeft}
+use Rattle.body_rules.specs.Branches.{AreLeft}
 use Rattle.body_rules.specs.Endings.{flag_of, endings}
 use Rattle.gv_base.specs.declared.place.Place.{Place}
 use Rattle.late_list.specs.declared.late.LateRule.{LateRule}
 use Rattle.body_rules.specs.Files.{IsFile, AreRead, IsFaultIn, node_count}
 use Rattle.body_rules.specs.Given.{Given, given}
 use Rattle.body_rules.specs.Hands.{AreClauseEnds}
+use Rattle.body_rules.specs.Jumping.{AreNearest}
 use Rattle.body_rules.specs.Kinds.{is_block, is_goto, is_fall}
 use Rattle.body_rules.specs.Latest.{AreLatest}
 
@@ -30,14 +31,14 @@ pub record AreEndings (f : Given) (found : List Ending) : Type 0 where
 abbrev pub IfAny : (NodeKind → Bool) → List Node → Type 0 → Type 0
 IfAny kinds nodes P = (n : ℕ) → IsOfKind kinds nodes n → P
 
--- What a view holds is right. What only a `goto` or a `fallthrough` asks for is there where there is one.
+-- What a view holds is right. What only a `goto`, a `fallthrough`, or a `break` or `continue` without a label asks for is there where there is one.
 pub record IsRead (v : View) : Type 0 where
   pub file : IsFile (given v.file.now)
   pub parents : AreParents v.file.now.nodes.now (length v.file.now.nodes.now) v.parents.items
   pub begins : v.begins.items ≡ starts v.file.now.nodes.now
   pub blocks : IfAny is_goto v.file.now.nodes.now (AreInnermost is_block v.file.now.nodes.now v.blocks.items)
-  pub breaks : AreInnermost (stops w.Break) v.file.now.nodes.now v.breaks.items
-  pub continues : AreInnermost (stops w.Continue) v.file.now.nodes.now v.continues.items
+  pub breaks : AreNearest w.Break v.file.now.nodes.now v.breaks.items
+  pub continues : AreNearest w.Continue v.file.now.nodes.now v.continues.items
   pub latest : IfAny is_goto v.file.now.nodes.now (AreLatest v.file.now.nodes.now v.blocks.items (length v.file.now.nodes.now) v.latest.items)
   pub endings : AreEndings (given v.file.now) v.endings.items
   pub clause_ends : IfAny is_fall v.file.now.nodes.now (AreClauseEnds v.file.now.nodes.now v.clause_ends.items)

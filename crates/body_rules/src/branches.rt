@@ -1,5 +1,5 @@
 //! What each `break` leaves, and what each `continue` goes on with.
-ghost use Rattle.std.specs.Prelude.{◌≡◌, ◌<◌, ◌≤◌, ◌^◌, ◌↔◌, ℕ, Bool, false, cond, ◌+◌, OnOk, IfOk, IsTrue, Option, Some, None, length, get_or, slice_get};
+ghost use Rattle.std.specs.Prelude.{◌≡◌, ◌<◌, ◌≤◌, ◌^◌, ◌↔◌, ◌&&◌, [], ℕ, Bool, false, cond, ◌+◌, OnOk, IfOk, IsTrue, Option, Some, None, length, get_or, slice_get};
 ghost use Rattle.node_values.specs.Parents.{at, AreParents};
 ghost use Rattle.node_values.specs.Ranges.{starts, IsTiled, IsWithin};
 ghost use Rattle.node_values.specs.Trees.{IsTree, AreInnermost};
@@ -9,12 +9,14 @@ ghost use Rattle.go_tree.specs.declared.tree.NodeKind.{NodeKind};
 ghost use Rattle.body_rules.specs.declared.branches.Branch.TheVariants as w;
 ghost use Rattle.body_rules.specs.Branches.{is_of, branch_of, can_leave, stops, IsLabelOn, LeavesNearest, LeavesNamed, LeavesBy, Leaves, AreLeft, is_first, labelled, stand_of};
 ghost use Rattle.body_rules.specs.Endings.{kind_of};
-ghost use Rattle.body_rules.specs.Jumping.{IsKnown, LeavesRound};
+ghost use Rattle.body_rules.specs.Files.{is_nil};
+ghost use Rattle.body_rules.specs.Jumping.{IsBareAt, AreNearest, IsKnown, LeavesRound};
 
 use crate::endings::kind_of;
 use crate::jumps::{is_within, place_at};
 use crate::kinds::{can_break, is_break, is_continue, is_function, is_label, is_loop};
 use crate::latest::number_at;
+use crate::nodes::is_nil;
 use go_tree::{Node, NodeKind};
 use gv_base::NoMemory;
 use node_values::{Stops, Targets, flag_targets, innermost};
@@ -90,7 +92,7 @@ impl Stops for Continues {
 }
 
 /// The innermost node round each that such a word leaves, or a function.
-pub(crate) fn nearest_of(
+fn nearest_of(
     alloc: Global,
     which: Branch,
     nodes: &[Node],
@@ -110,6 +112,46 @@ pub(crate) fn nearest_of(
             Ok(found)
         }
     }
+}
+
+/// Whether a node is a statement of this word that names no label.
+fn is_bare(which: Branch, node: &Node) -> bool
+    ensures { result ≡ (is_of which node.now.kind && is_nil node.now.parts) }
+{
+    if is_of(which, node.kind) {
+        return is_nil(node.parts.as_slice());
+    }
+    false
+}
+
+/// Whether there is one.
+fn has_bare(which: Branch, nodes: &[Node]) -> bool
+    ensures { result ≡ false → (n : ℕ) → IsBareAt which nodes.now n → ⊥ }
+{
+    for n in 0..nodes.len() {
+        if is_bare(which, &nodes[n]) {
+            return true;
+        }
+    }
+    false
+}
+
+/// The same, where a statement of this word names no label.
+pub(crate) fn nearest_in(
+    alloc: Global,
+    which: Branch,
+    nodes: &[Node],
+    parents: &[usize],
+) -> Result<Vec<Option<usize>>, NoMemory>
+    requires tree { IsTree nodes.now }
+    requires parents { AreParents nodes.now (length nodes.now) parents.now }
+    ensures { IfOk result (λ found. AreNearest which nodes.now found.items) }
+{
+    if !has_bare(which, nodes) {
+        return Ok(Vec::new(alloc));
+    }
+    let found = nearest_of(alloc, which, nodes, parents)?;
+    Ok(found)
 }
 
 /// A node that such a word can leave.
@@ -260,6 +302,7 @@ pub(crate) struct Jumping<'a> {
 fn left_by(j: &Jumping, parts: &[u32], n: usize) -> Option<usize>
     requires known { IsKnown j.now }
     requires node { n < length j.now.nodes.now }
+    requires nearest { parts.now ≡ [] → AreInnermost (stops j.now.which) j.now.nodes.now j.now.nearest.now }
     ensures { IsOnly (LeavesBy j.now.which j.now.nodes.now j.now.labels.now parts.now n) result }
 {
     match parts.first() {

@@ -60,7 +60,7 @@ fn is_none(o: Option<usize>) -> bool
     }
 }
 
-fn is_nil(parts: &[u32]) -> bool
+pub(crate) fn is_nil(parts: &[u32]) -> bool
     ensures { result ≡ is_nil parts.now }
 {
     parts.is_empty()

@@ -1,16 +1,16 @@
 //! The late rules of bodies, each as a test of a node.
 ghost use Rattle.std.specs.Prelude.{◌≡◌, ◌<◌, ◌↔◌, ℕ, IsTrue, false, Option, length};
 ghost use Rattle.node_values.specs.Flagged.{IsOnly};
-ghost use Rattle.node_values.specs.Trees.{AreInnermost};
 ghost use Rattle.late_list.specs.Late.{IsAnswer};
 ghost use Rattle.late_list.specs.declared.late.LateRule.{LateRule};
 ghost use Rattle.late_list.specs.declared.late.LateRule.TheVariants as r;
 ghost use Rattle.gv_base.specs.declared.place.Place.{Place};
 ghost use Rattle.body_rules.specs.Asked.{acts_at, is_marked, is_asked};
-ghost use Rattle.body_rules.specs.Branches.{stops, Leaves};
+ghost use Rattle.body_rules.specs.Branches.{Leaves};
 ghost use Rattle.body_rules.specs.Endings.{flag_of};
 ghost use Rattle.body_rules.specs.Files.{GoesOver, GoesInto, IsStray, IsUnfinished, IsMisplacedFall, IsUnused, IsFaultIn};
 ghost use Rattle.body_rules.specs.Given.{given};
+ghost use Rattle.body_rules.specs.Jumping.{AreNearest};
 ghost use Rattle.body_rules.specs.Views.{IsRead};
 
 use crate::branches::{Branch, Jumping, left_of};
@@ -47,10 +47,10 @@ fn goes_into(v: &View, n: usize) -> bool
     }
 }
 
-/// The innermost nodes that such a word leaves, or functions.
+/// The innermost nodes that such a word leaves, or functions, if a statement asks for them.
 fn nearest<'a>(v: &'a View, which: Branch) -> &'a [Option<usize>]
     requires { IsRead v.now }
-    ensures { AreInnermost (stops which) v.now.file.now.nodes.now result.now }
+    ensures { AreNearest which v.now.file.now.nodes.now result.now }
 {
     match which {
         Branch::Break => &v.breaks,

@@ -4,15 +4,15 @@ ghost use Rattle.node_values.specs.Parents.{AreParents};
 ghost use Rattle.node_values.specs.Ranges.{starts};
 ghost use Rattle.node_values.specs.Trees.{IsTree, IsOfKind, AreInnermost};
 ghost use Rattle.body_rules.specs.declared.branches.Branch.TheVariants as w;
-ghost use Rattle.body_rules.specs.Branches.{stops};
 ghost use Rattle.body_rules.specs.Files.{IsFile, Reads, AreRead};
 ghost use Rattle.body_rules.specs.Given.{given};
 ghost use Rattle.body_rules.specs.Hands.{AreClauseEnds};
+ghost use Rattle.body_rules.specs.Jumping.{AreNearest};
 ghost use Rattle.body_rules.specs.Kinds.{is_block, is_goto, is_fall};
 ghost use Rattle.body_rules.specs.Latest.{AreLatest};
 ghost use Rattle.body_rules.specs.Views.{AreEndings, IfAny, IsRead};
 
-use crate::branches::{Branch, Jumping, left_flags, nearest_of};
+use crate::branches::{Branch, Jumping, left_flags, nearest_in};
 use crate::endings::{Ending, Endings, endings_of, flag_at};
 use crate::file::File;
 use crate::hands::{alone_of, clause_ends};
@@ -168,7 +168,7 @@ fn endings_in(
     requires file { IsFile (given f.now) }
     requires parents { AreParents f.now.nodes.now (length f.now.nodes.now) parents.now }
     requires begins { begins.now ≡ starts f.now.nodes.now }
-    requires breaks { AreInnermost (stops w.Break) f.now.nodes.now breaks.now }
+    requires breaks { AreNearest w.Break f.now.nodes.now breaks.now }
     ensures { IfOk result (λ found. AreEndings (given f.now) found.items) }
 {
     let jumping = Jumping {
@@ -197,8 +197,8 @@ pub(crate) fn view_of<'a>(alloc: Global, f: &'a File<'a>) -> Result<View<'a>, No
     let parents = parents_of(alloc, f.nodes)?;
     let begins = starts_of(alloc, f.nodes)?;
     let blocks = blocks_in(alloc, f.nodes, &parents)?;
-    let breaks = nearest_of(alloc, Branch::Break, f.nodes, &parents)?;
-    let continues = nearest_of(alloc, Branch::Continue, f.nodes, &parents)?;
+    let breaks = nearest_in(alloc, Branch::Break, f.nodes, &parents)?;
+    let continues = nearest_in(alloc, Branch::Continue, f.nodes, &parents)?;
     let latest = latest_in(alloc, f.nodes, &blocks)?;
     let endings = endings_in(alloc, f, &parents, &begins, &breaks)?;
     let clause_ends = clause_ends_in(alloc, f.nodes, &parents)?;

@@ -1,6 +1,11 @@
-use Rattle.std.proofs.Common.{ℕ, List, Option, length, refl, subst}
+use Rattle.std.proofs.Common.{ℕ, List, Option, length, refl, sym, subst}
+use Rattle.body_rules.specs.declared.branches.Branch.TheVariants as w
+use Rattle.body_rules.specs.Jumping.{AreNearest}
 use Rattle.body_rules.specs.Latest.{AreLatest}
 use Rattle.body_rules.proofs.view.view_of.Goals as goal
+
+pub endings_in-requires-clause-breaks : goal.endings_in-requires-clause-breaks
+endings_in-requires-clause-breaks c = subst (λ (found : List (Option ℕ)). AreNearest w.Break c.args.f.now.nodes.now found) (sym c.deref-7.ensures.value) c.in_ok-breaks.ensures
 
 pub returns : goal.returns
 returns c = (
