@@ -1,5 +1,5 @@
 -- Methods that take and give nothing: as they are found, and as method sets have them.
-use Rattle.std.proofs.Common.{◌≡◌, ◌↔◌, ◌⊎◌, ◌&&◌, ◌||◌, not, ℕ, Bool, true, false, cond, List, [], ◌∷◌, map, Some, refl, sym, ap, ◌∙◌, subst, inl, inr, arith}
+use Rattle.std.proofs.Common.{◌≡◌, ◌↔◌, ◌⊎◌, ◌&&◌, ◌||◌, not, ℕ, Bool, true, false, cond, List, [], ◌∷◌, map, Option, Some, None, refl, sym, ap, ◌∙◌, subst, inl, inr, arith}
 use Rattle.std.proofs.Math.Path.{fun_ext}
 use Rattle.std.specs.Bool.{Decides}
 use Rattle.std.specs.List.{Contains, find}
@@ -13,7 +13,7 @@ use Rattle.type_model.specs.declared.term.TypeId.{TypeId}
 use Rattle.type_model.specs.declared.table.TypeTable.{TypeTable}
 use Rattle.type_model.specs.GoTypes.{GoType, BasicType, DefinedType, PointerTo, SliceOf, ArrayOf, MapOf, ChanOf, FuncOf, StructOf, InterfaceOf, GoSignature, From, NoType, AndType, GoTypes, GoMethods, types_at, signature_of}
 use Rattle.type_model.specs.Parts.{GoMethod, method_of}
-use Rattle.type_model.specs.Declarations.{Declarations, under_of}
+use Rattle.type_model.specs.Declarations.{Declarations, under_of, held}
 use Rattle.type_model.specs.Tables.{types_in, declarations_in}
 use Rattle.method_sets.specs.declared.selection.Selected.{Selected}
 use Rattle.method_sets.specs.declared.selection.Selected.TheVariants as selected
@@ -22,8 +22,8 @@ use Rattle.method_sets.specs.declared.selection.Selection.TheVariants as selecti
 use Rattle.method_sets.specs.Members.{Name, selector, identifier, Part, AField, AMethod, Member, meets, members, member_of}
 use Rattle.method_sets.specs.Paths.{is_pointer, base, IsDefinedPointer, IsInterface, Begins, Selects, IsAmbiguous, NoPath}
 use Rattle.method_sets.specs.Selections.{Shows, IsGiven, IsSelection, IsInSet, IsMethodSet}
-use Rattle.lock_types.specs.Locks.{plain, plain_method, HasMethod, HasBoth, is_struct, is_struct_type, IsLocker}
-use Rattle.lock_types.specs.InTable.{is_empty, is_plain, is_plain_method, any_plain, is_plain_part, is_plain_selection}
+use Rattle.lock_types.specs.Locks.{plain, plain_method, HasMethod, HasBoth, is_struct, is_struct_type, IsLocker, IsLock, ByItself, ByPart}
+use Rattle.lock_types.specs.InTable.{is_empty, is_plain, is_plain_method, any_plain, is_plain_part, is_plain_selection, holds, holds_type}
 
 and_cases : (a b : Bool) → (a && b) ≡ true → (a ≡ true) × (b ≡ true)
 and_cases true true e = (refl, refl)
@@ -350,3 +350,41 @@ pub no_struct : (ds : Declarations) (of : GoType) → is_struct_type ds of ≡ f
 no_struct ds of failed = (λ e. absurd (cc), λ l. absurd (differ (is_struct_type ds of) failed l.struct)) where
   differ : (b : Bool) → b ≡ false → b ≡ true → ⊥
   differ b p q = cc
+
+-- ---- what holds nothing is no lock type
+
+no_struct_held : (x : GoType) → holds x ≡ false → is_struct x ≡ false
+no_struct_held (BasicType kind) e = refl
+no_struct_held (DefinedType name) e = refl
+no_struct_held (PointerTo of) e = refl
+no_struct_held (SliceOf of) e = refl
+no_struct_held (ArrayOf size of) e = refl
+no_struct_held (MapOf key of) e = refl
+no_struct_held (ChanOf direction of) e = refl
+no_struct_held (FuncOf of) e = refl
+no_struct_held (StructOf fields) e = absurd (cc)
+no_struct_held (InterfaceOf methods) e = refl
+
+none_held : (ds : Declarations) (x : GoType) → holds x ≡ false → held ds x ≡ []
+none_held ds (BasicType kind) e = refl
+none_held ds (DefinedType name) e = absurd (cc)
+none_held ds (PointerTo of) e = refl
+none_held ds (SliceOf of) e = refl
+none_held ds (ArrayOf size of) e = absurd (cc)
+none_held ds (MapOf key of) e = refl
+none_held ds (ChanOf direction of) e = refl
+none_held ds (FuncOf of) e = refl
+none_held ds (StructOf fields) e = absurd (cc)
+none_held ds (InterfaceOf methods) e = refl
+
+none_under : (ds : Declarations) (o : Option GoType) → option_map_or holds o false ≡ false → (option_map_or is_struct o false ≡ false) × (option_map_or (held ds) o [] ≡ [])
+none_under ds None e = (refl, refl)
+none_under ds (Some x) e = (no_struct_held x e, none_held ds x e)
+
+pub unlocked : (ds : Declarations) (of : GoType) → holds_type ds of ≡ false → IsLock ds of → ⊥
+unlocked ds of none (ByItself _ l) = differ (is_struct_type ds of) (none_under ds (under_of ds of) none).0 l.struct where
+  differ : (b : Bool) → b ≡ false → b ≡ true → ⊥
+  differ b p q = cc
+unlocked ds of none (ByPart _ part there lock) = nowhere part (subst (λ (l : List GoType). Contains l part) (none_under ds (under_of ds of) none).1 there) where
+  nowhere : (x : GoType) → Contains [] x → ⊥
+  nowhere x (k, low, e) = omega (arith, low)

@@ -1,5 +1,6 @@
 -- Lock types of a table, in code.
 use Rattle.std.specs.Prelude.{◌≡◌, ℕ, ◌<◌, ◌↔◌, ◌&&◌, ◌||◌, not, Bool, true, false, List, [], ◌∷◌, length, map, Some, slice_get, slice_index_or, bytes_eq}
+use Rattle.std.specs.Option.{option_map_or}
 use Rattle.type_model.specs.declared.term.Field.{Field}
 use Rattle.type_model.specs.declared.term.Method.{Method}
 use Rattle.type_model.specs.declared.term.Signature.{Signature}
@@ -7,7 +8,8 @@ use Rattle.type_model.specs.declared.term.Term.{Term}
 use Rattle.type_model.specs.declared.term.Term.TheVariants.{Basic, Defined, Pointer, Slice, Array, Map, Chan, Func, Struct, Interface}
 use Rattle.type_model.specs.declared.term.TypeId.{TypeId}
 use Rattle.type_model.specs.declared.table.TypeTable.{TypeTable}
-use Rattle.type_model.specs.GoTypes.{GoType, type_number}
+use Rattle.type_model.specs.Declarations.{Declarations, under_of}
+use Rattle.type_model.specs.GoTypes.{GoType, BasicType, DefinedType, PointerTo, SliceOf, ArrayOf, MapOf, ChanOf, FuncOf, StructOf, InterfaceOf, type_number}
 use Rattle.type_model.specs.Tables.{types_in, count, declarations_in}
 use Rattle.need_order.specs.declared.needed.Needed.{Needed}
 use Rattle.method_sets.specs.declared.selection.Selected.{Selected}
@@ -42,6 +44,24 @@ abbrev pub is_plain_selection : Selection → Bool
 is_plain_selection (selection.Found path kind) = is_plain_part kind
 is_plain_selection (selection.Ambiguous depth) = false
 is_plain_selection selection.Absent = false
+
+-- ---- types that may be lock types
+
+-- what may hold others: a struct or an array, or what is declared with one
+abbrev pub holds : GoType → Bool
+holds (BasicType kind) = false
+holds (DefinedType name) = true
+holds (PointerTo of) = false
+holds (SliceOf of) = false
+holds (ArrayOf size of) = true
+holds (MapOf key of) = false
+holds (ChanOf direction of) = false
+holds (FuncOf of) = false
+holds (StructOf fields) = true
+holds (InterfaceOf methods) = false
+
+abbrev pub holds_type : Declarations → GoType → Bool
+holds_type ds of = option_map_or holds (under_of ds of) false
 
 -- ---- parts
 

@@ -6,3 +6,4 @@ mod parts;
 mod plain;
 
 pub use flags::lock_types;
+pub use plain::may_be_lock;

@@ -1,9 +1,9 @@
 //! Methods that take and give nothing.
-ghost use Rattle.std.specs.Prelude.{◌≡◌, ◌<◌, ◌↔◌, ◌&&◌, List, [], codes, IfOk, true, bytes_eq};
+ghost use Rattle.std.specs.Prelude.{◌≡◌, ◌<◌, ◌↔◌, ◌&&◌, List, [], codes, IfOk, true, false, bytes_eq};
 ghost use Rattle.type_model.specs.GoTypes.{GoType, type_at, type_of, PointerTo};
 ghost use Rattle.type_model.specs.Tables.{IsTable, types_in, count, declarations_in};
-ghost use Rattle.lock_types.specs.Locks.{is_struct, is_struct_type, HasMethod, HasBoth, IsLocker};
-ghost use Rattle.lock_types.specs.InTable.{is_empty, is_plain, is_plain_method, any_plain, is_plain_part, is_plain_selection};
+ghost use Rattle.lock_types.specs.Locks.{is_struct, is_struct_type, HasMethod, HasBoth, IsLocker, IsLock};
+ghost use Rattle.lock_types.specs.InTable.{is_empty, is_plain, is_plain_method, any_plain, is_plain_part, is_plain_selection, holds, holds_type};
 
 use gv_base::NoMemory;
 use method_sets::{Selected, Selection, method_set, one_selection, select};
@@ -171,4 +171,52 @@ pub fn is_locker(alloc: Global, t: &TypeTable, id: TypeId) -> Result<bool, NoMem
         return Ok(locks);
     }
     Ok(false)
+}
+
+// ---- types that may be lock types
+
+fn holds(term: &Term) -> bool
+    ensures { (types : List GoType) → result ≡ holds (type_of types term.now) }
+{
+    match term {
+        Term::Struct(_) => true,
+        Term::Array(_, _) => true,
+        Term::Basic(_) => false,
+        Term::Defined(_) => true,
+        Term::Pointer(_) => false,
+        Term::Slice(_) => false,
+        Term::Map(_, _) => false,
+        Term::Chan(_, _) => false,
+        Term::Func(_) => false,
+        Term::Interface(_) => false,
+    }
+}
+
+fn holds_at(t: &TypeTable, u: TypeId) -> bool
+    requires table { IsTable t.now }
+    requires within { u.0 < count t.now }
+    ensures { result ≡ holds (type_at (types_in t.now) u) }
+{
+    holds(t.term(u))
+}
+
+fn holds_type(t: &TypeTable, id: TypeId) -> bool
+    requires table { IsTable t.now }
+    requires within { id.0 < count t.now }
+    ensures { result ≡ holds_type (declarations_in t.now) (type_at (types_in t.now) id) }
+{
+    match t.underlying(id) {
+        Some(u) => holds_at(t, u),
+        None => false,
+    }
+}
+
+/// Whether a type is a struct or an array. Others are no lock types.
+pub fn may_be_lock(t: &TypeTable, id: TypeId) -> bool
+    requires table { IsTable t.now }
+    requires within { id.0 < count t.now }
+    ensures is { result ≡ holds_type (declarations_in t.now) (type_at (types_in t.now) id) }
+    ensures none { result ≡ false → IsLock (declarations_in t.now) (type_at (types_in t.now) id) → ⊥ }
+{
+    holds_type(t, id)
 }

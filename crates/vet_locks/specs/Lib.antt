@@ -1,2 +1,3 @@
 pub mod Suspects
 pub mod CopyLocks
+pub mod Held

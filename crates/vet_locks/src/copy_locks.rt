@@ -12,6 +12,7 @@ ghost use Rattle.lock_types.specs.InTable.{lock_at, AreLocks};
 ghost use Rattle.vet_locks.specs.Suspects.{count_of};
 ghost use Rattle.vet_locks.specs.CopyLocks.{known_as, suspect_type, IsLockSuspect, told_of, IsToldOf, IsNthTold, IsLockCopy, AreLockCopies, AreLocksOf};
 
+use crate::held::may_tell_any;
 use crate::suspected::Suspect;
 use crate::suspects::{count_of, suspect_at};
 use crate::texts::text_of;
@@ -49,7 +50,7 @@ fn known_as(p: &Pass, file: u32, stage: Stage, n: u32) -> Option<Facts>
     }
 }
 
-fn suspect_type(p: &Pass, file: u32, s: Suspect) -> Option<TypeId>
+pub(crate) fn suspect_type(p: &Pass, file: u32, s: Suspect) -> Option<TypeId>
     requires { IsPass p.now }
     ensures is { option_map (type_in p.now.state.now) result ≡ suspect_type (marks_in p.now) file s }
     ensures over { MayBeTypeOf p.now.state.now result }
@@ -204,6 +205,20 @@ fn locks_of(alloc: Global, t: &TypeTable) -> Result<Vec<bool>, NoMemory>
     Ok(locks)
 }
 
+/// All of a package, with the lock types of its table.
+fn run_over_locks(alloc: Global, p: &Pass) -> Result<Vec<Diagnostic>, NoMemory>
+    requires { IsPass p.now }
+    ensures { IfOk result (λ found. AreLockCopies (unit_in p.now) (marks_in p.now) found.items) }
+{
+    let locks = locks_of(alloc, &p.state.table)?;
+    let rule = OverLocks {
+        pass: p,
+        locks: &locks,
+    };
+    let found = run_over_nodes(alloc, &rule, p)?;
+    Ok(found)
+}
+
 /// Values of lock types that are copied.
 #[derive(Drop)]
 pub struct CopyLocks;
@@ -214,12 +229,10 @@ impl CopyLocks {
         requires { IsPass pass.now }
         ensures { IfOk result (λ found. AreLockCopies (unit_in pass.now) (marks_in pass.now) found.items) }
     {
-        let locks = locks_of(alloc, &pass.state.table)?;
-        let rule = OverLocks {
-            pass,
-            locks: &locks,
-        };
-        let found = run_over_nodes(alloc, &rule, pass)?;
+        if !may_tell_any(pass) {
+            return Ok(Vec::new(alloc));
+        }
+        let found = run_over_locks(alloc, pass)?;
         Ok(found)
     }
 }

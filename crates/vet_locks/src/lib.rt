@@ -3,6 +3,7 @@
 
 mod copy_locks;
 mod entries;
+mod held;
 mod made;
 mod suspected;
 mod suspects;

@@ -1,4 +1,3 @@
-use Rattle.std.proofs.Common.{true}
 use Rattle.std.specs.Prelude.{codes}
 use Rattle.type_model.specs.GoTypes.{type_at, PointerTo}
 use Rattle.type_model.specs.Tables.{types_in, declarations_in}
