@@ -6,6 +6,8 @@ use Rattle.std.specs.Option.{option_map_or}
 use Rattle.std.proofs.lemmas.Option.{slice_get_within}
 use Rattle.fact_codec.specs.declared.wraps.WrapKind.{WrapKind}
 use Rattle.fact_codec.specs.declared.wraps.WrapKind.TheVariants as wrap
+use Rattle.go_tree.specs.declared.bindings.Object.{Object}
+use Rattle.go_tree.specs.declared.bindings.Object.TheVariants as object
 use Rattle.go_tree.specs.declared.tree.Node.{Node}
 use Rattle.go_tree.specs.declared.tree.NodeKind.{NodeKind}
 use Rattle.go_tree.specs.declared.tree.NodeKind.TheVariants as form
@@ -16,13 +18,14 @@ use Rattle.member_names.specs.Named.{IsNamed}
 use Rattle.member_names.specs.InCode.{named_in, found_named, Finds}
 use Rattle.typed_marks.specs.declared.item.Item.{Item}
 use Rattle.typed_marks.specs.Meanings.{Meaning}
-use Rattle.unit_read.specs.Units.{Unit, nodes_at}
+use Rattle.object_order.specs.Spots.{place}
+use Rattle.unit_read.specs.Units.{Unit, nodes_at, object_at, first_spelled}
 use Rattle.vet_words.specs.Forms.{is_selector}
-use Rattle.vet_words.specs.Called.{function_by, function_of}
+use Rattle.vet_words.specs.Called.{function_by, function_of, own_function}
 use Rattle.vet_printf.specs.declared.known.Known.{Known}
 use Rattle.vet_printf.specs.declared.printing.Printing.{Printing}
 use Rattle.vet_printf.specs.Calls.{kinds_at}
-use Rattle.vet_printf.specs.Items.{sets_of, has_name, may_name, prints, kinds_of_member, IsKindsCell, AreKindsRow, AreKindsRows}
+use Rattle.vet_printf.specs.Items.{sets_of, is_declared, may_name_by, may_name, prints, kinds_of_member, IsKindsCell, AreKindsRow, AreKindsRows}
 use Rattle.vet_printf.specs.Knowing.{handed_in}
 use Rattle.vet_printf.specs.Verbs.{has_flag}
 use Rattle.vet_printf.specs.Wraps.{number_of, NamesPrinting}
@@ -83,24 +86,31 @@ module _ (k : Known) (u : Unit) (marks : Item → Meaning) (x : Printing) where
   apart : {C : Type 0} (y : List ℕ × List ℕ) → None ≡ Some y → C
   apart y e = absurd (cc)
 
-  called_by : (f n : ℕ) (at : Node) (kind : NodeKind) (y : List ℕ × List ℕ) → function_by u marks f n at kind ≡ Some y → has_name kind ≡ true
-  called_by f n at form.Name y e = refl
+  declared_by : (spelled : List ℕ) (o : Option Object) (y : List ℕ × List ℕ) → option_and_then (own_function u spelled) o ≡ Some y → option_map_or is_declared o false ≡ true
+  declared_by spelled None y e = apart y e
+  declared_by spelled (Some (object.Package at)) y e = refl
+  declared_by spelled (Some (object.Universe i)) y e = apart y e
+  declared_by spelled (Some (object.Import at)) y e = apart y e
+  declared_by spelled (Some (object.Local at)) y e = apart y e
+
+  called_by : (f n : ℕ) (at : Node) (kind : NodeKind) (y : List ℕ × List ℕ) → function_by u marks f n at kind ≡ Some y → may_name_by u f n kind ≡ true
+  called_by f n at form.Name y e = declared_by (first_spelled u f at) (object_at u (place f n)) y e
   called_by f n at form.Selector y e = refl
   called_by f n at _ y e = apart y e
 
-  selector_named : (kind : NodeKind) → is_selector kind ≡ true → has_name kind ≡ true
-  selector_named form.Selector e = refl
-  selector_named _ e = absurd (cc)
+  selector_named : (f n : ℕ) (kind : NodeKind) → is_selector kind ≡ true → may_name_by u f n kind ≡ true
+  selector_named f n form.Selector e = refl
+  selector_named f n _ e = absurd (cc)
 
-  there_named : (f n : ℕ) (at : Node) → slice_get (nodes_at u f) n ≡ Some at → has_name at.kind ≡ true → may_name u f n ≡ true
-  there_named f n at there named = ap (λ (o : Option Node). option_map_or (λ (x : Node). has_name x.kind) o false) there ∙ named
+  there_named : (f n : ℕ) (at : Node) → slice_get (nodes_at u f) n ≡ Some at → may_name_by u f n at.kind ≡ true → may_name u f n ≡ true
+  there_named f n at there named = ap (λ (o : Option Node). option_map_or (λ (x : Node). may_name_by u f n x.kind) o false) there ∙ named
 
   name_there : (f n : ℕ) (y : List ℕ × List ℕ) → IsNamed u marks f n y → may_name u f n ≡ true
   name_there f n y (inl e) = by (slice_get (nodes_at u f) n) refl e where
     by : (o : Option Node) → slice_get (nodes_at u f) n ≡ o → option_and_then (function_of u marks f n) o ≡ Some y → may_name u f n ≡ true
     by None there e = apart y e
     by (Some at) there e = there_named f n at there (called_by f n at at.kind y e)
-  name_there f n y (inr (none, (at, there, rest))) = there_named f n at there (selector_named at.kind rest.0)
+  name_there f n y (inr (none, (at, there, rest))) = there_named f n at there (selector_named f n at.kind rest.0)
 
   pub cell_other : (f n : ℕ) (b : Bool) → b ≡ may_name u f n → b ≡ false → IsKindsCell k u marks x f n 0
   cell_other f n b told out = record { each = λ kind. (λ h. absurd (no_flag kind h), λ (y, named, h). absurd (not_both (may_name u f n) (name_there f n y named) (sym told ∙ out))) } where

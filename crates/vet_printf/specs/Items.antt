@@ -3,6 +3,8 @@ use Rattle.std.specs.Prelude.{if◌then◌else◌, ◌≡◌, ◌↔◌, ℕ, �
 use Rattle.std.specs.Global.{Vec}
 use Rattle.std.specs.List.{list_any}
 use Rattle.std.specs.Option.{option_map_or}
+use Rattle.go_tree.specs.declared.bindings.Object.{Object}
+use Rattle.go_tree.specs.declared.bindings.Object.TheVariants as object
 use Rattle.go_tree.specs.declared.tree.Node.{Node}
 use Rattle.go_tree.specs.declared.tree.NodeKind.{NodeKind}
 use Rattle.go_tree.specs.declared.tree.NodeKind.TheVariants as form
@@ -14,7 +16,7 @@ use Rattle.object_order.specs.Spots.{place}
 use Rattle.own_functions.specs.Functions.{functions, names, first_of, number, member_at, declared_at}
 use Rattle.typed_marks.specs.declared.item.Item.{Item}
 use Rattle.typed_marks.specs.Meanings.{Meaning}
-use Rattle.unit_read.specs.Units.{Unit, nodes_at}
+use Rattle.unit_read.specs.Units.{Unit, nodes_at, object_at}
 use Rattle.fact_codec.specs.declared.wraps.WrapKind.{WrapKind}
 use Rattle.fact_codec.specs.declared.wraps.WrapKind.TheVariants as wrap
 use Rattle.fact_codec.specs.declared.wraps.Wraps.{Wraps}
@@ -109,15 +111,21 @@ prints k u kind flags path name = handed_in k (member path name (number_of kind)
 abbrev pub kinds_of_member : Known → Unit → Printing → List ℕ → List ℕ → ℕ
 kinds_of_member k u x path name = kinds_number (prints k u wrap.Print x.print.items path name) (prints k u wrap.Printf x.printf.items path name) (prints k u wrap.Errorf x.errorf.items path name)
 
--- the kinds of nodes that name functions and methods
-abbrev pub has_name : NodeKind → Bool
-has_name form.Name = true
-has_name form.Selector = true
-has_name _ = false
+-- it is declared in the package, outside of functions
+abbrev pub is_declared : Object → Bool
+is_declared (object.Package at) = true
+is_declared (object.Universe i) = false
+is_declared (object.Import at) = false
+is_declared (object.Local at) = false
 
--- the node is of such a kind
+-- a node of such a kind may name a function or method: a name that denotes what the package declares, or a selector
+abbrev pub may_name_by : Unit → ℕ → ℕ → NodeKind → Bool
+may_name_by u f n form.Name = option_map_or is_declared (object_at u (place f n)) false
+may_name_by u f n form.Selector = true
+may_name_by u f n _ = false
+
 abbrev pub may_name : Unit → ℕ → ℕ → Bool
-may_name u f n = option_map_or (λ (x : Node). has_name x.kind) (slice_get (nodes_at u f) n) false
+may_name u f n = option_map_or (λ (x : Node). may_name_by u f n x.kind) (slice_get (nodes_at u f) n) false
 
 -- the number says in which ways what a node names prints
 pub record IsKindsCell (k : Known) (u : Unit) (marks : Item → Meaning) (x : Printing) (f n c : ℕ) : Type 0 where

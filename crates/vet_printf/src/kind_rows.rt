@@ -1,7 +1,10 @@
 //! In which ways what nodes name prints.
-ghost use Rattle.std.specs.Prelude.{◌≡◌, ◌≤◌, ◌^◌, IfOk};
+ghost use Rattle.std.specs.Prelude.{◌≡◌, ◌≤◌, ◌^◌, false, IfOk};
+ghost use Rattle.std.specs.Option.{option_map_or};
+ghost use Rattle.object_order.specs.Spots.{place};
+ghost use Rattle.unit_read.specs.Units.{object_at};
 ghost use Rattle.findings.specs.Passes.{unit_in, marks_in, IsPass};
-ghost use Rattle.vet_printf.specs.Items.{has_name, may_name, prints, kinds_of_member, IsKindsCell, AreKindsCells, AreKindsRow, AreKindsRows};
+ghost use Rattle.vet_printf.specs.Items.{is_declared, may_name_by, may_name, prints, kinds_of_member, IsKindsCell, AreKindsCells, AreKindsRow, AreKindsRows};
 ghost use Rattle.vet_printf.specs.Knowing.{IsKnown};
 
 use crate::kinds::kinds_number;
@@ -10,7 +13,7 @@ use crate::printing::{Printing, is_marked};
 use crate::spreads::node_count;
 use fact_codec::WrapKind;
 use findings::Pass;
-use go_tree::NodeKind;
+use go_tree::{NodeKind, NodeRef, Object};
 use gv_base::NoMemory;
 use member_names::{Named, named_at};
 use package_objects::node_of;
@@ -41,18 +44,46 @@ fn kinds_of_member(p: &Pass, known: &Known<'_, '_>, x: &Printing, m: &Named) -> 
     Ok(kinds_number(print, printf, errorf))
 }
 
-fn has_name(kind: NodeKind) -> bool
-    ensures { result ≡ has_name kind }
+fn is_declared(object: Object) -> bool
+    ensures { result ≡ is_declared object }
 {
-    matches!(kind, NodeKind::Name | NodeKind::Selector)
+    match object {
+        Object::Package(_) => true,
+        Object::Universe(_) => false,
+        Object::Import(_) => false,
+        Object::Local(_) => false,
+    }
 }
 
-/// Whether a node is of a kind that names something. Most are not.
+fn denotes_declared(p: &Pass, file: u32, n: u32) -> bool
+    requires { IsPass p.now }
+    ensures { result ≡ option_map_or is_declared (object_at (unit_in p.now) (place file n)) false }
+{
+    let at = NodeRef { file, node: n };
+    match p.subject.object_at(at) {
+        Some(object) => is_declared(object),
+        None => false,
+    }
+}
+
+fn may_name_by(p: &Pass, file: u32, n: u32, kind: NodeKind) -> bool
+    requires { IsPass p.now }
+    ensures { result ≡ may_name_by (unit_in p.now) file n kind }
+{
+    match kind {
+        NodeKind::Name => denotes_declared(p, file, n),
+        NodeKind::Selector => true,
+        _ => false,
+    }
+}
+
+/// Whether a node may name a function or method. Most don't.
 fn may_name(p: &Pass, file: u32, n: u32) -> bool
+    requires { IsPass p.now }
     ensures { result ≡ may_name (unit_in p.now) file n }
 {
     match node_of(p.subject.nodes_at(file), n) {
-        Some(node) => has_name(node.kind),
+        Some(node) => may_name_by(p, file, n, node.kind),
         None => false,
     }
 }
