@@ -1,11 +1,12 @@
 //! Texts beside the numbers by which they are spread: a text that several look-ups have in common is gone through once.
-ghost use Rattle.std.specs.Prelude.{◌≡◌, ◌==◌, ◌<◌, ◌^◌, ◌++◌, ◌∷◌, [], ℕ, List, IfOk, OnOk, OnErr, map, option_map};
-ghost use Rattle.fact_cache.specs.Spread.{mixed, mixed_numbers, bucket_of, head_of, is_same_key, AreSpread};
+ghost use Rattle.std.specs.Prelude.{◌≡◌, ◌<◌, ◌^◌, ◌++◌, ◌∷◌, [], ℕ, List, IfOk, OnOk, OnErr, map, option_map};
+ghost use Rattle.fact_cache.specs.Spread.{mixed, mixed_numbers, bucket_of, head_of, text_mix, AreSpread};
 ghost use Rattle.fact_cache.specs.Caches.{lookup};
 ghost use Rattle.fact_cache.specs.Numbered.{entry_in, IsCache};
 
 use crate::index::Index;
 use crate::kept::Kept;
+use crate::keyed::{Keyed, is_key};
 use crate::numbered::Numbered;
 use crate::slices::{bucket, seek_from};
 use crate::spread::{Key, input_head, mix_number, text_number};
@@ -64,18 +65,20 @@ fn push_both<'a>(
 }
 
 /// Adds a text beside its number.
-fn push_text<'a>(
+fn push_numbered<'a>(
     key: Key,
     texts: &mut Vec<&'a [u8]>,
     numbers: &mut Vec<u64>,
     text: &'a [u8],
+    number: u64,
 ) -> Result<(), NoMemory>
     requires spread { AreSpread key (map (λ t. t.now) texts.old.items) numbers.old.items }
+    requires number { number ≡ text_mix key text.now }
     ensures spread { AreSpread key (map (λ t. t.now) texts.new.items) numbers.new.items }
     ensures put { OnOk result (map (λ t. t.now) texts.new.items ≡ map (λ t. t.now) texts.old.items ++ text.now ∷ []) }
     ensures same { OnErr result (map (λ t. t.now) texts.new.items ≡ map (λ t. t.now) texts.old.items) }
 {
-    push_both(texts, numbers, text, text_number(key, text))?;
+    push_both(texts, numbers, text, number)?;
     Ok(())
 }
 
@@ -108,21 +111,6 @@ fn made<'a>(key: Key, texts: Vec<&'a [u8]>, numbers: Vec<u64>) -> Parts<'a>
         texts,
         numbers,
     }
-}
-
-fn is_same(a: u64, b: u64) -> bool
-    ensures { result ≡ (a == b) }
-{
-    a == b
-}
-
-fn is_key(a: Key, b: Key) -> bool
-    ensures { result ≡ is_same_key a b }
-{
-    if !is_same(a.point, b.point) {
-        return false;
-    }
-    is_same(a.factor, b.factor)
 }
 
 fn mix_all(key: Key, seed: u64, numbers: &[u64]) -> u64
@@ -173,7 +161,23 @@ impl<'a> Parts<'a> {
         ensures put { OnOk result (self.new ≡ self.old ++ text.now ∷ []) }
         ensures same { OnErr result (self.new ≡ self.old) }
     {
-        push_text(self.key, &mut self.texts, &mut self.numbers, text)
+        let number = text_number(self.key, text);
+        push_numbered(self.key, &mut self.texts, &mut self.numbers, text, number)
+    }
+
+    /// Adds a text that has its number, which is made anew only where it is by another key.
+    pub fn push_keyed(&mut self, text: &'a Keyed) -> Result<(), NoMemory>
+        ensures put { OnOk result (self.new ≡ self.old ++ text.now ∷ []) }
+        ensures same { OnErr result (self.new ≡ self.old) }
+    {
+        let number = text.number(self.key);
+        push_numbered(
+            self.key,
+            &mut self.texts,
+            &mut self.numbers,
+            text.as_slice(),
+            number,
+        )
     }
 
     /// The same texts, to which others may be added. None of them is gone through.

@@ -3,6 +3,7 @@ ghost use Rattle.std.specs.Prelude.{◌≡◌, ◌∷◌, IfOk, drop};
 ghost use Rattle.gv_driver.specs.Tables.{answer_in, answer_text, begins_with_one, export_part, is_good};
 
 use crate::node::Answer;
+use fact_cache::Cache;
 use gv_base::{Bytes, NoMemory};
 use std::alloc::Global;
 
@@ -22,12 +23,12 @@ fn tail(text: &[u8]) -> &[u8]
 }
 
 /// The answer that an outcome text tells.
-pub(crate) fn read_answer(alloc: Global, text: &[u8]) -> Result<Answer, NoMemory>
+pub(crate) fn read_answer(alloc: Global, cache: &Cache, text: &[u8]) -> Result<Answer, NoMemory>
     ensures { IfOk result (λ a. a ≡ answer_in text.now) }
 {
     let rest = Bytes::counted(alloc, tail(tail(text)))?;
     if begins_with_one_byte(text) {
-        Ok(Answer::Accepted(rest))
+        Ok(Answer::Accepted(cache.keyed(rest)))
     } else {
         Ok(Answer::Refused(rest))
     }

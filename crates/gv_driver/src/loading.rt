@@ -18,7 +18,7 @@ use fact_cache::{Cache, Input, Parts};
 use std::alloc::Global;
 
 /// What a kit gave for a load that reads this.
-fn opened<L: Drop>(key: Input, load: Load<L>) -> Begun<L>
+fn opened<L: Drop>(cache: &Cache, key: Input, load: Load<L>) -> Begun<L>
     ensures fresh { result.fresh ≡ Some key }
     ensures answer { answer_text result.answer ≡ load_text load }
     ensures loaded { result.loading.loaded ≡ loaded_in load }
@@ -27,7 +27,7 @@ fn opened<L: Drop>(key: Input, load: Load<L>) -> Begun<L>
     match load {
         Load::Accepted { loaded, export } => Begun {
             fresh: Some(key),
-            answer: Answer::Accepted(export),
+            answer: Answer::Accepted(cache.keyed(export)),
             loading: Loading {
                 loaded: Some(loaded),
                 tried: true,
@@ -68,6 +68,7 @@ fn found<L>(answer: Answer, trees: Option<Trees>) -> Begun<L>
 fn executed<K: Kit>(
     alloc: Global,
     tree: &[PackageTexts],
+    cache: &Cache,
     kit: &mut K,
     table: &[Option<Node>],
     env: &[u32],
@@ -89,7 +90,7 @@ fn executed<K: Kit>(
     let key = key_of(alloc, tree, table, env, pack)?;
     let input = load_of(alloc, tree, table, env, pack)?;
     let load = kit.load(&input, trees)?;
-    Ok(opened(key, load))
+    Ok(opened(cache, key, load))
 }
 
 /// What the cache has of a package's load, by the texts that it reads, or else what the kit gives.
@@ -117,11 +118,11 @@ pub(crate) fn begun_of<K: Kit>(
 {
     match cached(cache, 0, parts) {
         Some(outcome) => {
-            let answer = read_answer(alloc, outcome)?;
+            let answer = read_answer(alloc, cache, outcome)?;
             Ok(found(answer, trees))
         }
         None => {
-            let begun = executed(alloc, tree, kit, table, env, pack, trees)?;
+            let begun = executed(alloc, tree, cache, kit, table, env, pack, trees)?;
             Ok(begun)
         }
     }

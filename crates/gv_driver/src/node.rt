@@ -1,13 +1,13 @@
 //! What is known of a package's nodes in a run.
 use action_graph::Trees;
-use fact_cache::Input;
+use fact_cache::{Input, Keyed};
 use gv_base::{Bytes, Row};
 
 /// What came of a load.
 #[derive(Drop)]
 pub enum Answer {
-    /// Its export text.
-    Accepted(Bytes),
+    /// Its export text, which is looked up for each package that has it in its environment.
+    Accepted(Keyed),
     /// The text of its marks.
     Refused(Bytes),
 }

@@ -3,10 +3,10 @@ ghost use Rattle.std.specs.Prelude.{◌≡◌, ◌++◌, ◌∷◌, [], IfOk, On
 ghost use Rattle.action_graph.specs.Nodes.{load_texts, pairs};
 ghost use Rattle.fact_cache.specs.Caches.{lookup};
 ghost use Rattle.gv_driver.specs.Rows.{path_in};
-ghost use Rattle.gv_driver.specs.Tables.{export_in, load_over, pair_at};
+ghost use Rattle.gv_driver.specs.Tables.{export_in, export_part, load_over, pair_at};
 
-use crate::answer::{export_of, shared_export};
-use crate::node::Node;
+use crate::answer::shared_export;
+use crate::node::{Answer, Node};
 use crate::tree::PackageTexts;
 use fact_cache::{Cache, Parts};
 use gv_base::{Bytes, NoMemory, Text};
@@ -21,17 +21,7 @@ pub(crate) fn path_at(tree: &[PackageTexts], at: usize) -> &str
     }
 }
 
-fn export_at(table: &[Option<Node>], at: usize) -> &[u8]
-    ensures { result.now ≡ export_in (slice_get table.now at) }
-{
-    match table.get(at) {
-        None => b"",
-        Some(None) => b"",
-        Some(Some(node)) => export_of(&node.answer),
-    }
-}
-
-/// The same for one holder more.
+/// The export text of a package, as far as it is known, for one holder more.
 pub(crate) fn shared_export_at(
     alloc: Global,
     table: &[Option<Node>],
@@ -80,6 +70,45 @@ fn push_files<'a>(parts: &mut Parts<'a>, files: &'a [(Text, Bytes)]) -> Result<(
     Ok(())
 }
 
+/// The export text of an accepted package has its number already.
+fn push_answer<'a>(parts: &mut Parts<'a>, answer: &'a Answer) -> Result<(), NoMemory>
+    ensures { OnOk result (parts.new ≡ parts.old ++ export_part answer.now ∷ []) }
+{
+    match answer {
+        Answer::Accepted(export) => {
+            parts.push_keyed(export)?;
+            Ok(())
+        }
+        Answer::Refused(_) => {
+            push_part(parts, b"")?;
+            Ok(())
+        }
+    }
+}
+
+fn push_export_at<'a>(
+    parts: &mut Parts<'a>,
+    table: &'a [Option<Node>],
+    at: usize,
+) -> Result<(), NoMemory>
+    ensures { OnOk result (parts.new ≡ parts.old ++ export_in (slice_get table.now at) ∷ []) }
+{
+    match table.get(at) {
+        None => {
+            push_part(parts, b"")?;
+            Ok(())
+        }
+        Some(None) => {
+            push_part(parts, b"")?;
+            Ok(())
+        }
+        Some(Some(node)) => {
+            push_answer(parts, &node.answer)?;
+            Ok(())
+        }
+    }
+}
+
 fn push_export<'a>(
     parts: &mut Parts<'a>,
     tree: &'a [PackageTexts],
@@ -89,7 +118,8 @@ fn push_export<'a>(
     ensures { OnOk result (parts.new ≡ (parts.old ++ (pair_at tree.now table.now number).0 ∷ []) ++ (pair_at tree.now table.now number).1 ∷ []) }
 {
     let at = number as usize;
-    push_pair(parts, path_at(tree, at), export_at(table, at))?;
+    push_part(parts, path_at(tree, at).as_bytes())?;
+    push_export_at(parts, table, at)?;
     Ok(())
 }
 
