@@ -1,13 +1,17 @@
 -- The files of a package, as they are read.
-use Rattle.std.proofs.Common.{◌≡◌, ◌^◌, ℕ, zero, suc, ◌+◌, ◌<◌, ◌≤◌, ◌⊎◌, List, [], ◌∷◌, ◌++◌, Some, length, slice_get, refl, sym, ap, ◌∙◌, subst, inl, inr, arith, length-append}
+use Rattle.std.proofs.Common.{◌≡◌, ◌^◌, ℕ, zero, suc, ◌+◌, ◌<◌, ◌≤◌, ◌⊎◌, List, [], ◌∷◌, ◌++◌, Option, Some, None, map, length, option_map, slice_get, refl, sym, ap, ◌∙◌, subst, inl, inr, arith, length-append}
+use Rattle.std.specs.Global.{Vec}
+use Rattle.std.proofs.lemmas.Option.{slice_get-map}
 use Rattle.go_tree.specs.Arena.{arena_of}
 use Rattle.go_tree.specs.Forest.{Forest}
 use Rattle.go_tree.specs.declared.tree.FileTree.{FileTree}
 use Rattle.file_uses.specs.Read.{AreLocals}
-use Rattle.bind.specs.Answers.{IsRead, AreReadTo, AreReadOf, AreRead}
+use Rattle.scopes.specs.Regions.{file_names}
+use Rattle.scopes.specs.declared.scope.Named.{Named}
+use Rattle.bind.specs.Answers.{IsRead, AreReadTo, AreReadOf, AreRead, AreNamed, HaveNames}
 use Rattle.bind.specs.Sources.{Source, AreFiles}
 use Rattle.bind.specs.declared.file.File.{File}
-use Rattle.gv_base.proofs.Lists.{at_end, get_left}
+use Rattle.gv_base.proofs.Lists.{at_end, get_left, push_cases}
 
 -- a file of a call, and its source
 pub record IsSourceOf (t : FileTree) (e : List ℕ × List ℕ) (s : Source) : Type 0 where
@@ -97,6 +101,7 @@ pub none_of : (ts : List FileTree) (es : List (List ℕ × List ℕ)) (fs : List
 none_of ts es fs is = record {
   count = ap length is;
   fit = λ i f there. absurd (let e : slice_get [] i ≡ Some f = ap (λ l. slice_get l i) (sym is) ∙ there in cc);
+  named = λ i t f at there g arena. absurd (let e : slice_get [] i ≡ Some f = ap (λ l. slice_get l i) (sym is) ∙ there in cc);
   read = λ ss are. none_read ss fs is;
 }
 
@@ -108,6 +113,16 @@ last_or_before [] x f (suc k) e = absurd (cc)
 last_or_before (y ∷ fs) x f zero e = inl e
 last_or_before (y ∷ fs) x f (suc k) e = last_or_before fs x f k e
 
+-- one file more with the names of its trees
+named_more : (ts : List FileTree) (n : ℕ) (fs : List File) (f : File) (t : FileTree) → length fs ≡ n → slice_get ts n ≡ Some t → AreNamed ts fs → ((g : Forest) → arena_of t.tokens g ≡ t → f.locals.names.items ≡ file_names g)
+    → AreNamed ts (fs ++ f ∷ [])
+named_more ts n fs f t size at was names i u h is_t is_h g arena = elim (push_cases fs f h i is_h) [
+  | inl before ↦ was i u h is_t before g arena
+  | inr (here, same) ↦
+      let one : t ≡ u = same_tree t u (sym at ∙ (ap (λ k. slice_get ts k) (sym size ∙ sym here) ∙ is_t)) in
+      subst (λ (x : File). x.locals.names.items ≡ file_names g) same (names g (subst (λ (x : FileTree). arena_of x.tokens g ≡ x) (sym one) arena))
+]
+
 pub one_of : (ts : List FileTree) (es : List (List ℕ × List ℕ)) (n : ℕ) (old new : List File) (f : File) (t : FileTree) (e : List ℕ × List ℕ) (bytes : List ℕ) → AreReadOf ts es n old → new ≡ old ++ f ∷ []
     → slice_get ts n ≡ Some t → slice_get es n ≡ Some e → f.path.now ≡ e.0 → bytes ≡ e.1 → f.bytes.now ≡ bytes → f.tree.now ≡ t → ((g : Forest) → arena_of t.tokens g ≡ t → AreLocals bytes t g f.locals)
     → length t.nodes ≤ 2 ^ 32 → AreReadOf ts es (n + 1) new
@@ -117,8 +132,30 @@ one_of ts es n old new f t e bytes was is is_t is_e path bytes_are of_bytes tree
     | inl before ↦ was.fit i g before
     | inr same ↦ subst (λ (x : File). length x.tree.now.nodes ≤ 2 ^ 32) same (subst (λ (x : FileTree). length x.nodes ≤ 2 ^ 32) (sym tree) fit)
   ];
+  named = named_more ts n old f t was.count is_t was.named (λ g arena. (locals g arena).names);
   read = λ ss are. one_read ts es ss n old f t e are is_t is_e path (of_bytes ∙ bytes_are) tree (λ g arena. subst (λ (b : List ℕ). AreLocals b t g f.locals) bytes_are (locals g arena)) fit (was.read ss are);
 })
 
 pub all_of : (ts : List FileTree) (es : List (List ℕ × List ℕ)) (n : ℕ) (fs : List File) → length ts ≤ n → n ≤ length ts → AreReadOf ts es n fs → (ss : List Source) → AreFiles ts es ss → AreRead fs ss
 all_of ts es n fs end within was ss are = all_read ts es ss n fs are end within (was.read ss are)
+
+-- ---- the names of the files that were read
+
+abbrev names_in : File → Vec Named
+names_in f = f.locals.names
+
+names_size : (fs : List File) → length (map names_in fs) ≡ length fs
+names_size [] = refl
+names_size (f ∷ fs) = ap (λ n. suc n) (names_size fs)
+
+of_file : (o : Option File) (row : Vec Named) → option_map names_in o ≡ Some row → (f : File) × (o ≡ Some f) × (names_in f ≡ row)
+of_file None row e = absurd (cc)
+of_file (Some f) row e = (f, refl, cc)
+
+pub names_kept : (ts : List FileTree) (fs : List File) (rows : List (Vec Named)) → length fs ≡ length ts → AreNamed ts fs → rows ≡ map names_in fs → HaveNames ts rows
+names_kept ts fs rows size named are = record {
+  size = ap (λ (l : List (Vec Named)). length l) are ∙ (names_size fs ∙ size);
+  each = λ i t row is_t is_row g arena.
+      let (f, there, same) = of_file (slice_get fs i) row (sym (slice_get-map names_in fs i) ∙ (ap (λ (l : List (Vec Named)). slice_get l i) (sym are) ∙ is_row)) in
+      ap (λ (x : Vec Named). x.items) (sym same) ∙ named i t f is_t there g arena;
+}

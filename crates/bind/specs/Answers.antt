@@ -1,10 +1,14 @@
 -- What is known of the files that are read, and what a node denotes by it.
 use Rattle.std.specs.Prelude.{ℕ, zero, suc, ◌<◌, ◌≤◌, ◌^◌, ◌++◌, [], ◌∷◌, ◌≡◌, nat_lt, cond, List, length, Option, Some, None, slice_get, get_or, option_map, option_and_then, bytes_eq, codes, false}
+use Rattle.std.specs.Global.{Vec}
+use Rattle.go_tree.specs.Arena.{arena_of}
+use Rattle.go_tree.specs.Forest.{Forest}
 use Rattle.go_tree.specs.Pieces.{Spelled}
 use Rattle.go_tree.specs.declared.bindings.Object.{Object}
 use Rattle.go_tree.specs.declared.bindings.Object.TheVariants.{Universe, Import, Local, Package}
 use Rattle.go_tree.specs.declared.tree.FileTree.{FileTree}
 use Rattle.go_tree.specs.declared.tree.NodeRef.{NodeRef}
+use Rattle.scopes.specs.Regions.{file_names}
 use Rattle.scopes.specs.declared.scope.Named.{Named}
 use Rattle.file_uses.specs.Numbers.{name_in}
 use Rattle.file_uses.specs.Read.{AreLocals}
@@ -42,10 +46,20 @@ pub record AreRead (fs : List File) (ss : List Source) : Type 0 where
   pub size : length fs ≡ length ss
   pub each : (i : ℕ) (s : Source) → slice_get ss i ≡ Some s → (f : File) × (slice_get fs i ≡ Some f) × IsRead f s
 
+-- each file has the names that the trees of its nodes declare
+abbrev pub AreNamed : List FileTree → List File → Type 0
+AreNamed files fs = (i : ℕ) (t : FileTree) (f : File) → slice_get files i ≡ Some t → slice_get fs i ≡ Some f → (g : Forest) → arena_of t.tokens g ≡ t → f.locals.names.items ≡ file_names g
+
+-- the names of each file, in the order in which their regions begin
+pub record HaveNames (files : List FileTree) (rows : List (Vec Named)) : Type 0 where
+  pub size : length rows ≡ length files
+  pub each : (i : ℕ) (t : FileTree) (row : Vec Named) → slice_get files i ≡ Some t → slice_get rows i ≡ Some row → (g : Forest) → arena_of t.tokens g ≡ t → row.items ≡ file_names g
+
 -- the first few files of a call were read
 pub record AreReadOf (files : List FileTree) (sources : List (List ℕ × List ℕ)) (n : ℕ) (fs : List File) : Type 0 where
   pub count : length fs ≡ n
   pub fit : AreFit fs
+  pub named : AreNamed files fs
   pub read : (ss : List Source) → AreFiles files sources ss → AreReadTo n fs ss
 
 -- ---- what a node denotes

@@ -1,11 +1,12 @@
 //! The files of a package, as they are read.
-ghost use Rattle.std.specs.Prelude.{◌≡◌, ◌<◌, List, length, IfOk};
+ghost use Rattle.std.specs.Prelude.{◌≡◌, ◌<◌, List, length, map, IfOk};
 ghost use Rattle.bind.specs.Sources.{Source, AreFiles};
-ghost use Rattle.bind.specs.Answers.{AreSpelled, AreSmall, AreFit, AreRead};
+ghost use Rattle.bind.specs.Answers.{AreSpelled, AreSmall, AreFit, AreNamed, AreRead};
 
 use file_uses::{Locals, read_locals};
 use go_tree::FileTree;
 use gv_base::{Bytes, NoMemory, Text};
+use scopes::Named;
 use std::alloc::Global;
 
 /// A file of a package: its path, its bytes, its tree, and what its names denote within its functions.
@@ -39,6 +40,7 @@ pub fn read_files<'a>(
     requires fit { AreSmall files.now }
     ensures count { IfOk result (λ read. length read.items ≡ length files.now) }
     ensures fit { IfOk result (λ read. AreFit read.items) }
+    ensures named { IfOk result (λ read. AreNamed files.now read.items) }
     ensures read { IfOk result (λ read. (ss : List Source) → AreFiles files.now sources.now ss → AreRead read.items ss) }
 {
     let mut read = Vec::new(alloc);
@@ -56,4 +58,21 @@ pub fn read_files<'a>(
         })?;
     }
     Ok(read)
+}
+
+fn names_of(file: File<'_>) -> Vec<Named>
+    ensures { result ≡ file.entry.locals.names }
+{
+    file.locals.names
+}
+
+/// The names that each file declares, of which nothing else is kept.
+pub fn all_names(alloc: Global, read: Vec<File<'_>>) -> Result<Vec<Vec<Named>>, NoMemory>
+    ensures { IfOk result (λ rows. rows.items ≡ map (λ f. f.locals.names) read.entry.items) }
+{
+    let mut rows = Vec::with_capacity(alloc, read.len())?;
+    for file in read {
+        rows.push(names_of(file))?;
+    }
+    Ok(rows)
 }

@@ -15,4 +15,4 @@ mod uses;
 pub use imports::{last_segment, specs_in};
 pub use laws::one_binding;
 pub use unknown::undeclared;
-pub use uses::bind;
+pub use uses::{Bound, bind, bind_named};

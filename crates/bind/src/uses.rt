@@ -1,7 +1,7 @@
 //! The uses in the files of a package, each with what it denotes.
 ghost use Rattle.std.specs.Prelude.{◌≡◌, ◌<◌, ◌^◌, ℕ, List, length, map, IfOk, OnOk};
 ghost use Rattle.go_tree.specs.Bindings.{AreInOrder};
-ghost use Rattle.bind.specs.Answers.{AreSpelled, AreSmall, AreFit, AreRead};
+ghost use Rattle.bind.specs.Answers.{AreSpelled, AreSmall, AreFit, AreRead, HaveNames};
 ghost use Rattle.bind.specs.Collected.{AddsUses, AreUsesTo};
 ghost use Rattle.bind.specs.Denoting.{AreBindings};
 ghost use Rattle.bind.specs.Places.{placed, place_from};
@@ -9,7 +9,7 @@ ghost use Rattle.bind.specs.Sources.{Sources, AreFiles};
 ghost use Rattle.bind.specs.Tables.{found};
 
 use crate::answer::push_uses;
-use crate::file::{File, read_files};
+use crate::file::{File, all_names, read_files};
 use crate::imports::{import_names, paths_of, specs_in};
 use crate::places::places;
 use crate::table::earliest;
@@ -17,6 +17,7 @@ use crate::tops::{narrow, package_names};
 use crate::universe::universe;
 use go_tree::{Bindings, FileTree, NodeRef, Object};
 use gv_base::{Bytes, NoMemory, Text};
+use scopes::Named;
 use std::alloc::Global;
 use std::collections::HashMap;
 
@@ -93,6 +94,37 @@ fn bind_read(
     Ok(uses)
 }
 
+/// The uses in the files of a package, each with what it denotes, and of each file the names that it declares, in the order in which their
+/// regions begin.
+#[derive(Drop)]
+pub struct Bound {
+    pub uses: Bindings,
+    pub names: Vec<Vec<Named>>,
+}
+
+/// What each use of a name in the files of a package denotes, as `bind` says it, with the names that the files declare.
+pub fn bind_named(
+    alloc: Global,
+    files: &[FileTree],
+    sources: &[(Text, Bytes)],
+    named: &[(Text, Text)],
+) -> Result<Bound, NoMemory>
+    requires spelled { AreSpelled files.now sources.now }
+    requires fit { AreSmall files.now }
+    requires few { length files.now < 2 ^ 32 }
+    ensures ordered { IfOk result (λ b. AreInOrder b.uses) }
+    ensures bound { IfOk result (λ b. (p : Sources) → p.named ≡ named.now → AreFiles files.now sources.now p.files → AreBindings p b.uses) }
+    ensures names { IfOk result (λ b. HaveNames files.now b.names.items) }
+{
+    let read = read_files(alloc, files, sources)?;
+    let uses = bind_read(alloc, &read, named)?;
+    let names = all_names(alloc, read)?;
+    Ok(Bound {
+        uses: Bindings::of(uses),
+        names,
+    })
+}
+
 /// What each use of a name in the files of a package denotes. `sources` has each file's path and bytes, and `named`
 /// the path of each import that leads to a package, with that package's name. A use denotes the declaration of its
 /// name with the smallest region that holds it (Go 1.17, "Declarations and scope"), else the predeclared name. A
@@ -109,7 +141,6 @@ pub fn bind(
     ensures ordered { IfOk result (λ uses. AreInOrder uses) }
     ensures bound { IfOk result (λ uses. (p : Sources) → p.named ≡ named.now → AreFiles files.now sources.now p.files → AreBindings p uses) }
 {
-    let read = read_files(alloc, files, sources)?;
-    let uses = bind_read(alloc, &read, named)?;
-    Ok(Bindings::of(uses))
+    let bound = bind_named(alloc, files, sources, named)?;
+    Ok(bound.uses)
 }

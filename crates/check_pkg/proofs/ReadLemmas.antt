@@ -20,8 +20,11 @@ use Rattle.unit_read.specs.Subjects.{cell, flag}
 use Rattle.unit_read.specs.Units.{Unit, nodes_of, is_among}
 use Rattle.unit_rows.specs.Circular.{AreCircular}
 use Rattle.unit_rows.specs.Cyclic.{is_cyclic, all_cyclic}
-use Rattle.unit_rows.specs.Drafts.{package_unit, with_flags}
-use Rattle.unit_blocks.specs.Blocks.{AreAgain}
+use Rattle.unit_rows.specs.Drafts.{package_unit, with_flags, with_owners}
+use Rattle.unit_rows.specs.Redeclared.{package_names}
+use Rattle.scopes.specs.declared.scope.Named.{Named}
+use Rattle.bind.specs.Answers.{HaveNames}
+use Rattle.unit_blocks.specs.Blocks.{AreAgain, AreNames, AreNamesOf}
 use Rattle.unit_rows.proofs.CyclicLemmas.{marks_cyclic}
 use Rattle.unit_rows.proofs.ListLemmas.{got}
 use Rattle.unit_rows.proofs.ReadLemmas.{none_past}
@@ -116,3 +119,18 @@ seen_needs seen trees uses elsewhere order slice owners trees_are uses_are flags
 pub seen_of : (seen u : Unit) (path : List ℕ) (texts : List (List ℕ)) (trees : List FileTree) (uses : List (NodeRef × Object)) (env : List Face) → seen ≡ package_unit path texts trees uses env [] [] [] []
     → IsUnitOf seen.path seen.texts seen.trees seen.uses seen.env u → IsUnitOf path texts trees uses env u
 seen_of seen u path texts trees uses env is of = subst (λ (x : Unit). IsUnitOf x.path x.texts x.trees x.uses x.env u) is of
+
+-- ---- the names of the package block: flags and the types of methods change nothing of them
+
+pub names_owned : (u : Unit) (owners : List (Vec (Option NodeRef))) → package_names (with_owners u owners) ≡ package_names u
+names_owned u owners = refl
+
+pub names_flagged : (u : Unit) (redeclared cyclic circular : List (Vec Bool)) → package_names (with_flags u redeclared cyclic circular) ≡ package_names u
+names_flagged u redeclared cyclic circular = refl
+
+-- ---- the names that the files declare
+
+pub names_are : (trees : List FileTree) (rows : List (Vec Named)) → HaveNames trees rows → AreNames trees rows
+names_are trees rows has f tree there =
+    let (row, at) = got rows f (let low = slice_get_within trees f tree there in let s = has.size in omega (arith, low, s)) in
+    subst (λ (names : List Named). AreNamesOf tree names) (sym (ap (λ (o : Option (Vec Named)). option_map_or (λ (r : Vec Named). r.items) o []) at)) (has.each f tree row there at)

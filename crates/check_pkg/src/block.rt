@@ -1,9 +1,9 @@
 //! The names of the package block.
-ghost use Rattle.std.specs.Prelude.{◌≡◌, ◌≤◌, ◌^◌, IfOk, length, map};
-ghost use Rattle.package_objects.specs.Declares.{AreSmall};
+ghost use Rattle.std.specs.Prelude.{◌≡◌, IfOk, map};
 ghost use Rattle.unit_read.specs.Index.{texts_of};
-ghost use Rattle.unit_read.specs.Subjects.{unit_of, IsRead};
+ghost use Rattle.unit_read.specs.Subjects.{unit_of};
 ghost use Rattle.unit_read.specs.Units.{name_at};
+ghost use Rattle.unit_rows.specs.Redeclared.{package_names};
 ghost use Rattle.check_pkg.specs.Names.{IsBlock};
 
 use go_tree::NodeRef;
@@ -11,7 +11,6 @@ use gv_base::NoMemory;
 use std::alloc::Global;
 use std::collections::HashMap;
 use unit_read::{Subject, index};
-use unit_rows::package_names;
 
 /// The names that a package's files declare at package level, in order of file and node, and the first place of each.
 #[derive(Drop)]
@@ -31,14 +30,15 @@ fn spelled<'a>(alloc: Global, u: &Subject<'a>, names: &[NodeRef]) -> Result<Vec<
     Ok(texts)
 }
 
-/// The names of a package's block.
-pub fn package_block<'a>(alloc: Global, u: &Subject<'a>) -> Result<PackageBlock<'a>, NoMemory>
-    requires read { IsRead u.now }
-    requires small { AreSmall u.now.trees.now }
-    requires few { length u.now.trees.now ≤ 2 ^ 32 }
+/// The package block, by its names.
+pub fn package_block<'a>(
+    alloc: Global,
+    u: &Subject<'a>,
+    names: Vec<NodeRef>,
+) -> Result<PackageBlock<'a>, NoMemory>
+    requires { names.items ≡ package_names (unit_of u.now) }
     ensures { IfOk result (IsBlock (unit_of u.now)) }
 {
-    let names = package_names(alloc, u)?;
     let texts = spelled(alloc, u, &names)?;
     let firsts = index(alloc, &texts)?;
     Ok(PackageBlock { names, firsts })

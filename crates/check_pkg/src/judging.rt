@@ -13,13 +13,14 @@ ghost use Rattle.type_model.specs.Tables.{Extends, count, declarations_in, terms
 ghost use Rattle.typed_tree.specs.Basics.{HasBasics};
 ghost use Rattle.typed_marks.specs.Meanings.{Quiet};
 ghost use Rattle.typed_marks.specs.States.{so_far, IsState};
-ghost use Rattle.unit_blocks.specs.Blocks.{HaveForests};
+ghost use Rattle.unit_blocks.specs.Blocks.{AreNames};
 ghost use Rattle.unit_read.specs.Environments.{IsEnvironment, faces_in};
 ghost use Rattle.unit_read.specs.Index.{texts_of};
 ghost use Rattle.unit_read.specs.Subjects.{unit_of, IsRead};
 ghost use Rattle.rule_words.specs.Scenes.{IsScene};
 ghost use Rattle.body_facts.specs.Bodies.{AreBodies};
 ghost use Rattle.unit_read.specs.Units.{base_of};
+ghost use Rattle.unit_rows.specs.Redeclared.{package_names};
 ghost use Rattle.check_pkg.specs.declared.refusal.Refusal.{Refusal as OneRefusal};
 ghost use Rattle.check_pkg.specs.Checks.{HasTypes, IsOutcomeBy, IsOutcomeOf};
 ghost use Rattle.check_pkg.specs.Faults.{IsOrdered};
@@ -40,13 +41,14 @@ use crate::read::{Reading, read};
 use crate::refusal::Refusal;
 use crate::sources::{known, texts};
 use crate::typing::{Flags, Typed, flags_of};
-use bind::bind;
+use bind::{Bound, bind_named};
 use elaborate::{Elaborated, Rules, Stretch, elaborate};
-use go_tree::{Bindings, FileTree};
+use go_tree::{Bindings, FileTree, NodeRef};
 use gv_base::{Bytes, NoMemory, Text};
-use package_faces::{Exported, Interface, copied_terms};
+use package_faces::{Exported, Interface};
+use scopes::Named;
 use std::alloc::Global;
-use type_model::{Term, TypeTable};
+use type_model::TypeTable;
 use typed_marks::State;
 use unit_read::{Environment, Subject};
 
@@ -156,8 +158,14 @@ fn accepted(
 }
 
 /// What is found of a package that has been read and whose items are marked: what refuses it, and what it exports.
-fn judge(alloc: Global, u: &Subject, s: &State) -> Result<(Vec<Refusal>, Vec<Exported>), NoMemory>
+fn judge(
+    alloc: Global,
+    u: &Subject,
+    s: &State,
+    names: Vec<NodeRef>,
+) -> Result<(Vec<Refusal>, Vec<Exported>), NoMemory>
     requires scene { IsScene u.now s.now }
+    requires names { names.items ≡ package_names (unit_of u.now) }
     requires small { AreSmall u.now.trees.now }
     requires few { length u.now.trees.now < 2 ^ 32 }
     requires bodies { AreBodies (texts_of u.now.texts.now) u.now.trees.now }
@@ -168,7 +176,7 @@ fn judge(alloc: Global, u: &Subject, s: &State) -> Result<(Vec<Refusal>, Vec<Exp
     ensures within { IfOk result (λ c. c.0.items ≡ [] → AreObjectsIn (unit_of u.now).path (count s.now.table) (types_in s.now.table) c.1.items) }
     ensures nothing { IfOk result (λ c. ¬ (c.0.items ≡ []) → c.1.items ≡ []) }
 {
-    let block = package_block(alloc, u)?;
+    let block = package_block(alloc, u, names)?;
     let refused = refusals(alloc, u, s, &block)?;
     let exports = accepted(alloc, u, s, &block, &refused)?;
     Ok((refused, exports))
@@ -181,8 +189,10 @@ fn judge_unit<R: Rules>(
     u: &Subject,
     table: TypeTable,
     first: &[Stretch],
+    names: Vec<NodeRef>,
 ) -> Result<Judged, NoMemory>
     requires read { IsRead u.now }
+    requires names { names.items ≡ package_names (unit_of u.now) }
     requires small { AreSmall u.now.trees.now }
     requires few { length u.now.trees.now < 2 ^ 32 }
     requires bodies { AreBodies (texts_of u.now.texts.now) u.now.trees.now }
@@ -194,7 +204,7 @@ fn judge_unit<R: Rules>(
     let elaborated = elaborate(alloc, rules, u, table, first)?;
     match elaborated {
         Elaborated::Marked(state) => {
-            let (refused, exports) = judge(alloc, u, &state)?;
+            let (refused, exports) = judge(alloc, u, &state, names)?;
             Ok(Judged::Found(Found {
                 refused,
                 exports,
@@ -231,10 +241,11 @@ fn judge_read<R: Rules>(
     sources: &[&[u8]],
     trees: &[FileTree],
     uses: Bindings,
+    regions: Vec<Vec<Named>>,
     table: TypeTable,
     env: &Environment<'_>,
 ) -> Result<Outcome, NoMemory>
-    requires forests { HaveForests trees.now }
+    requires regions { AreNames trees.now regions.items }
     requires small { AreSmall trees.now }
     requires few { length trees.now < 2 ^ 32 }
     requires bodies { AreBodies (texts_of sources.now) trees.now }
@@ -246,13 +257,17 @@ fn judge_read<R: Rules>(
     ensures is { IfOk result (IsOutcomeBy R.rule path.now (texts_of sources.now) trees.now uses (faces_in env.now)) }
     ensures types { IfOk result (HasTypes (terms_in table)) }
 {
-    let Reading { subject, first } = read(alloc, path, sources, trees, &uses, env, &table)?;
-    let judged = judge_unit(alloc, rules, &subject, table, &first)?;
+    let Reading {
+        subject,
+        first,
+        names,
+    } = read(alloc, path, sources, trees, &uses, regions, env, &table)?;
+    let judged = judge_unit(alloc, rules, &subject, table, &first, names)?;
     let flags = flags_of(subject);
     Ok(outcome_of(judged, uses, flags))
 }
 
-/// Judges a package by its files, of which is known what their uses denote.
+/// Judges a package by its files, of which is known what their uses denote and which names they declare.
 fn judge_files<R: Rules>(
     alloc: Global,
     rules: &R,
@@ -260,23 +275,22 @@ fn judge_files<R: Rules>(
     files: &[(Text, Bytes)],
     trees: &[FileTree],
     uses: Bindings,
+    regions: Vec<Vec<Named>>,
     table: TypeTable,
-    types: &[Term],
     env: &[Interface],
 ) -> Result<Outcome, NoMemory>
-    requires forests { HaveForests trees.now }
+    requires regions { AreNames trees.now regions.items }
     requires small { AreSmall trees.now }
     requires few { length trees.now < 2 ^ 32 }
     requires spelled { AreSpelled trees.now files.now }
     requires uses { AreInOrder uses }
     requires basics { HasBasics table }
-    requires types { types.now ≡ terms_in table }
     requires within { AreInterfacesIn (count table) (types_in table) env.now }
     requires base { (name : AName) → declarations_in table name ≡ given path.now (faces_of (types_in table) env.now) name }
     ensures is { IfOk result (IsOutcomeBy R.rule path.now (map text_of files.now) trees.now uses (faces_of (types_in table) env.now)) }
     ensures types { IfOk result (HasTypes (terms_in table)) }
 {
-    let environment = Environment::new(alloc, env, types)?;
+    let environment = Environment::new(alloc, env, table.terms())?;
     let sources = texts(alloc, files)?;
     let outcome = judge_read(
         alloc,
@@ -285,6 +299,7 @@ fn judge_files<R: Rules>(
         &sources,
         trees,
         uses,
+        regions,
         table,
         &environment,
     )?;
@@ -313,9 +328,9 @@ pub fn check<R: Rules>(
     ensures is { IfOk result (IsOutcomeOf R.rule (package_of path.now files.now trees.now) (faces_of (types_in table) env.now)) }
     ensures types { IfOk result (HasTypes (terms_in table)) }
 {
-    let types = copied_terms(alloc, table.terms())?;
     let named = known(alloc, env)?;
-    let uses = bind(alloc, trees, files, &named)?;
-    let outcome = judge_files(alloc, rules, path, files, trees, uses, table, &types, env)?;
+    let bound = bind_named(alloc, trees, files, &named)?;
+    let Bound { uses, names } = bound;
+    let outcome = judge_files(alloc, rules, path, files, trees, uses, names, table, env)?;
     Ok(outcome)
 }

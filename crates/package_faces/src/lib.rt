@@ -5,6 +5,6 @@ mod copying;
 mod interface;
 mod laws;
 
-pub use copying::{copied_methods, copied_name, copied_signature, copied_terms};
+pub use copying::{copied_methods, copied_name, copied_signature};
 pub use interface::{ExportForm, Exported, ExportedType, Interface};
 pub use laws::faces_stay_as_a_table_grows;

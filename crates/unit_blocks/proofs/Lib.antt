@@ -1,4 +1,3 @@
 pub mod BlockLemmas
 pub mod FewLemmas
-pub mod NameLemmas
 pub mod OneLemmas

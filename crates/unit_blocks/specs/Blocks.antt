@@ -32,11 +32,7 @@ HaveForests trees = (f : ℕ) (tree : FileTree) → slice_get trees f ≡ Some t
 abbrev pub AreNamesOf : FileTree → List Named → Type 0
 AreNamesOf tree names = (f : Forest) → arena_of tree.tokens f ≡ tree → names ≡ file_names f
 
--- those of the first few files, and of all
-pub record AreNamesTo (trees : List FileTree) (n : ℕ) (rows : List (Vec Named)) : Type 0 where
-  pub size : length rows ≡ n
-  pub each : (f : ℕ) (tree : FileTree) → f < n → slice_get trees f ≡ Some tree → AreNamesOf tree (row_in rows f)
-
+-- those of each file
 abbrev pub AreNames : List FileTree → List (Vec Named) → Type 0
 AreNames trees rows = (f : ℕ) (tree : FileTree) → slice_get trees f ≡ Some tree → AreNamesOf tree (row_in rows f)
 

@@ -3,19 +3,19 @@ ghost use Rattle.std.specs.Prelude.{◌≡◌, ◌++◌, ◌≤◌, ◌^◌, len
 ghost use Rattle.go_tree.specs.declared.tree.NodeRef.{NodeRef};
 ghost use Rattle.object_order.specs.Views.{group_in};
 ghost use Rattle.package_objects.specs.Declares.{gather, AreSmall};
-ghost use Rattle.unit_blocks.specs.Blocks.{HaveForests, AreAgain, unless_used, if_declared, nth_declared, all_declared, declared_again, again_in_file, again_by, inner_again, is_redeclared, again_at};
+ghost use Rattle.unit_blocks.specs.Blocks.{AreNames, AreAgain, unless_used, if_declared, nth_declared, all_declared, declared_again, again_in_file, again_by, inner_again, is_redeclared, again_at};
 ghost use Rattle.unit_read.specs.Subjects.{flag, unit_of, IsRead};
 ghost use Rattle.unit_read.specs.Units.{nodes_at};
+ghost use Rattle.unit_rows.specs.Redeclared.{package_names};
 ghost use Rattle.unit_rows.specs.Tables.{row_in};
 
 use crate::blocks::blocks_of;
-use crate::names::names_in;
 use go_tree::{NodeRef, Object};
 use gv_base::NoMemory;
 use scopes::Named;
 use std::alloc::Global;
 use unit_read::Subject;
-use unit_rows::{listed_rows, named_again, redeclared};
+use unit_rows::{listed_rows, named_again};
 
 fn group(groups: &[Vec<NodeRef>], n: usize) -> &[NodeRef]
     ensures { result.now ≡ group_in groups.now n }
@@ -211,28 +211,40 @@ fn add_inner(
     Ok(())
 }
 
-/// The same by the names of each file, in the order in which their regions begin.
-fn rows_by(alloc: Global, s: &Subject, names: &[Vec<Named>]) -> Result<Vec<Vec<bool>>, NoMemory>
+/// The same by the names of the package block, and by those of each file in the order in which their regions begin.
+fn rows_by(
+    alloc: Global,
+    s: &Subject,
+    top: &[NodeRef],
+    names: &[Vec<Named>],
+) -> Result<Vec<Vec<bool>>, NoMemory>
     requires read { IsRead s.now }
+    requires top { top.now ≡ package_names (unit_of s.now) }
     requires small { AreSmall s.now.trees.now }
     requires few { length s.now.trees.now ≤ 2 ^ 32 }
     ensures { IfOk result (λ flags. (at : NodeRef) → flag flags.items at ≡ is_redeclared (unit_of s.now) names.now at) }
 {
-    let mut list = redeclared(alloc, s)?;
+    let mut list = named_again(alloc, s, top)?;
     add_inner(alloc, s, names, &mut list)?;
     let flags = listed_rows(alloc, s.trees, &list)?;
     Ok(flags)
 }
 
-/// For each node of each file whether it is a name that is declared before in its block.
-pub fn block_rows(alloc: Global, s: &Subject) -> Result<Vec<Vec<bool>>, NoMemory>
+/// For each node of each file whether it is a name that is declared before in its block, by the names of the package block, and by those that
+/// each file declares, in the order in which their regions begin.
+pub fn block_rows(
+    alloc: Global,
+    s: &Subject,
+    top: &[NodeRef],
+    names: &[Vec<Named>],
+) -> Result<Vec<Vec<bool>>, NoMemory>
     requires read { IsRead s.now }
-    requires forests { HaveForests s.now.trees.now }
+    requires top { top.now ≡ package_names (unit_of s.now) }
+    requires names { AreNames s.now.trees.now names.now }
     requires small { AreSmall s.now.trees.now }
     requires few { length s.now.trees.now ≤ 2 ^ 32 }
     ensures { IfOk result (λ flags. AreAgain (unit_of s.now) (flag flags.items)) }
 {
-    let names = names_in(alloc, s.trees)?;
-    let flags = rows_by(alloc, s, &names)?;
+    let flags = rows_by(alloc, s, top, names)?;
     Ok(flags)
 }

@@ -3,6 +3,5 @@
 
 mod again;
 mod blocks;
-mod names;
 
 pub use again::block_rows;

@@ -8,18 +8,19 @@ ghost use Rattle.unit_read.specs.Imports.{paths_of};
 ghost use Rattle.unit_read.specs.Index.{texts_of, found};
 
 use crate::first_names::index;
+use crate::seen::SeenTypes;
 use gv_base::NoMemory;
 use package_faces::{Exported, Interface};
 use std::alloc::Global;
 use std::collections::HashMap;
 use type_model::Term;
 
-/// The interfaces, by path, and the objects of each, by name. The types by whose numbers they say what they export: what is seen of the
-/// packages stays the same while the table of a package grows.
+/// The interfaces, by path, and the objects of each, by name. For clauses alone the types by whose numbers they say what they export: what is
+/// seen of the packages stays the same while the table of a package grows.
 #[derive(Drop)]
 pub struct Environment<'a> {
     pub interfaces: &'a [Interface],
-    pub types: &'a [Term],
+    pub types: SeenTypes,
     pub paths: HashMap<&'a [u8], usize>,
     pub members: Vec<HashMap<&'a [u8], usize>>,
 }
@@ -90,7 +91,7 @@ impl<'a> Environment<'a> {
     pub fn new(
         alloc: Global,
         interfaces: &'a [Interface],
-        types: &'a [Term],
+        types: &[Term],
     ) -> Result<Environment<'a>, NoMemory>
         requires { AreInterfacesIn (length types.now) (types_of types.now) interfaces.now }
         ensures read { IfOk result (λ env. IsOne env) }
@@ -101,7 +102,7 @@ impl<'a> Environment<'a> {
         let members = all_members(alloc, interfaces)?;
         Ok(Environment {
             interfaces,
-            types,
+            types: SeenTypes::new(types),
             paths,
             members,
         })

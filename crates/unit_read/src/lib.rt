@@ -12,6 +12,7 @@ mod passage;
 mod passage_list;
 mod place;
 mod places;
+mod seen;
 mod subject;
 
 pub use entries::Entries;
@@ -25,4 +26,5 @@ pub use passage::Passage;
 pub use passage_list::passages;
 pub use place::{Place, Standing};
 pub use places::place_row;
+pub use seen::SeenTypes;
 pub use subject::{Subject, cell, flag};

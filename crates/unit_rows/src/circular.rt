@@ -19,7 +19,7 @@ use go_tree::{FileTree, Node, NodeRef, Object};
 use gv_base::NoMemory;
 use name_circles::{circles_of, value_circles};
 use object_order::{Entry, Form, View, numbers_of};
-use package_objects::{entries_of, part_of};
+use package_objects::part_of;
 use std::alloc::Global;
 use std::collections::HashMap;
 use unit_read::{Subject, flag};
@@ -293,15 +293,19 @@ fn all_rows(alloc: Global, s: &Subject, view: View) -> Result<Vec<Vec<bool>>, No
     Ok(flags)
 }
 
-/// For each node of each file whether it is a name that is no type and leads back to itself. Where no type leads to a value, only values are
-/// searched.
-pub fn circular_rows(alloc: Global, s: &Subject) -> Result<Vec<Vec<bool>>, NoMemory>
+/// For each node of each file whether it is a name that is no type and leads back to itself, by the package's declarations. Where no type leads to a
+/// value, only values are searched.
+pub fn circular_rows(
+    alloc: Global,
+    s: &Subject,
+    entries: Vec<Entry>,
+) -> Result<Vec<Vec<bool>>, NoMemory>
     requires read { IsRead s.now }
+    requires entries { entries.items ≡ declared s.now.trees.now [] }
     requires small { AreSmall s.now.trees.now }
     requires few { length s.now.trees.now ≤ 2 ^ 32 }
     ensures { IfOk result (λ flags. AreCircular (unit_of s.now) (flag flags.items)) }
 {
-    let entries = entries_of(alloc, s.trees, &[])?;
     let numbers = numbers_of(alloc, &entries)?;
     let groups = groups_of(alloc, s, &entries)?;
     let meant = named_rows(alloc, s)?;

@@ -26,5 +26,5 @@ pub use circular::circular_rows;
 pub use cyclic::cyclic_rows;
 pub use flags::listed_rows;
 pub use laws::marked_names_need_themselves;
-pub use package_block::{named_again, package_names, redeclared, redeclared_rows};
+pub use package_block::{all_in_block, named_again};
 pub use reader::{read_unit, with_flags, with_owners};

@@ -1,20 +1,16 @@
 //! Which names are declared before at package level.
-ghost use Rattle.std.specs.Prelude.{◌≡◌, ◌≤◌, ◌^◌, ◌++◌, [], length, map, IfOk, OnOk};
-ghost use Rattle.go_tree.specs.declared.tree.NodeRef.{NodeRef};
-ghost use Rattle.package_objects.specs.Declares.{AreSmall, declared};
+ghost use Rattle.std.specs.Prelude.{◌≡◌, ◌++◌, map, IfOk, OnOk};
 ghost use Rattle.unit_read.specs.Index.{texts_of};
-ghost use Rattle.unit_read.specs.Subjects.{flag, unit_of};
+ghost use Rattle.unit_read.specs.Subjects.{unit_of};
 ghost use Rattle.unit_read.specs.Units.{name_at};
 ghost use Rattle.unit_rows.specs.Drafts.{IsPlaced};
-ghost use Rattle.unit_rows.specs.Redeclared.{kind_of, kind_around, is_method, is_function, is_init, is_in_block, if_in_block, nth_name, nth_in_block, all_in_block, package_names, named_again, redeclared, is_redeclared};
+ghost use Rattle.unit_rows.specs.Redeclared.{kind_of, kind_around, is_method, is_function, is_init, is_in_block, if_in_block, nth_name, nth_in_block, all_in_block, named_again};
 
 use crate::again::add_again;
-use crate::flags::listed_rows;
 use crate::top::{around, is_top};
 use go_tree::{NodeKind, NodeRef};
 use gv_base::NoMemory;
 use object_order::Entry;
-use package_objects::entries_of;
 use std::alloc::Global;
 use unit_read::Subject;
 
@@ -112,8 +108,8 @@ fn add_nth(s: &Subject, entries: &[Entry], i: usize, out: &mut Vec<NodeRef>) -> 
     Ok(())
 }
 
-/// Of some declarations the names in the package block.
-fn all_in_block(alloc: Global, s: &Subject, entries: &[Entry]) -> Result<Vec<NodeRef>, NoMemory>
+/// Of some declarations the names in the package block: of all of a package's those of its package block, in order of file and node.
+pub fn all_in_block(alloc: Global, s: &Subject, entries: &[Entry]) -> Result<Vec<NodeRef>, NoMemory>
     requires { IsPlaced s.now }
     ensures { IfOk result (λ names. names.items ≡ all_in_block (unit_of s.now) entries.now) }
 {
@@ -122,18 +118,6 @@ fn all_in_block(alloc: Global, s: &Subject, entries: &[Entry]) -> Result<Vec<Nod
         add_nth(s, entries, i, &mut out)?;
     }
     Ok(out)
-}
-
-/// The names of the package block, in order of file and node.
-pub fn package_names(alloc: Global, s: &Subject) -> Result<Vec<NodeRef>, NoMemory>
-    requires placed { IsPlaced s.now }
-    requires small { AreSmall s.now.trees.now }
-    requires few { length s.now.trees.now ≤ 2 ^ 32 }
-    ensures { IfOk result (λ names. names.items ≡ package_names (unit_of s.now)) }
-{
-    let entries = entries_of(alloc, s.trees, &[])?;
-    let names = all_in_block(alloc, s, &entries)?;
-    Ok(names)
 }
 
 fn spelled<'a>(alloc: Global, s: &Subject<'a>, nodes: &[NodeRef]) -> Result<Vec<&'a [u8]>, NoMemory>
@@ -154,28 +138,4 @@ pub fn named_again(alloc: Global, s: &Subject, nodes: &[NodeRef]) -> Result<Vec<
     let mut list = Vec::new(alloc);
     add_again(alloc, &texts, nodes, &mut list)?;
     Ok(list)
-}
-
-/// The names that are declared before in the package block.
-pub fn redeclared(alloc: Global, s: &Subject) -> Result<Vec<NodeRef>, NoMemory>
-    requires placed { IsPlaced s.now }
-    requires small { AreSmall s.now.trees.now }
-    requires few { length s.now.trees.now ≤ 2 ^ 32 }
-    ensures { IfOk result (λ list. list.items ≡ redeclared (unit_of s.now)) }
-{
-    let names = package_names(alloc, s)?;
-    let list = named_again(alloc, s, &names)?;
-    Ok(list)
-}
-
-/// For each node of each file whether it is a name that is declared before in the package block.
-pub fn redeclared_rows(alloc: Global, s: &Subject) -> Result<Vec<Vec<bool>>, NoMemory>
-    requires placed { IsPlaced s.now }
-    requires small { AreSmall s.now.trees.now }
-    requires few { length s.now.trees.now ≤ 2 ^ 32 }
-    ensures { IfOk result (λ flags. (at : NodeRef) → flag flags.items at ≡ is_redeclared (unit_of s.now) at) }
-{
-    let list = redeclared(alloc, s)?;
-    let flags = listed_rows(alloc, s.trees, &list)?;
-    Ok(flags)
 }

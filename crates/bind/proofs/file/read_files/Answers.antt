@@ -39,5 +39,8 @@ returns-clause-count c = omega (arith, c.loop-at.invariant.count, c.loop-at-test
 pub returns-clause-fit : goal.returns-clause-fit
 returns-clause-fit c = c.loop-at.invariant.fit
 
+pub returns-clause-named : goal.returns-clause-named
+returns-clause-named c = c.loop-at.invariant.named
+
 pub returns-clause-read : goal.returns-clause-read
 returns-clause-read c = all_of c.args.files.now c.args.sources.now c.loop-at.at c.loop-at.read.items c.loop-at-test.false c.loop-at.auto.at-end c.loop-at.invariant

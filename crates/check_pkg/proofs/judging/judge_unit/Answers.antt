@@ -2,8 +2,8 @@ use Rattle.std.proofs.Common.{subst}
 use Rattle.elaborate.specs.Covering.{IsElaborated}
 use Rattle.check_pkg.proofs.judging.judge_unit.Goals as goal
 
-pub returns-in-Marked : goal.returns-in-Marked
-returns-in-Marked g c =
+pub returns-in_ok-refused-in-Marked : goal.returns-in_ok-refused-in-Marked
+returns-in_ok-refused-in-Marked g c =
     let made = c.in_ok-refused-in-Marked.ensures in
     let both = subst (IsElaborated g.R.Rules.rule c.args.u.now) c.in-Marked.is c.in_ok-elaborated.ensures in
     record {

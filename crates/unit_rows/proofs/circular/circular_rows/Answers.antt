@@ -19,8 +19,8 @@ all_rows-requires-clause-rows c =
 pub returns-in-Some : goal.returns-in-Some
 returns-in-Some c =
     let u = unit_of c.args.s.now in
-    circular_found u c.in_ok-entries.entries.items c.in_ok-numbers.numbers c.in_ok-groups.groups.items c.deref.result.now c.in-Some.list.items c.in_ok-flags-in-Some.flags.items c.in_ok-numbers.ensures c.in_ok-groups.ensures
+    circular_found u c.args.entries.items c.in_ok-numbers.numbers c.in_ok-groups.groups.items c.deref.result.now c.in-Some.list.items c.in_ok-flags-in-Some.flags.items c.in_ok-numbers.ensures c.in_ok-groups.ensures
     (subst (λ (rows : List (Vec (Option NodeRef))). AreRows (λ f tree n. named_at u (place f n)) u.trees rows (length u.trees)) (sym c.deref.ensures.value) c.in_ok-meant.ensures)
-    (subst (λ (o : Option (Vec NodeRef)). IfSome o (λ list. AreValueCircles (world_with (node_in u.trees) (meant_in c.deref.result.now) (entry_in c.in_ok-entries.entries.items c.in_ok-numbers.numbers) (kin_in c.in_ok-groups.groups.items c.in_ok-numbers.numbers)) list.items))
+    (subst (λ (o : Option (Vec NodeRef)). IfSome o (λ list. AreValueCircles (world_with (node_in u.trees) (meant_in c.deref.result.now) (entry_in c.args.entries.items c.in_ok-numbers.numbers) (kin_in c.in_ok-groups.groups.items c.in_ok-numbers.numbers)) list.items))
     c.in-Some.is c.in_ok-circles.ensures)
-    (λ at. c.in_ok-flags-in-Some.ensures at ∙ ap (λ (list : List NodeRef). is_listed u.trees list at) c.deref-in-Some.ensures.value) c.in_ok-entries.ensures
+    (λ at. c.in_ok-flags-in-Some.ensures at ∙ ap (λ (list : List NodeRef). is_listed u.trees list at) c.deref-in-Some.ensures.value) c.requires.entries
