@@ -1,5 +1,5 @@
 //! The rules by which items are marked.
-ghost use Rattle.std.specs.Prelude.{◌≡◌, true, false, IfOk};
+ghost use Rattle.std.specs.Prelude.{◌≡◌, Bool, true, false, IfOk};
 ghost use Rattle.mark_walk.specs.Asks.{done};
 ghost use Rattle.mark_walk.specs.Telling.{tell};
 ghost use Rattle.typed_marks.specs.declared.item.Item.{Item as AnItem};
@@ -26,10 +26,14 @@ pub trait Rules {
     /// The rule of each item of a package.
     ghost rule: { Unit → AnItem → Rule };
 
-    /// Whether nothing is said of an item, as far as that is seen at once: where it answers false, the rule may say nothing too.
+    /// Of which items of a package it is seen at once that nothing is said. The rules of others may say nothing too.
+    ghost quiet: { Unit → AnItem → Bool };
+
+    /// Whether it is seen at once that nothing is said of an item.
     fn is_quiet(&self, u: &Subject, item: Item) -> bool
         requires { IsRead u.now }
-        ensures { result ≡ true → rule (unit_of u.now) item ≡ done Quiet };
+        ensures is { result ≡ quiet (unit_of u.now) item }
+        ensures none { result ≡ true → rule (unit_of u.now) item ≡ done Quiet };
 
     /// What the rule of an item comes to over the marks so far, of one that declares no type.
     fn judge(&self, alloc: Global, u: &Subject, s: &State, item: Item) -> Result<Brief, NoMemory>

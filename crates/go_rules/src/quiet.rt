@@ -168,7 +168,8 @@ fn is_quiet(u: &Subject, item: Item) -> bool
 /// Whether nothing is said of an item, as far as the node and its place show it.
 pub fn is_quiet_item(u: &Subject, item: Item) -> bool
     requires { IsRead u.now }
-    ensures { result ≡ true → rule (unit_of u.now) item ≡ done Quiet }
+    ensures is { result ≡ is_quiet (unit_of u.now) item }
+    ensures none { result ≡ true → rule (unit_of u.now) item ≡ done Quiet }
 {
     is_quiet(u, item)
 }

@@ -1,4 +1,5 @@
 //! The typing rules of Go.
+ghost use Rattle.go_rules.specs.Quiet.{is_quiet};
 ghost use Rattle.go_rules.specs.Stages.{rule};
 
 use crate::declare::declare_item;
@@ -17,6 +18,8 @@ pub struct GoRules;
 
 impl Rules for GoRules {
     ghost rule = { rule };
+
+    ghost quiet = { is_quiet };
 
     fn is_quiet(&self, u: &Subject, item: Item) -> bool {
         is_quiet_item(u, item)

@@ -17,7 +17,7 @@ mark_quiet-requires-clause-unmarked g c =
     not_marked (so_far c.args.work.now.state) c.args.item c.is_marked.result c.if-is_marked.false c.is_marked.ensures.1
 
 pub mark_quiet-requires-clause-quiet : goal.mark_quiet-requires-clause-quiet
-mark_quiet-requires-clause-quiet g c = c.is_quiet.ensures c.if-is_quiet.true
+mark_quiet-requires-clause-quiet g c = c.is_quiet.ensures.none c.if-is_quiet.true
 
 pub returns-then-is_marked-clause-went : goal.returns-then-is_marked-clause-went
 returns-then-is_marked-clause-went g c = went_itself g.R.Rules.rule c.args.work.now.subject.now c.args.work.now.state c.requires.work
