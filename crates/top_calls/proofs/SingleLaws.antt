@@ -1,5 +1,5 @@
 -- How a single run ends, moment by moment.
-use Rattle.std.proofs.Common.{◌≡◌, ◌⊎◌, inl, inr, ℕ, ◌+◌, ◌-◌, ◌≤◌, List, [], ◌∷◌, ◌++◌, length, take, refl, sym, ap, ◌∙◌, arith, true, false, Option, None, Some, subst}
+use Rattle.std.proofs.Common.{◌≡◌, ◌⊎◌, inl, inr, ℕ, ◌+◌, ◌-◌, ◌≤◌, ◌<◌, List, [], ◌∷◌, ◌++◌, length, take, refl, sym, ap, ◌∙◌, arith, true, false, Option, None, Some, subst}
 use Rattle.std.proofs.lemmas.List.{append-nil}
 use Rattle.gv_base.specs.Files.{Entry}
 use Rattle.analysis_core.specs.declared.command.Command.{Command as Kind}
@@ -16,7 +16,7 @@ use Rattle.scripts.specs.Reading.{IsPrefix}
 use Rattle.top_calls.specs.Standing.{start_at}
 use Rattle.top_calls.specs.Deeds.{task_of}
 use Rattle.top_calls.specs.Ends.{Moment, Fetching, Greeting, Reading, Running, Writing, Telling, Storing, is_exact, may}
-use Rattle.top_calls.specs.Outcome.{Seen, seen_at, Opens}
+use Rattle.top_calls.specs.Outcome.{Seen, seen_at, Opens, empty, spelled, ignored}
 use Rattle.top_calls.specs.Due.{IsLawfulKept, IsWorkOf}
 use Rattle.top_calls.specs.Desk.{more_loads, more_runs, IsHeld, HoldsText, HoldsEither}
 use Rattle.top_calls.specs.Single.{run_files, SeenRun, RunAnswer, RunAt, IsRunCause, IsWhole, unopened, greeted, cut_off, halted, RunEnded}
@@ -135,6 +135,32 @@ ended-whole law {o} {kind} {read} {cache} {cache'} {report} {kits} {kits'} d par
       holds = s.holds;
       told = w files t;
     }
+
+-- The cache is as it was found, and isn't stored: what the keeper holds is its text. Over a cache that isn't honest nothing is said of what it holds.
+pub ended-still : RunLaws → {o : ToolOptions} {kind : Kind} {read : Tree} {cache cache' : Entries} {report : TreeReport} {kits kits' : Work} → Done o kind read cache cache' report kits kits' → (IsHonest cache → cache' ≡ cache) → 0 < length cache → (part : List ℕ) → part ≡ report.text → (tree tree' : Option (List Entry)) → ((files : List Entry) → IsTold tree files → IsTold tree' (put_all files report.changed)) → (held : Option (Option (List ℕ))) (kept : Option (List ℕ)) (files : List Entry) (greeting : List ℕ) → Opens kept cache greeting → IsHeld held kept → IsTold tree files → read ≡ run_files files → RunEnded o kind kept files (kits.loads) (kits.runs) (greeting ++ part) tree' held kits' (Halted Ended report.found)
+ended-still law {o} {kind} {read} {cache} {cache'} {report} {kits} {kits'} d same some part whole tree tree' w held kept files greeting opens h t e = of opens
+  where
+    of : Opens kept cache greeting → RunEnded o kind kept files (kits.loads) (kits.runs) (greeting ++ part) tree' held kits' (Halted Ended report.found)
+    of (empty is none said) = absurd (omega (arith, some, ap length none))
+    of (ignored bytes is not none said) = absurd (omega (arith, some, ap length none))
+    of (spelled bytes is small text said) =
+        let a : RunAnswer o kind (start_at read cache kept) = record {
+          next = record { tree = put_all read report.changed; found = report.found; cache = cache'; counts = report.counts; loads = more_loads kits kits'; runs = more_runs kits kits'; kept = kept };
+          reply = report.text;
+          changed = report.changed;
+          ran = λ x. record { report = report; reports = d.reports x; tree = refl; found = refl; counts = refl; loads = (let s = (d.spends x).loads in omega arith); runs = (let s = (d.spends x).runs in omega arith); text = bytes; spelled = subst (λ z. CacheSpelled z bytes) (sym (same x)) text; kept = is; reply_is = refl };
+          changes = λ x. refl;
+        } in
+        let got : SeenRun = record { seen = record { out = greeting ++ report.text; kept = kept; found = report.found; loads = more_loads kits kits'; runs = more_runs kits kits' }; files = put_all files report.changed } in
+        let due : IsWhole o kind (start_at read cache kept) files greeting got = (a, refl) in
+        record {
+          got = got;
+          outcome = halted refl cache greeting opens (subst (λ z. IsWhole o kind (start_at z cache kept) files greeting got) e due);
+          out_is = ap (λ z. greeting ++ z) whole;
+          work = spent law d kept greeting opens (Halted Ended report.found) got.seen refl refl;
+          holds = h;
+          told = w files t;
+        }
 
 abbrev pub told_files : Option (List Entry) → List Entry
 told_files None = []

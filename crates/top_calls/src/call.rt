@@ -44,8 +44,8 @@ where
     run(rt, alloc, key, options, keeper, input, output, crew).number()
 }
 
-/// Runs once over the files of the tree: writes the files that change, then the reply, and stores the cache. The first
-/// `options.workers` of the kits do the work, and the others stay as they are. The result is the number of a status.
+/// Runs once over the files of the tree: writes the files that change, then the reply, and stores the cache where it isn't as
+/// it was found. The first `options.workers` of the kits do the work, and the others stay as they are. The result is the number of a status.
 pub fn one_run<T: Tree, K: Keeper, O: Sink, W: Kit + Send, R: Threads + Sync>(
     rt: &R,
     alloc: Global,

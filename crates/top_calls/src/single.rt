@@ -1,5 +1,5 @@
 //! A single run over a tree outside.
-ghost use Rattle.std.specs.Prelude.{◌≡◌, ◌≢◌, ◌<◌, ◌^◌, length, sum_by};
+ghost use Rattle.std.specs.Prelude.{◌≡◌, ◌≢◌, ◌<◌, ◌^◌, ◌↔◌, length, sum_by, true};
 ghost use Rattle.folder.specs.Folders.{AreAtPaths, OnlyWhereRose};
 ghost use Rattle.top_calls.specs.Headline.{keeper_faults};
 ghost use Rattle.top_calls.specs.Single.{RunsOn, SingleRuns};
@@ -21,7 +21,25 @@ use std::alloc::Global;
 use std::thread::Threads;
 use tree_runs::{Kit, Unloaded, nothing_heard, one_report_of_a_tree, run};
 
-/// Runs over files that were read: writes the changed files, then the reply, and then stores the cache.
+/// Whether a cache of so many entries before and after a run is as it was: it has as many, and nothing was missing. Of one without entries it isn't
+/// said, since the keeper may hold nothing, or bytes that spell no cache.
+fn is_still(before: usize, after: usize, missing: u32) -> bool
+    ensures { (result ≡ true) ↔ (0 < before) × (after ≡ before) × (missing ≡ 0) }
+{
+    if before == 0 {
+        return false;
+    }
+    if after != before {
+        return false;
+    }
+    if missing > 0 {
+        return false;
+    }
+    true
+}
+
+/// Runs over files that were read: writes the changed files, then the reply, and then stores the cache, unless it is as it was found: the
+/// keeper holds its text.
 pub(crate) fn run_on<T: Tree, K: Keeper, O: Sink, W: Kit + Send, R: Threads + Sync>(
     rt: &R,
     alloc: Global,
@@ -50,6 +68,7 @@ where
     one_report_of_a_tree();
     let task = task_of(options, kind);
     let mut heard = nothing_heard(alloc);
+    let before = cache.count();
     match run(rt, alloc, files, task, &mut heard, cache, kits) {
         Err(Unloaded::NoMemory) => Stop::Broken(Cut::Memory),
         Err(Unloaded::Stuck) => Stop::Broken(Cut::Circle),
@@ -57,10 +76,16 @@ where
             Err(cut) => Stop::Broken(cut),
             Ok(()) => match say(report.text.as_slice(), output) {
                 Err(cut) => Stop::Broken(cut),
-                Ok(()) => match keep(cache, keeper) {
-                    Err(cut) => Stop::Broken(cut),
-                    Ok(()) => Stop::Halted(Halt::Ended, report.found),
-                },
+                Ok(()) => {
+                    let after = cache.count();
+                    if is_still(before, after, report.counts.missing) {
+                        return Stop::Halted(Halt::Ended, report.found);
+                    }
+                    match keep(cache, keeper) {
+                        Err(cut) => Stop::Broken(cut),
+                        Ok(()) => Stop::Halted(Halt::Ended, report.found),
+                    }
+                }
             },
         },
     }

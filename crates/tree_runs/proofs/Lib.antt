@@ -1,5 +1,6 @@
 pub mod ReportLaws
 pub mod SpendLaws
+pub mod StillLaws
 pub mod PathLaws
 pub mod CacheLaws
 pub mod CutLaws

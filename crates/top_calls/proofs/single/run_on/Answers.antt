@@ -1,15 +1,17 @@
-use Rattle.std.proofs.Common.{arith, refl, ap, ◌≡◌, ◌∙◌, []}
+use Rattle.std.proofs.Common.{arith, refl, ap, ◌≡◌, ◌∙◌, ◌<◌, length, [], sym}
 use Rattle.std.specs.Prelude.{Err, sum_by}
 use Rattle.tree_runs.specs.Reports.{work}
+use Rattle.tree_runs.proofs.StillLaws.{still}
 use Rattle.top_calls.proofs.RunsLaws.{RunLaws}
 use Rattle.top_calls.specs.declared.stop.Stop.{Stop}
 use Rattle.top_calls.specs.declared.stop.Stop.TheVariants.{Broken}
 use Rattle.top_calls.specs.declared.stop.Cut.{Cut}
 use Rattle.top_calls.specs.declared.stop.Cut.TheVariants.{Source, Tree, Keeper, Sink, Memory, Stalled, Circle}
+use Rattle.top_calls.specs.Deeds.{task_of}
 use Rattle.top_calls.specs.Ends.{Writing, Storing}
 use Rattle.gv_base.proofs.Known.{Appends-none}
 use Rattle.top_calls.proofs.KeepLaws.{not-allowed}
-use Rattle.top_calls.proofs.SingleLaws.{Done, ended-running, ended-writing, ended-telling, ended-storing, ended-whole}
+use Rattle.top_calls.proofs.SingleLaws.{Done, ended-running, ended-writing, ended-telling, ended-storing, ended-still, ended-whole}
 use Rattle.top_calls.proofs.single.run_on.Goals as goal
 
 same-cut : (a b : Cut) → ◌≡◌ {A = Stop} (Broken a) (Broken b) → a ≡ b
@@ -91,6 +93,21 @@ returns-clause-runs_on g c =
       said = s.said;
       says = s.says;
       goes = ended-whole law d s.said (s.leaves ∙ c.as_slice-in-Ok-write_changed.ensures) (g.T.Tree.view c.args.tree.now).files (g.T.Tree.view c.write_changed.new.tree).files (rw c.as_slice.ensures at c.in-Ok-write_changed.ensures.writes) (g.K.Keeper.view c.args.keeper.now).kept (g.K.Keeper.view c.keep.new.keeper).kept c.in-Ok-keep.ensures.kept;
+    }
+
+pub returns-then-is_still-clause-runs_on : goal.returns-then-is_still-clause-runs_on
+returns-then-is_still-clause-runs_on g c =
+    let law : RunLaws = (let l = c.one_report_of_a_tree.ensures in record { report = l.report; cache = l.cache; fresh = l.fresh; honest = l.honest; text = l.text; value = l.value }) in
+    let r = c.in-Ok.ensures in
+    let d : Done c.args.options.now c.args.kind c.args.files.now c.args.cache.now c.run.new.cache c.in-Ok.report (work (sum_by g.W.Kit.loads c.args.kits.now) (sum_by g.W.Kit.runs c.args.kits.now)) (work (sum_by g.W.Kit.loads c.run.new.kits) (sum_by g.W.Kit.runs c.run.new.kits)) = record { reports = rw c.task_of-task.ensures at r.report; spends = r.exact } in
+    let s = c.in-Ok-say.ensures.says in
+    let test = c.is_still.ensures.0 c.if-is_still.true in
+    let before = c.count-before.ensures in
+    let some : 0 < length c.args.cache.now = omega (arith, test.0, before) in
+    record {
+      said = s.said;
+      says = s.says;
+      goes = ended-still law d (λ h. still c.args.files.now (task_of c.args.options.now c.args.kind) c.args.cache.now c.run.new.cache c.in-Ok.report (d.reports h) test.2 (sym c.count-after.ensures ∙ test.1 ∙ before)) some s.said (s.leaves ∙ c.as_slice-in-Ok-write_changed.ensures) (g.T.Tree.view c.args.tree.now).files (g.T.Tree.view c.write_changed.new.tree).files (rw c.as_slice.ensures at c.in-Ok-write_changed.ensures.writes) (g.K.Keeper.view c.args.keeper.now).kept;
     }
 
 pub returns-in-Err-keep-clause-tree_fault : goal.returns-in-Err-keep-clause-tree_fault
