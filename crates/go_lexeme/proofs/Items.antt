@@ -1,6 +1,6 @@
 -- Which piece begins a text.
 use Rattle.std.proofs.Common.{◌≡◌, ℕ, ◌+◌, ◌-◌, ◌<◌, ◌≤◌, Bool, true, false, cond, ◌||◌, List, [], ◌∷◌, Option, Some, None, length, take, drop, refl, sym, ap, subst, ◌⊎◌, inl, inr, ⊎_elim, ◌∙◌, arith, length-drop, bytes_eq, nat_le, nat_eq, eq-eqb}
-use Rattle.std.specs.Prelude.{slice_index}
+use Rattle.std.specs.Prelude.{slice_index, ◌==◌}
 use Rattle.std.specs.List.{list_all, position_from, fold}
 use Rattle.std.specs.Cmp.{first_so, second_so}
 use Rattle.std.specs.Char.{is_ascii_digit}
@@ -14,15 +14,15 @@ use Rattle.std.proofs.lemmas.List.Folds.{fold_stuck}
 use Rattle.go_tree.specs.declared.class.Class.{Class}
 use Rattle.go_tree.specs.declared.class.Class.TheVariants.{Word, Number, Fraction, LineComment, BlockComment, Blank, LineEnd, RawText, QuotedText, QuotedRune, Operator}
 use Rattle.go_tree.specs.declared.class.State.{State}
-use Rattle.go_tree.specs.declared.class.State.TheVariants.{Dead}
+use Rattle.go_tree.specs.declared.class.State.TheVariants.{Dead, Open}
 use Rattle.go_tree.specs.declared.token.Piece.{Piece}
 use Rattle.go_tree.specs.declared.token.Item.{Item}
-use Rattle.go_tree.specs.declared.token.Item.TheVariants.{Lexeme, Wrong}
+use Rattle.go_tree.specs.declared.token.Item.TheVariants.{Lexeme, Space, Wrong}
 use Rattle.go_tree.specs.declared.token.Why.TheVariants.{BadLexeme}
 use Rattle.go_tree.specs.Lexeme.{is_letter, is_blank, mark_item, mark_kind, marks, place_of, item_of, item_in, class_item, class_of, class_at, class_of_byte, opener, start_of, step_of, is_dead, is_operator, is_word_class, word_front, word_item}
 use Rattle.go_tree.specs.Word.{is_word}
 use Rattle.go_tree.specs.Lexed.{Begins}
-use Rattle.go_lexeme.specs.Run.{IsRun, IsMark, IsClassPiece, IsWordPiece}
+use Rattle.go_lexeme.specs.Run.{goes_on, IsRun, NoMark, IsMark, IsClassPiece, IsWordPiece}
 
 -- a test whose truth is absurd is false
 refuted : (b : Bool) → (b ≡ true → ⊥) → b ≡ false
@@ -189,6 +189,49 @@ unfolding mark_item
 no_long_mark bytes long =
     let none : place_of marks bytes ≡ None = no_longer marks 3 0 bytes refl long in
     ap (λ place. option_or (option_map (λ place. Lexeme (mark_kind place)) place) (cond (nat_eq (length bytes) 1) (Some (Wrong BadLexeme)) None)) none ∙ cond-false _ _ _ (nat_eq_false (length bytes) 1 (λ one. omega arith))
+
+-- one of two tests passes
+either : (a b : Bool) → (a || b) ≡ true → (a ≡ true) ⊎ (b ≡ true)
+either true b h = inl refl
+either false b h = inr h
+
+-- a table whose longer spellings have a byte that goes on behind the first has none with another there
+no_second : (table : List (List ℕ)) (i : ℕ) (bytes : List ℕ) → list_all (λ s. nat_le (length s) 1 || goes_on (slice_index s 1)) table ≡ true → 1 < length bytes → goes_on (slice_index bytes 1) ≡ false → position_from (λ s. bytes_eq s bytes) i table ≡ None
+no_second [] i bytes fine more other = refl
+no_second (s ∷ table) i bytes fine more other =
+    let differs : bytes_eq s bytes ≡ false = refuted _ (λ same.
+    let here : s ≡ bytes = (bytes_eq-Decides s bytes).0 same in
+    let test : (nat_le (length bytes) 1 || goes_on (slice_index bytes 1)) ≡ true = subst (λ v. (nat_le (length v) 1 || goes_on (slice_index v 1)) ≡ true) here (first_so _ _ fine) in
+    ⊎_elim (λ short. let le : length bytes ≤ 1 = leb-true _ _ short in omega (arith, le, more)) (λ so. cc (so, other)) (either _ _ test)) in
+    cond-false _ _ _ differs ∙ no_second table (i + 1) bytes (second_so _ _ fine) more other
+
+no_mark_on : (bytes : List ℕ) → 1 < length bytes → goes_on (slice_index bytes 1) ≡ false → mark_item bytes ≡ None
+unfolding mark_item
+no_mark_on bytes more other =
+    let none : place_of marks bytes ≡ None = no_second marks 0 bytes refl more other in
+    ap (λ place. option_or (option_map (λ place. Lexeme (mark_kind place)) place) (cond (nat_eq (length bytes) 1) (Some (Wrong BadLexeme)) None)) none ∙ cond-false _ _ _ (nat_eq_false (length bytes) 1 (λ one. omega arith))
+
+-- where the second byte is of no mark, none is longer than the first
+pub short_mark : (rest : List ℕ) → goes_on (slice_index rest 1) ≡ false → NoMark 1 rest
+short_mark rest other = λ m longer three within.
+    let second : slice_index (take m rest) 1 ≡ slice_index rest 1 = get_or-take m rest 1 0 longer in
+    no_mark_on (take m rest) (omega (arith, longer, length-take-le m rest within)) (ap goes_on second ∙ other)
+
+blank_class : (first second : ℕ) → is_blank first ≡ true → class_of first second ≡ Blank
+unfolding class_of
+blank_class first second blank =
+    ⊎_elim
+    (λ low. ⊎_elim (λ space. subst (λ b. class_of b second ≡ Blank) (sym ((Decides-eqb first 32).0 space)) refl) (λ tab. subst (λ b. class_of b second ≡ Blank) (sym ((Decides-eqb first 9).0 tab)) refl) (either (first == 32) (first == 9) low))
+    (λ turn. subst (λ b. class_of b second ≡ Blank) (sym ((Decides-eqb first 13).0 turn)) refl)
+    (either (first == 32 || first == 9) (first == 13) blank)
+
+-- a blank begins the text
+pub blank_begins : (rest : List ℕ) → 0 < length rest → is_blank (slice_index rest 0) ≡ true → Begins item_of (record { item = Space; size = 1 }) rest
+unfolding class_item step_of class_of
+blank_begins rest some blank =
+    let at : class_at rest ≡ Blank = blank_class (slice_index rest 0) (slice_index rest 1) blank in
+    class_begins rest Blank 0 Open Space (sym at) refl refl (omega (arith, some))
+    (record { within = omega arith; comes = refl; alive = refl; stops = λ lt. refl }) refl
 
 -- one byte is an item, if it is no mark then a wrong one
 pub one_byte : (rest : List ℕ) → 0 < length rest → mark_item (take 1 rest) ≡ None → ⊥

@@ -1,5 +1,5 @@
 -- The front of a text whose bytes pass a test.
-use Rattle.std.specs.Prelude.{◌≡◌, ℕ, ◌<◌, ◌≤◌, true, false, List, ◌+◌, ◌-◌, Some, None, length, take, drop, slice_index}
+use Rattle.std.specs.Prelude.{◌≡◌, ℕ, ◌<◌, ◌≤◌, Bool, true, false, ◌==◌, ◌||◌, List, ◌+◌, ◌-◌, Some, None, length, take, drop, slice_index}
 use Rattle.go_tree.specs.Word.{is_word}
 use Rattle.go_tree.specs.Lexeme.{is_word_byte, word_front, mark_item, step_of, start_of, is_dead, opener, class_item}
 use Rattle.go_tree.specs.declared.token.Piece.{Piece}
@@ -47,6 +47,10 @@ pub record IsClassPiece (class : Class) (rest : List ℕ) (piece : Piece) : Type
   pub run : IsRun class (slice_index rest 0) (take (length rest - opener class) (drop (opener class) rest)) n state
   pub size : piece.size ≡ opener class + n
   pub item : piece.item ≡ class_item class state (take piece.size rest)
+
+-- a mark may have this byte behind its first
+abbrev pub goes_on : ℕ → Bool
+goes_on b = b == 61 || (b == 38 || (b == 94 || (b == 43 || (b == 45 || (b == 46 || (b == 60 || (b == 62 || (b == 124))))))))
 
 -- no front of more than n and at most three bytes is a mark
 abbrev pub NoMark : ℕ → List ℕ → Type 0

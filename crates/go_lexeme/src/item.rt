@@ -1,11 +1,11 @@
 //! The item at the front of a text.
-ghost use Rattle.std.specs.Prelude.{◌≡◌, ◌<◌, ◌≤◌, length, MatchOption, IfSome, slice_index, take, ◌==◌, ◌+◌};
+ghost use Rattle.std.specs.Prelude.{◌≡◌, ◌<◌, ◌≤◌, false, length, MatchOption, IfSome, slice_index, take, ◌==◌, ◌+◌};
 ghost use Rattle.std.specs.List.{list_any};
 ghost use Rattle.go_tree.specs.Lexeme.{word_item, number_item, mark_item, class_item, closed, text_item, rune_item, newline, block_item, is_operator, is_word_class, opener, class_at, item_of};
 ghost use Rattle.go_tree.specs.Lexed.{Begins};
-ghost use Rattle.go_lexeme.specs.Run.{NoMark, IsMark, IsClassPiece, IsWordPiece};
+ghost use Rattle.go_lexeme.specs.Run.{goes_on, NoMark, IsMark, IsClassPiece, IsWordPiece};
 
-use crate::byte::byte_at;
+use crate::byte::{byte_at, is_blank};
 use crate::class::{class_of, opener, run};
 use crate::table::{keyword_place, mark_place};
 use crate::word::word_size;
@@ -68,8 +68,46 @@ fn mark_of_size(rest: &[u8], size: usize) -> Option<Piece>
     }
 }
 
-/// The longest mark at the front.
+/// Whether a mark may have this byte behind its first.
+#[inline(always)]
+fn goes_on(b: u8) -> bool
+    ensures { result ≡ goes_on b }
+{
+    match b {
+        b'=' | b'&' | b'^' | b'+' | b'-' | b'.' | b'<' | b'>' | b'|' => true,
+        _ => false,
+    }
+}
+
+/// The longest mark at the front. Most have one byte, as the next one tells.
 fn mark_at(rest: &[u8]) -> Piece
+    requires { 0 < length rest.now }
+    ensures { IsMark result rest.now }
+{
+    if goes_on(byte_at(rest, 1)) {
+        long_mark_at(rest)
+    } else {
+        short_mark_at(rest)
+    }
+}
+
+/// The mark of one byte at the front.
+fn short_mark_at(rest: &[u8]) -> Piece
+    requires some { 0 < length rest.now }
+    requires short { goes_on (slice_index rest.now 1) ≡ false }
+    ensures { IsMark result rest.now }
+{
+    if let Some(piece) = mark_of_size(rest, 1) {
+        return piece;
+    }
+    Piece {
+        item: Item::Wrong(Why::BadLexeme),
+        size: 1,
+    }
+}
+
+/// The longest mark at the front, of three sizes.
+fn long_mark_at(rest: &[u8]) -> Piece
     requires { 0 < length rest.now }
     ensures { IsMark result rest.now }
 {
@@ -222,6 +260,12 @@ pub fn piece_at(rest: &[u8]) -> Piece
     requires { 0 < length rest.now }
     ensures { Begins item_of result rest.now }
 {
+    if is_blank(rest[0]) {
+        return Piece {
+            item: Item::Space,
+            size: 1,
+        };
+    }
     let class = class_at(rest);
     if is_operator(class) {
         mark_at(rest)

@@ -100,12 +100,23 @@ fn scan_text(alloc: Global, bytes: &[u8]) -> Result<Scan, NoMemory>
     scan_pieces(alloc, bytes)
 }
 
+/// How many bytes a token of most files has at least, with the gaps beside it.
+const BYTES_A_TOKEN: usize = 3;
+
+/// The most tokens for which there is room at first.
+const MOST_AT_FIRST: usize = 1 << 16;
+
+/// For how many tokens of so many bytes there is room at first.
+fn room(bytes: usize) -> usize {
+    (bytes / BYTES_A_TOKEN).min(MOST_AT_FIRST)
+}
+
 fn scan_pieces(alloc: Global, bytes: &[u8]) -> Result<Scan, NoMemory>
     requires short { length bytes.now ≤ 2 ^ 24 }
     requires passes { Passes bytes.now }
     ensures { IfOk result (λ scan. IsScan bytes.now scan) }
 {
-    let mut tokens = Vec::new(alloc);
+    let mut tokens = Vec::with_capacity(alloc, room(bytes.len()))?;
     let mut due: Option<u32> = None;
     let mut at = front_mark(bytes);
     while at < bytes.len() {

@@ -23,5 +23,5 @@ returns c = subst (Lexed _) (sym c.new.ensures) (finish item_of no_item _ _ _ _ 
 pub loop-at-init : goal.loop-at-init
 loop-at-init c = record {
   within = c.front_mark-at.ensures.within;
-  reaches = reaches_start item_of no_item _ _ _ c.front_mark-at.ensures.mark c.new-tokens.ensures.items;
+  reaches = reaches_start item_of no_item _ _ _ c.front_mark-at.ensures.mark c.in_ok-tokens.ensures.items;
 }

@@ -1,6 +1,6 @@
 use Rattle.std.proofs.Common.{arith}
 use Rattle.go_lexeme.proofs.Items.{one_byte}
-use Rattle.go_lexeme.proofs.item.mark_at.Goals as goal
+use Rattle.go_lexeme.proofs.item.long_mark_at.Goals as goal
 
 -- one byte is always an item
 pub returns : goal.returns
