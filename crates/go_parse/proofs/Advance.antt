@@ -1,4 +1,4 @@
-use Rattle.std.proofs.Common.{◌≡◌, ℕ, ◌-◌, ◌<◌, Option, Some, None, List, [], ◌∷◌, ◌++◌, length, arith, refl, subst, sym, ap, ◌∙◌}
+use Rattle.std.proofs.Common.{◌≡◌, ℕ, ◌-◌, Option, Some, None, List, [], ◌∷◌, ◌++◌, length, arith, refl, subst, sym, ap, ◌∙◌}
 use Rattle.std.specs.Prelude.{reverse, option_to_list}
 use Rattle.std.proofs.lemmas.List.{reverse-append, append-nil}
 use Rattle.go_parse.specs.declared.parser.Task.{Task}
@@ -10,7 +10,6 @@ use Rattle.go_tree.specs.declared.tree.NodeKind.{NodeKind}
 use Rattle.go_parse.specs.State.{State, Outcome, Goes, Takes, Refuses, turned, Completes, Holds, Leads}
 use Rattle.go_parse.specs.Machine.{FitsItem, topped}
 use Rattle.go_parse.proofs.Arenas.{length_roots, length_heights, length_kinds}
-use Rattle.go_parse.proofs.Steps.{turns, Shorter, turn_shorter}
 use Rattle.go_parse.proofs.Turns.{Outcomes, under, turn_leads}
 
 abbrev pub state : List Task → List Node → List ℕ → List ℕ → List NodeKind → State
@@ -47,9 +46,6 @@ pub fits : (i : Task) (s : State) (g : Forest) (m : ℕ) → Holds (under i s) g
 fits (Want x) s g m h e = tt
 fits (Close kind a base) s g m h e = let z = ap length h.pending in let y = length_roots 0 g in omega (arith, h.based.0, z, y)
 fits (After p q v a base) s g m h e = tt
-
-pub shorter : (i : Task) (k at : ℕ) (s s' : State) → Goes s' ≡ turned i k at s → turns s'.stack < turns (i ∷ s.stack)
-shorter i k at s s' e = subst (Shorter (turns (i ∷ s.stack))) (sym e) (turn_shorter i k at s)
 
 pub fits_heights : (i : Task) (s : State) (g : Forest) (m : ℕ) → Holds (under i s) g → m ≡ length s.heights → FitsItem i m
 fits_heights (Want x) s g m h e = tt

@@ -10,6 +10,7 @@ pub mod Turns
 pub mod Weights
 pub mod Steps
 pub mod Advance
+pub mod Running
 pub mod Parse
 pub mod Unique
 pub mod PieceLaws

@@ -1,5 +1,5 @@
 -- The states of the machine, over the classes of tokens.
-use Rattle.std.proofs.Common.{◌≡◌, true, ℕ, ◌+◌, ◌-◌, ◌<◌, ◌≤◌, List, [], ◌∷◌, length, drop, refl, arith, subst, sym, ◌∙◌, length-drop, get_or, drop-cons, add-one}
+use Rattle.std.proofs.Common.{◌≡◌, Bool, true, false, ℕ, ◌+◌, ◌-◌, ◌<◌, ◌≤◌, List, [], ◌∷◌, length, drop, refl, arith, subst, sym, ◌∙◌, length-drop, get_or, drop-cons, add-one}
 use Rattle.std.specs.Prelude.{◌==◌}
 use Rattle.go_tree.specs.declared.grammar.Category.{Category}
 use Rattle.go_tree.specs.declared.grammar.Symbol.TheVariants.{Inline}
@@ -10,7 +10,7 @@ use Rattle.go_tree.specs.Spells.{Spells}
 use Rattle.go_parse.specs.State.{State, Completes, Holds, Fails, Passes, Stops}
 use Rattle.go_parse.specs.declared.parser.Step.{Step}
 use Rattle.go_parse.specs.declared.parser.Step.TheVariants as steps
-use Rattle.go_parse.specs.Machine.{Built, wanting, SpellsTo, Unspelled, Stepped, Ended}
+use Rattle.go_parse.specs.Machine.{Built, wanting, SpellsTo, Unspelled, Stepped, Ended, Answered, is_over, stops}
 use Rattle.go_parse.proofs.Forests.{beside_cancel}
 
 -- What is left of the classes completes the state to the trees that all of them spell, over the trees before.
@@ -75,11 +75,6 @@ pub need : (cs : List ℕ) (i k : ℕ) (z : Category) (ds : List ℕ) (b : Fores
     → (n : ℕ) × (xs : List ℕ) × (g : Forest) × (next xs ≡ k) × (i ≡ n - length xs) × Holds s g
 need cs i k z ds b s l e h = (length cs, drop i cs, h.g, e, here cs i l, h.holds)
 
--- what a step did, at the classes that are left
-pub did : (cs : List ℕ) (i k : ℕ) (s s' : State) (t u : Step) → i ≤ length cs → next (drop i cs) ≡ k
-    → ((n : ℕ) (xs : List ℕ) → next xs ≡ k → i ≡ n - length xs → Stepped t n xs s s') → t ≡ u → Stepped u (length cs) (drop i cs) s s'
-did cs i k s s' t u l e h q = subst (λ t. Stepped t (length cs) (drop i cs) s s') q (h (length cs) (drop i cs) e (here cs i l))
-
 pub none_left : (cs : List ℕ) (i : ℕ) → i ≡ length cs → drop i cs ≡ []
 none_left cs i e = rw e (drop_all cs)
   where
@@ -95,10 +90,6 @@ not_taken n z cs b s s' h p f w = p.1 refl h.g h.holds (b ⊕ f) (h.goes f w)
 pub at_the_end : (cs : List ℕ) (i : ℕ) (z : Category) (ds : List ℕ) (b : Forest) (s : State) → i ≡ length cs → Same (length cs) z ds b (drop i cs) s → Same (length cs) z ds b [] s
 at_the_end cs i z ds b s e h = subst (λ v. Same (length cs) z ds b v s) (none_left cs i e) h
 
-pub did_last : (cs : List ℕ) (s s' : State) (t u : Step)
-    → ((n : ℕ) (xs : List ℕ) → next xs ≡ 75 → length cs ≡ n - length xs → Stepped t n xs s s') → t ≡ u → Stepped u (length cs) [] s s'
-did_last cs s s' t u h q = subst (λ t. Stepped t (length cs) [] s s') q (h (length cs) [] refl (omega arith))
-
 -- To want a category leaves what was built.
 pub carry : (z : Category) (s s' : State) (b : Forest) → s' ≡ wanting z s → Built s b → Built s' b
 carry z s s' b e h = subst (λ v. Built v b) (sym e) (record { nodes = h.nodes; pending = h.pending; heights = h.heights; kinds = h.kinds })
@@ -107,3 +98,53 @@ pub start_same : (n : ℕ) (z : Category) (cs : List ℕ) (b : Forest) (s s' : S
 start_same n z cs b s s' e f h =
     let w : Built (wanting z s) b = subst (λ v. Built v b) e h in
     subst (Same n z cs b cs) (sym e) (begin n z cs b s f (record { nodes = w.nodes; pending = w.pending; heights = w.heights; kinds = w.kinds }))
+
+end_is : (a b : ℕ) → (a == b) ≡ true → a ≡ b
+end_is a b h = grind arith
+
+end_not : (a b : ℕ) → (a == b) ≡ false → a ≤ b → a < b
+end_not a b h l = grind arith
+
+-- What the step at the end says of all.
+pub last : (cs : List ℕ) (i k : ℕ) (z : Category) (ds : List ℕ) (b : Forest) (s s' : State) (t : Step) (e r : Bool) → e ≡ (i == length cs) → e ≡ true → next (drop i cs) ≡ k
+    → Same (length cs) z ds b (drop i cs) s → ((n : ℕ) (xs : List ℕ) → next xs ≡ k → i ≡ n - length xs → Stepped t n xs s s') → r ≡ is_over t
+    → Answered r (length cs) z ds b s'
+last cs i k z ds b s s' t e r g f n h p q =
+    let at : i ≡ length cs = end_is i (length cs) (sym g ∙ f) in
+    let none = none_left cs i at in
+    let same = at_the_end cs i z ds b s at h in
+    let step : Stepped t (length cs) [] s s' = subst (λ v. Stepped t (length cs) v s s') none (p (length cs) (drop i cs) n (here cs i (omega (arith, at)))) in
+    subst (λ r. Answered r (length cs) z ds b s') (sym q) (by t step)
+  where
+    by : (t : Step) → Stepped t (length cs) [] s s' → Answered (is_over t) (length cs) z ds b s'
+    by steps.Over w = over (length cs) z ds b s s' (at_the_end cs i z ds b s (end_is i (length cs) (sym g ∙ f)) h) w
+    by steps.Taken w = not_taken (length cs) z ds b s s' (at_the_end cs i z ds b s (end_is i (length cs) (sym g ∙ f)) h) w
+    by steps.Refused w = refused (length cs) z ds b [] s (at_the_end cs i z ds b s (end_is i (length cs) (sym g ∙ f)) h) w
+
+-- A step before the end that takes no token.
+pub stopped : (cs : List ℕ) (i k : ℕ) (z : Category) (ds : List ℕ) (b : Forest) (s s' : State) (t : Step) (e : Bool) → e ≡ (i == length cs) → e ≡ false → i ≤ length cs → next (drop i cs) ≡ k
+    → Same (length cs) z ds b (drop i cs) s → ((n : ℕ) (xs : List ℕ) → next xs ≡ k → i ≡ n - length xs → Stepped t n xs s s') → stops t ≡ true
+    → Unspelled (length cs) z ds
+stopped cs i k z ds b s s' t e g f l n h p q = by t q (p (length cs) (drop i cs) n (here cs i l))
+  where
+    by : (t : Step) → stops t ≡ true → Stepped t (length cs) (drop i cs) s s' → Unspelled (length cs) z ds
+    by steps.Over q w = over_early (length cs) z ds b (drop i cs) (drop (i + 1) cs) (get_or cs i 0) s s' (cut cs i 0 (end_not i (length cs) (sym g ∙ f) l)) h w
+    by steps.Refused q w = refused (length cs) z ds b (drop i cs) s h w
+    by steps.Taken q w = absurd (let e = q in cc)
+
+-- A step that takes one.
+pub went : (cs : List ℕ) (i k : ℕ) (z : Category) (ds : List ℕ) (b : Forest) (s s' : State) (t : Step) (e : Bool) → e ≡ (i == length cs) → e ≡ false → i ≤ length cs → next (drop i cs) ≡ k
+    → Same (length cs) z ds b (drop i cs) s → ((n : ℕ) (xs : List ℕ) → next xs ≡ k → i ≡ n - length xs → Stepped t n xs s s') → stops t ≡ false
+    → Same (length cs) z ds b (drop (i + 1) cs) s'
+went cs i k z ds b s s' t e g f l n h p q = by t q (p (length cs) (drop i cs) n (here cs i l))
+  where
+    by : (t : Step) → stops t ≡ false → Stepped t (length cs) (drop i cs) s s' → Same (length cs) z ds b (drop (i + 1) cs) s'
+    by steps.Taken q w = taken (length cs) z ds b (drop i cs) (drop (i + 1) cs) (get_or cs i 0) s s' (cut cs i 0 (end_not i (length cs) (sym g ∙ f) l)) h w
+    by steps.Over q w = absurd (let e = q in cc)
+    by steps.Refused q w = absurd (let e = q in cc)
+
+pub within : (cs : List ℕ) (i : ℕ) (e : Bool) → e ≡ (i == length cs) → e ≡ false → i ≤ length cs → i + 1 ≤ length cs
+within cs i e g f l = let lt = end_not i (length cs) (sym g ∙ f) l in omega (arith, lt)
+
+pub nearer : (cs : List ℕ) (i : ℕ) (e : Bool) → e ≡ (i == length cs) → e ≡ false → i ≤ length cs → length cs - (i + 1) < length cs - i
+nearer cs i e g f l = let lt = end_not i (length cs) (sym g ∙ f) l in omega (arith, lt)

@@ -31,6 +31,18 @@ FitsItem (Want s) m = Unit {0}
 FitsItem (Close kind a base) m = base ≤ m
 FitsItem (After p q l a base) m = Unit {0}
 
+-- nothing is wanted any more
+abbrev pub is_over : Step → Bool
+is_over steps.Over = true
+is_over steps.Taken = false
+is_over steps.Refused = false
+
+-- no token was taken
+abbrev pub stops : Step → Bool
+stops steps.Taken = false
+stops steps.Over = true
+stops steps.Refused = true
+
 abbrev pub Stepped : Step → ℕ → List ℕ → State → State → Type 0
 Stepped steps.Taken n xs s s' = Passes n xs s s'
 Stepped steps.Refused n xs s s' = Fails n xs s

@@ -58,6 +58,11 @@ turned (Close (Is kind) a base) c at s = Goes (record { stack = s.stack; nodes =
 turned (Close Bare a base) c at s = Goes s
 turned (After p q l a base) c at s = on_some (pick_suffix l c) (Goes s) (λ r. cond (nat_le p r.level && nat_le r.left q) (Goes (pushed (wants r.symbols ++ (Close r.ending a base ∷ After p r.level l a base ∷ [])) s)) (Goes s))
 
+-- What an outcome comes to by further turns before the class c, which stands at a place: none, or that of the topmost item and what comes of it.
+pub data Runs (c at : ℕ) : Outcome → Outcome → Type 0 where
+  stay : {o : Outcome} → Runs c at o o
+  on : {i : Task} {s : State} {o : Outcome} → Runs c at (turned i c at s) o → Runs c at (Goes (pushed (i ∷ []) s)) o
+
 -- A left side that goes on with suffixes, each of a level between p and that of its left side.
 pub data Grows (n p a : ℕ) (l : Setting) : ℕ → Forest → List ℕ → Forest → List ℕ → Type 0 where
   stop : {q : ℕ} {left : Forest} {xs : List ℕ} → Grows n p a l q left xs left xs

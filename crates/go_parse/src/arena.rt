@@ -4,8 +4,7 @@ ghost use Rattle.go_tree.specs.Arena.{highest, node_of};
 ghost use Rattle.go_tree.specs.Shape.{shape};
 
 use go_grammar::{add, sort};
-use go_tree::{Node, NodeKind, Shape};
-use gv_base::Row;
+use go_tree::{Node, NodeKind, Parts, Shape};
 use std::alloc::AllocError;
 
 /// The number of the next node. Numbers past 32 bits are as memory that is wanting.
@@ -17,6 +16,25 @@ fn number(length: usize) -> Result<u32, AllocError>
         Err(AllocError)
     } else {
         Ok(length as u32)
+    }
+}
+
+/// The numbers of the pending nodes from `base` on, which wait no longer.
+#[inline(always)]
+fn parts_from(pending: &mut Vec<u32>, base: usize) -> Result<Parts, AllocError>
+    requires { base ≤ vec_len pending.old }
+    ensures parts { IfOk result (λ parts. parts ≡ drop base pending.old.items) }
+    ensures rest { OnOk result (pending.new.items ≡ take base pending.old.items) }
+{
+    match Parts::few(&pending[base..]) {
+        Some(parts) => {
+            pending.truncate(base);
+            Ok(parts)
+        }
+        None => {
+            let list = pending.split_off(base)?;
+            Ok(Parts::new(list))
+        }
     }
 }
 
@@ -33,7 +51,7 @@ pub fn close(
     ensures nodes { OnOk result (nodes.new.items ≡ nodes.old.items ++ (node_of kind first last (drop base pending.old.items)) ∷ []) }
     ensures pending { OnOk result (pending.new.items ≡ take base pending.old.items ++ (length nodes.old.items) ∷ []) }
 {
-    let parts = Row::new(pending.split_off(base)?);
+    let parts = parts_from(pending, base)?;
     let number = number(nodes.len())?;
     nodes.push(Node {
         kind,

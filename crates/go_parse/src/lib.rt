@@ -3,8 +3,10 @@
 
 mod arena;
 mod chunk;
+mod names;
 mod parser;
 mod pieces;
 mod token_classes;
+mod turning;
 
 pub use chunk::{Chunk, Verdict, one_finding, one_tree, parse_chunk, parse_pieces};

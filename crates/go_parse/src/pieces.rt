@@ -1,6 +1,5 @@
 //! The pieces of a file in turn.
-ghost use Rattle.std.specs.Prelude.{◌≡◌, ◌<◌, ◌≤◌, ◌+◌, ◌-◌, ◌^◌, ℕ, List, length, drop, IfOk, OnOk, Option, Some, None, IsTrue, ◌↔◌, take, cond, nat_lt, true};
-ghost use Rattle.go_parse.specs.Machine.{state_of};
+ghost use Rattle.std.specs.Prelude.{◌≡◌, ◌<◌, ◌≤◌, ◌+◌, ◌-◌, ◌^◌, ℕ, List, length, drop, IfOk, Option, Some, None, [], IsTrue, ◌↔◌, take, cond, true};
 ghost use Rattle.go_parse.specs.Reading.{first_size, deep_now, Stands, Stepped, Read};
 ghost use Rattle.go_tree.specs.Arena.{highest};
 ghost use Rattle.go_tree.specs.Pieces.{deeper, wanted, after, is_import, IsEnough};
@@ -9,7 +8,7 @@ ghost use Rattle.go_tree.specs.declared.grammar.Stage.TheVariants.{Imports, Decl
 use crate::arena::highest;
 use crate::parser::Parser;
 use crate::token_classes::DEPTH_LIMIT;
-use go_tree::{Category, Stage};
+use go_tree::{Category, Node, Stage};
 use std::alloc::{AllocError, Global};
 
 /// What the reading of a file's pieces came to.
@@ -37,6 +36,9 @@ const SEMICOLON: u8 = 31;
 
 /// The class of `import`.
 const IMPORT: u8 = 20;
+
+/// The most tokens for whose nodes there is room at first.
+const MOST_AT_FIRST: usize = 1 << 16;
 
 /// The bracket depth after a token of a class.
 fn deeper(depth: usize, class: u8) -> usize
@@ -123,12 +125,13 @@ fn too_deep(depth: u32, at: u32) -> Option<u32>
 }
 
 impl Reader {
-    fn new(alloc: Global) -> Reader
+    fn new(alloc: Global, nodes: Vec<Node>) -> Reader
+        requires { nodes.items ≡ [] }
         ensures start { (cs : List ℕ) → Stands cs result }
         ensures at { result.at ≡ 0 }
     {
         Reader {
-            parser: Parser::new(alloc),
+            parser: Parser::new(alloc, nodes),
             stage: Stage::Clause,
             deep: None,
             at: 0,
@@ -235,12 +238,19 @@ fn is_enough(stage: Stage) -> bool
     }
 }
 
+/// How many nodes the list for those of so many tokens has room for at first: most files have three for four tokens, and few so many tokens.
+fn room(tokens: usize) -> usize {
+    let few = tokens.min(MOST_AT_FIRST);
+    few - few / 4
+}
+
 /// Reads the pieces of a file in turn, up to one that is not spelled.
 pub fn read(alloc: Global, classes: &[u8]) -> Result<Reading, AllocError>
     requires { length classes.now < 2 ^ 32 }
     ensures { IfOk result (λ reading. Read classes.now reading) }
 {
-    let mut reader = Reader::new(alloc);
+    let nodes = Vec::with_capacity(alloc, room(classes.len()))?;
+    let mut reader = Reader::new(alloc, nodes);
     loop {
         let end = piece_end(classes, reader.at);
         if end >= classes.len() {

@@ -1,6 +1,6 @@
 -- Why the steps over a literal keep their values in bounds, and how a loop goes over one.
 use Rattle.std.proofs.Common.{◌≡◌, ℕ, ◌+◌, ◌*◌, ◌<◌, ◌≤◌, Bool, true, false, cond, not, ◌&&◌, ◌||◌, List, [], ◌∷◌, ◌++◌, length, get_or, drop, refl, sym, ap, ◌⊎◌, ◌-◌, inl, inr, ⊎_elim, ◌∙◌, arith, nat_lt, nat_le, nat_eq, append_assoc, append-nil, suc}
-use Rattle.std.specs.List.{fold}
+use Rattle.std.specs.List.{fold, list_any}
 use Rattle.std.specs.Char.{digit_value, InScalarRange}
 use Rattle.std.specs.Str.{byte}
 use Rattle.std.proofs.lemmas.Bool.{cond-true, cond-false, ltb-true, ltb-false}
@@ -10,7 +10,7 @@ use Rattle.std.proofs.lemmas.List.{drop_all}
 use Rattle.go_tree.specs.declared.class.Escape.{Escape}
 use Rattle.go_tree.specs.declared.class.Escape.TheVariants.{Plain, Slash, Octal, Hex, Point, Bad}
 use Rattle.go_tree.specs.Escapes.{double_quote, single_quote, is_plain, point_end, escape_step, lone_step}
-use Rattle.go_tree.specs.Values.{number_with, IsEnding, unit_value, gives_char, lone_value, added, text_from, simple_value}
+use Rattle.go_tree.specs.Values.{number_with, IsEnding, unit_value, gives_char, lone_value, added, text_from, unit_bytes, simple_value}
 
 -- A byte that ends an escape.
 
@@ -135,6 +135,15 @@ unfolding lone_value
 lone_end bytes state k all past comes = ap (lone_value state) (sym (drop_all k bytes past)) ∙ comes
 
 -- The bytes of a text.
+
+-- without a backslash they are those that are written
+pub plain_text : (body : List ℕ) → list_any (λ b. nat_eq b 92) body ≡ false → text_from Plain body ≡ body
+unfolding text_from escape_step unit_value
+plain_text [] none = refl
+plain_text (b ∷ body) none =
+    let parts = neither (nat_eq b 92) (list_any (λ b. nat_eq b 92) body) none in
+    let step : escape_step double_quote Plain b ≡ Plain = cond-false _ _ _ parts.0 in
+    (λ i. cond (is_plain (step i)) (unit_bytes Plain b) [] ++ text_from (step i) body) ∙ ap (λ rest. b ∷ rest) (plain_text body parts.1)
 
 pub text_turn : (bytes text : List ℕ) (state : Escape) (k : ℕ) (all : List ℕ) → k < length bytes → text ++ text_from state (drop k bytes) ≡ all → (more : List ℕ) → more ≡ text ++ added state (get_or bytes k 0) → (next : Escape) → next ≡ escape_step double_quote state (get_or bytes k 0) → more ++ text_from next (drop (k + 1) bytes) ≡ all
 unfolding text_from

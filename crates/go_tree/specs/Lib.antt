@@ -4,6 +4,7 @@ pub mod Word
 pub mod Escapes
 pub mod Numbers
 pub mod Values
+pub mod Parts
 pub mod Forest
 pub mod Arena
 pub mod Shape

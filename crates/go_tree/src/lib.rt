@@ -11,6 +11,7 @@ mod head;
 mod import_path;
 mod number;
 mod part;
+mod part_list;
 mod quoted;
 mod spelling;
 mod token;
@@ -26,6 +27,7 @@ pub use grammar::{Category, Ending, Guard, Setting, Shape, Sort, Stage, Symbol, 
 pub use head::{Head, ImportLine, LocalName, is_import};
 pub use import_path::{Segment, are_segments};
 pub use number::number_kind;
+pub use part_list::Parts;
 pub use quoted::text_value;
 pub use spelling::token_text;
 pub use token::{Item, Piece, Token, TokenKind, Why};

@@ -63,8 +63,20 @@ fn push_added(text: &mut Vec<u8>, state: Escape, b: u8) -> Result<(), NoMemory>
     Ok(())
 }
 
-/// The value of a text between double quotes.
+/// The value of a text between double quotes: its bytes, where none begins an escape.
 fn quoted_value(alloc: Global, body: &[u8]) -> Result<Vec<u8>, NoMemory>
+    ensures { IfOk result (λ text. text.items ≡ text_from Plain body.now) }
+{
+    if body.contains(&b'\\') {
+        let text = escaped_value(alloc, body)?;
+        return Ok(text);
+    }
+    let text = body.to_vec(alloc)?;
+    Ok(text)
+}
+
+/// The same, byte by byte.
+fn escaped_value(alloc: Global, body: &[u8]) -> Result<Vec<u8>, NoMemory>
     ensures { IfOk result (λ text. text.items ≡ text_from Plain body.now) }
 {
     let mut text = Vec::with_capacity(alloc, body.len())?;

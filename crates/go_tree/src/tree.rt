@@ -1,4 +1,5 @@
 //! The nodes of a file: one arena, each node directly after the nodes of its parts.
+use crate::part_list::Parts;
 use crate::token::Token;
 use gv_base::Row;
 
@@ -116,7 +117,7 @@ pub struct Node {
     pub kind: NodeKind,
     pub first: u32,
     pub last: u32,
-    pub parts: Row<u32>,
+    pub parts: Parts,
 }
 
 /// The tree of a file. `tops` has the top node of each piece between semicolons at bracket depth

@@ -4,7 +4,7 @@ use const_tree::{
     binary_operator, is_repeated, name_at, name_count, spec_row, specs_in, typing_of,
     unary_operator, value_at, value_count,
 };
-use go_tree::{FileTree, Node, NodeKind, Token, TokenKind};
+use go_tree::{FileTree, Node, NodeKind, Parts, Token, TokenKind};
 use gv_base::{NoMemory, Row};
 use std::alloc::Global;
 use std::test::Fail;
@@ -62,7 +62,7 @@ fn tokens(alloc: Global, op: Operator) -> Result<Vec<Token>, NoMemory> {
 fn tree(alloc: Global, op: Operator) -> Result<FileTree, NoMemory> {
     let mut nodes = Vec::new(alloc);
     for (kind, parts, first) in NODES {
-        let parts = Row::new(parts.to_vec(alloc)?);
+        let parts = Parts::new(parts.to_vec(alloc)?);
         nodes.push(Node {
             kind,
             first,
@@ -135,7 +135,7 @@ fn operators_of_nodes(rt: HostRuntime) -> Result<(), Fail> {
             kind: NodeKind::Binary,
             first: 5,
             last: 6,
-            parts: Row::new(parts),
+            parts: Parts::new(parts),
         };
         // the first token, and the one before the right operand
         assert!(rt; unary_operator(&tree, &shown) == Some(op));

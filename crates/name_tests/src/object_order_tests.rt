@@ -1,5 +1,5 @@
 //! A file of three declarations, and their order of need, worked out by hand.
-use go_tree::{FileTree, Node, NodeKind, NodeRef};
+use go_tree::{FileTree, Node, NodeKind, NodeRef, Parts};
 use gv_base::{NoMemory, Row};
 use object_order::{Entry, Form, Needed, Role, Root, View, numbers_of, order_of};
 use std::alloc::Global;
@@ -26,7 +26,7 @@ const NODES: [(NodeKind, &[u32]); 14] = [
 fn tree(alloc: Global) -> Result<FileTree, NoMemory> {
     let mut nodes = Vec::new(alloc);
     for (kind, parts) in NODES {
-        let parts = Row::new(parts.to_vec(alloc)?);
+        let parts = Parts::new(parts.to_vec(alloc)?);
         nodes.push(Node {
             kind,
             first: 0,

@@ -3,7 +3,7 @@ ghost use Rattle.std.specs.Prelude.{◌≡◌, IfOk, codes, length};
 ghost use Rattle.go_tree.specs.Arena.{node_of};
 ghost use Rattle.go_tree.specs.Pieces.{Spelled};
 
-use go_tree::{FileTree, Node, NodeKind, Token, TokenKind};
+use go_tree::{FileTree, Node, NodeKind, Parts, Token, TokenKind};
 use gv_base::{NoMemory, Row};
 use std::alloc::Global;
 
@@ -29,7 +29,7 @@ fn node(
         kind,
         first,
         last,
-        parts: Row::new(parts),
+        parts: Parts::new(parts),
     })
 }
 

@@ -2,7 +2,7 @@
 ghost use Rattle.std.specs.Prelude.{◌≡◌, map, IfOk};
 ghost use Rattle.value_circles.specs.Bodies.{opened_kind, opened_node, opened, opened_trees};
 
-use go_tree::{FileTree, Node, NodeKind};
+use go_tree::{FileTree, Node, NodeKind, Parts};
 use gv_base::{NoMemory, Row};
 use std::alloc::Global;
 
@@ -30,7 +30,7 @@ fn opened_node(alloc: Global, node: &Node) -> Result<Node, NoMemory>
         kind: opened_kind(node.kind),
         first: node.first,
         last: node.last,
-        parts: Row::new(parts),
+        parts: Parts::new(parts),
     })
 }
 

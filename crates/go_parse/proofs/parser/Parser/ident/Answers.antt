@@ -1,0 +1,6 @@
+use Rattle.go_parse.specs.Machine.{state_of}
+use Rattle.go_parse.proofs.Running.{taken_so, ident_turns}
+use Rattle.go_parse.proofs.parser.Parser.ident.Goals as goal
+
+pub returns-clause-led : goal.returns-clause-led
+returns-clause-led c = taken_so _ _ _ _ _ c.in_ok-above_ident.ensures.led (ident_turns c.args.class c.args.at (state_of c.args.self.now) c.requires)
