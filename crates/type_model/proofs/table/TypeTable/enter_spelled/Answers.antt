@@ -1,4 +1,4 @@
-use Rattle.std.proofs.Common.{◌≡◌, ◌<◌, ◌+◌, ◌++◌, ◌∷◌, [], ℕ, List, None, length, inr, sym, ap, ◌∙◌, subst, arith}
+use Rattle.std.proofs.Common.{◌≡◌, ◌<◌, ◌≤◌, ◌+◌, ◌++◌, ◌∷◌, [], ℕ, List, None, length, inr, sym, ap, ◌∙◌, subst, arith}
 use Rattle.std.specs.List.{All}
 use Rattle.type_model.specs.declared.term.Term.{Term}
 use Rattle.type_model.specs.GoTypes.{IsOver}
@@ -22,6 +22,10 @@ pub meet-requires-clause-classes : goal.meet-requires-clause-classes
 meet-requires-clause-classes c =
     subst (λ (l : List Term). AreClasses l c.reserve.new.self.classes) (sym (c.deref-4.ensures.value ∙ c.reserve.ensures.same.terms))
     (classes_same c.args.self.now.terms.items c.args.self.now.classes c.reserve.new.self.classes c.requires.table.classes c.reserve.ensures.classes)
+
+pub meet-requires-clause-few : goal.meet-requires-clause-few
+meet-requires-clause-few c =
+    subst (λ (l : List Term). length l ≤ 4294967295) (sym (c.deref-4.ensures.value ∙ c.reserve.ensures.same.terms)) (omega (arith, c.if-count-gt-MOST.false, c.len-count.ensures))
 
 pub meet-requires-clause-over : goal.meet-requires-clause-over
 meet-requires-clause-over c = subst (λ (l : List Term). IsOver (length l) c.args.term) (sym (c.deref-4.ensures.value ∙ c.reserve.ensures.same.terms)) c.requires.over
