@@ -31,3 +31,16 @@ none_bare which nodes n node there fails before m low (other, other_at, is, none
 
 pub all_bare : (which : Branch) (nodes : List Node) (k : ℕ) → length nodes ≤ k → ((m : ℕ) → m < k → IsBareAt which nodes m → ⊥) → (n : ℕ) → IsBareAt which nodes n → ⊥
 all_bare which nodes k past before n is = before n (let low = slice_get_within nodes n is.0 is.1 in omega arith) is
+
+nil_is : (parts : List ℕ) → is_nil parts ≡ true → parts ≡ []
+nil_is [] e = refl
+nil_is (x ∷ xs) e = absurd (differ false refl e)
+
+both_are : (a b : Bool) → (a && b) ≡ true → (a ≡ true) × (b ≡ true)
+both_are true b e = (refl, e)
+both_are false b e = absurd (differ false refl e)
+
+pub bare_here : (which : Branch) (nodes : List Node) (n : ℕ) (node : Node) → slice_get nodes n ≡ Some node → (is_of which node.kind && is_nil node.parts) ≡ true → IsBareAt which nodes n
+bare_here which nodes n node there holds =
+    let k = both_are (is_of which node.kind) (is_nil node.parts) holds in
+    (node, there, k.0, nil_is node.parts k.1)

@@ -1,5 +1,5 @@
 //! What each `break` leaves, and what each `continue` goes on with.
-ghost use Rattle.std.specs.Prelude.{◌≡◌, ◌<◌, ◌≤◌, ◌^◌, ◌↔◌, ◌&&◌, [], ℕ, Bool, false, cond, ◌+◌, OnOk, IfOk, IsTrue, Option, Some, None, length, get_or, slice_get};
+ghost use Rattle.std.specs.Prelude.{◌≡◌, ◌<◌, ◌≤◌, ◌^◌, ◌↔◌, ◌&&◌, [], ℕ, Bool, true, false, cond, ◌+◌, OnOk, IfOk, IsTrue, Option, Some, None, length, get_or, slice_get};
 ghost use Rattle.node_values.specs.Parents.{at, AreParents};
 ghost use Rattle.node_values.specs.Ranges.{starts, IsTiled, IsWithin};
 ghost use Rattle.node_values.specs.Trees.{IsTree, AreInnermost};
@@ -126,7 +126,7 @@ fn is_bare(which: Branch, node: &Node) -> bool
 
 /// Whether there is one.
 fn has_bare(which: Branch, nodes: &[Node]) -> bool
-    ensures { result ≡ false → (n : ℕ) → IsBareAt which nodes.now n → ⊥ }
+    ensures { (result ≡ true) ↔ ((n : ℕ) × IsBareAt which nodes.now n) }
 {
     for n in 0..nodes.len() {
         if is_bare(which, &nodes[n]) {

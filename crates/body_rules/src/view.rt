@@ -1,5 +1,5 @@
 //! What is read of a file before its rules are asked.
-ghost use Rattle.std.specs.Prelude.{◌≡◌, ◌<◌, ◌≤◌, ◌^◌, ℕ, Bool, true, false, IfOk, IsTrue, Option, length, get_or};
+ghost use Rattle.std.specs.Prelude.{◌≡◌, ◌<◌, ◌≤◌, ◌^◌, ◌↔◌, ℕ, Bool, true, false, IfOk, IsTrue, Option, length, get_or};
 ghost use Rattle.node_values.specs.Parents.{AreParents};
 ghost use Rattle.node_values.specs.Ranges.{starts};
 ghost use Rattle.node_values.specs.Trees.{IsTree, IsOfKind, AreInnermost};
@@ -90,7 +90,7 @@ impl Stops for Blocks {
 
 /// Whether there is a `goto`.
 fn has_goto(nodes: &[Node]) -> bool
-    ensures { result ≡ false → (n : ℕ) → IsOfKind is_goto nodes.now n → ⊥ }
+    ensures { (result ≡ true) ↔ ((n : ℕ) × IsOfKind is_goto nodes.now n) }
 {
     for n in 0..nodes.len() {
         if is_goto(nodes[n].kind) {
@@ -102,7 +102,7 @@ fn has_goto(nodes: &[Node]) -> bool
 
 /// Whether there is a `fallthrough`.
 fn has_fall(nodes: &[Node]) -> bool
-    ensures { result ≡ false → (n : ℕ) → IsOfKind is_fall nodes.now n → ⊥ }
+    ensures { (result ≡ true) ↔ ((n : ℕ) × IsOfKind is_fall nodes.now n) }
 {
     for n in 0..nodes.len() {
         if is_fall(nodes[n].kind) {

@@ -107,7 +107,7 @@ no_more zero n = refl
 no_more (suc count) zero = refl
 no_more (suc count) (suc n) = no_more count n
 
-more_unset : (old : List Bool) (count n : ℕ) → flag_of (old ++ replicate count false) n ≡ flag_of old n
+pub more_unset : (old : List Bool) (count n : ℕ) → flag_of (old ++ replicate count false) n ≡ flag_of old n
 more_unset [] count n = no_more count n
 more_unset (x ∷ old) count zero = refl
 more_unset (x ∷ old) count (suc n) = more_unset old count n

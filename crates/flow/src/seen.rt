@@ -33,11 +33,8 @@ fn grow(flags: &mut Vec<bool>, at: usize) -> Result<(), NoMemory>
     ensures room { OnOk result (at < length flags.new.items) }
     ensures same { OnOk result ((n : ℕ) → flag_of flags.new.items n ≡ flag_of flags.old.items n) }
 {
-    // So many flags have no room in any memory.
-    if at >= 9223372036854775807 {
-        return Err(NoMemory);
-    }
-    flags.resize(at + 1, false)?;
+    flags.resize(at, false)?;
+    flags.push(false)?;
     Ok(())
 }
 

@@ -117,6 +117,3 @@ headed_is kinds nodes h n b are low is = (
 -- what heads another stands between the two numbers
 pub headed_within : (kinds : NodeKind → Bool) (nodes : List Node) (h : Headed) (n : ℕ) → IsTree nodes → AreHeads kinds nodes (length nodes) h → Heads kinds nodes n → (h.low ≤ n) × (n < h.high)
 headed_within kinds nodes h n tree are is = are.within n ((headed_is kinds nodes h n (flagged h n) are (head_low kinds nodes n tree is) refl).1 is)
-
-pub headed_none : (kinds : NodeKind → Bool) (nodes : List Node) (h : Headed) → IsTree nodes → AreHeads kinds nodes (length nodes) h → h.high ≤ h.low → (n : ℕ) → Heads kinds nodes n → ⊥
-headed_none kinds nodes h tree are bare n is = let w = headed_within kinds nodes h n tree are is in let a = w.0 in let b = w.1 in omega arith

@@ -3,6 +3,7 @@ pub mod Labels
 pub mod Read
 pub mod Parents
 pub mod Heads
+pub mod Plain
 pub mod Names
 pub mod Tables
 pub mod Rows

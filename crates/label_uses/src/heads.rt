@@ -17,13 +17,13 @@ pub(crate) struct Headed {
     pub high: usize,
 }
 
-fn is_label(kind: NodeKind) -> bool
+pub(crate) fn is_label(kind: NodeKind) -> bool
     ensures { result ≡ is_label kind }
 {
     matches!(kind, NodeKind::Label)
 }
 
-fn is_jump(kind: NodeKind) -> bool
+pub(crate) fn is_jump(kind: NodeKind) -> bool
     ensures { result ≡ is_jump kind }
 {
     matches!(kind, NodeKind::Break | NodeKind::Continue | NodeKind::Goto)
@@ -134,22 +134,6 @@ pub(crate) fn is_headed(h: &Headed, n: usize) -> bool
 {
     let flags = h.flags.as_slice();
     if n < flags.len() { flags[n] } else { false }
-}
-
-fn is_bare(h: &Headed) -> bool
-    ensures { (result ≡ true) ↔ (h.now.high ≤ h.now.low) }
-{
-    h.high <= h.low
-}
-
-/// Whether nothing is flagged in either.
-pub(crate) fn are_bare(a: &Headed, b: &Headed) -> bool
-    ensures { (result ≡ true) ↔ (a.now.high ≤ a.now.low) × (b.now.high ≤ b.now.low) }
-{
-    if !is_bare(a) {
-        return false;
-    }
-    is_bare(b)
 }
 
 /// Before which node all stand that are flagged, from `low` on.

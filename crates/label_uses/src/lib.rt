@@ -7,6 +7,7 @@ mod heads;
 mod laws;
 mod names;
 mod parts;
+mod plain;
 mod read;
 mod rows;
 mod table;

@@ -7,7 +7,8 @@ ghost use Rattle.label_uses.specs.Read.{AreLabels};
 
 use crate::answer::Labels;
 use crate::functions::functions_of;
-use crate::heads::{Headed, are_bare, jump_heads, label_heads};
+use crate::heads::{Headed, jump_heads, label_heads};
+use crate::plain::names_some;
 use crate::rows::{jumps_of, labels_of, used_of};
 use crate::table::{count_nodes, first_labels};
 use go_tree::FileTree;
@@ -24,7 +25,7 @@ fn no_labels(alloc: Global) -> Labels
     }
 }
 
-/// The same of a file that has some: by the names of its labels, and those behind its jumps.
+/// The labels of a file and its jumps to labels, by the names of its labels, and those behind its jumps.
 fn labels_by(
     alloc: Global,
     tree: &FileTree,
@@ -45,25 +46,6 @@ fn labels_by(
     Ok(Labels { labels, jumps })
 }
 
-fn all_labels(
-    alloc: Global,
-    tree: &FileTree,
-    bytes: &[u8],
-    named: &Headed,
-    jumping: &Headed,
-) -> Result<Labels, NoMemory>
-    requires spelled { Spelled tree.now.tokens bytes.now tree.now }
-    requires named { AreHeads is_label tree.now.nodes (length tree.now.nodes) named.now }
-    requires jumping { AreHeads is_jump tree.now.nodes (length tree.now.nodes) jumping.now }
-    ensures { IfOk result (λ r. AreLabels bytes.now tree.now r) }
-{
-    if are_bare(named, jumping) {
-        return Ok(no_labels(alloc));
-    }
-    let found = labels_by(alloc, tree, bytes, named, jumping)?;
-    Ok(found)
-}
-
 fn named_in(alloc: Global, tree: &FileTree) -> Result<Headed, NoMemory>
     ensures { IfOk result (AreHeads is_label tree.now.nodes (length tree.now.nodes)) }
 {
@@ -78,13 +60,24 @@ fn jumping_in(alloc: Global, tree: &FileTree) -> Result<Headed, NoMemory>
     Ok(heads)
 }
 
-/// The labels of a file and its jumps to labels, each jump with the label that it denotes.
-pub fn labels(alloc: Global, tree: &FileTree, bytes: &[u8]) -> Result<Labels, NoMemory>
+fn some_labels(alloc: Global, tree: &FileTree, bytes: &[u8]) -> Result<Labels, NoMemory>
     requires { Spelled tree.now.tokens bytes.now tree.now }
     ensures { IfOk result (λ r. AreLabels bytes.now tree.now r) }
 {
     let named = named_in(alloc, tree)?;
     let jumping = jumping_in(alloc, tree)?;
-    let found = all_labels(alloc, tree, bytes, &named, &jumping)?;
+    let found = labels_by(alloc, tree, bytes, &named, &jumping)?;
+    Ok(found)
+}
+
+/// The labels of a file and its jumps to labels, each jump with the label that it denotes.
+pub fn labels(alloc: Global, tree: &FileTree, bytes: &[u8]) -> Result<Labels, NoMemory>
+    requires { Spelled tree.now.tokens bytes.now tree.now }
+    ensures { IfOk result (λ r. AreLabels bytes.now tree.now r) }
+{
+    if !names_some(tree.nodes.as_slice()) {
+        return Ok(no_labels(alloc));
+    }
+    let found = some_labels(alloc, tree, bytes)?;
     Ok(found)
 }
