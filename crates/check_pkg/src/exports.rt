@@ -13,7 +13,7 @@ ghost use Rattle.type_model.specs.GoTypes.{type_at};
 ghost use Rattle.type_model.specs.Tables.{count, types_in, is_named, IsTable};
 ghost use Rattle.typed_marks.specs.Meanings.{Quiet, constant_at};
 ghost use Rattle.typed_marks.specs.States.{so_far, IsState};
-ghost use Rattle.unit_read.specs.Subjects.{unit_of};
+ghost use Rattle.unit_read.specs.Subjects.{unit_of, IsRead};
 ghost use Rattle.unit_rows.specs.Redeclared.{package_names};
 ghost use Rattle.rule_words.specs.Scenes.{said, IsMarkOf};
 ghost use Rattle.check_pkg.specs.Names.{spelled_names, IsBlock};
@@ -47,16 +47,6 @@ fn is_exported(name: &str) -> bool
     match name.chars().next() {
         Some(c) => is_upper(GeneralCategory::for_char(c)),
         None => false,
-    }
-}
-
-/// The text of a name.
-fn text_of(name: &[u8]) -> Result<&str, NoMemory>
-    ensures { IfOk result (λ text. text.now ≡ name.now) }
-{
-    match std::str::from_utf8(name) {
-        Ok(text) => Ok(text),
-        Err(_) => Err(NoMemory),
     }
 }
 
@@ -295,6 +285,7 @@ fn add_name(
     at: NodeRef,
     list: &mut Vec<Exported>,
 ) -> Result<(), NoMemory>
+    requires read { IsRead u.now }
     requires state { IsState s.now }
     requires block { IsBlock (unit_of u.now) block.now }
     requires there { slice_get (package_names (unit_of u.now)) place ≡ Some at }
@@ -306,8 +297,7 @@ fn add_name(
     if !is_first(u, block, place, name) {
         return Ok(());
     }
-    let text = text_of(name)?;
-    add_named(alloc, s, u.path, text, at, list)?;
+    add_named(alloc, s, u.path, u.name_text(at), at, list)?;
     Ok(())
 }
 
@@ -333,6 +323,7 @@ fn add_export(
     place: usize,
     list: &mut Vec<Exported>,
 ) -> Result<(), NoMemory>
+    requires read { IsRead u.now }
     requires state { IsState s.now }
     requires block { IsBlock (unit_of u.now) block.now }
     requires within { AreObjectsIn (unit_of u.now).path (count s.now.table) (types_in s.now.table) list.old.items }
@@ -355,6 +346,7 @@ fn unsorted(
     s: &State,
     block: &PackageBlock,
 ) -> Result<Vec<Exported>, NoMemory>
+    requires read { IsRead u.now }
     requires state { IsState s.now }
     requires block { IsBlock (unit_of u.now) block.now }
     ensures all { IfOk result (λ list. (out : ObjectOut) → Contains (outs_in s.now list.items) out ↔ IsExported (unit_of u.now) (filled Quiet (so_far s.now)) out) }
@@ -379,14 +371,13 @@ fn sort(list: &mut Vec<Exported>) -> Result<(), NoMemory>
 
 /// What an accepted package exports: its exported constants with their values, variables, functions and types, in byte order of their names,
 /// of which no two are the same.
-///
-/// A name that isn't UTF-8 is answered as want of memory; the scanner makes none.
 pub fn exports(
     alloc: Global,
     u: &Subject,
     s: &State,
     block: &PackageBlock,
 ) -> Result<Vec<Exported>, NoMemory>
+    requires read { IsRead u.now }
     requires state { IsState s.now }
     requires block { IsBlock (unit_of u.now) block.now }
     ensures rise { IfOk result (λ list. rises object_before (outs_in s.now list.items) ≡ true) }

@@ -17,6 +17,7 @@ ghost use Rattle.unit_blocks.specs.Blocks.{AreNames};
 ghost use Rattle.unit_read.specs.Environments.{IsEnvironment, faces_in};
 ghost use Rattle.unit_read.specs.Index.{texts_of};
 ghost use Rattle.unit_read.specs.Subjects.{unit_of, IsRead};
+ghost use Rattle.unit_read.specs.Texts.{AreTexts};
 ghost use Rattle.rule_words.specs.Scenes.{IsScene};
 ghost use Rattle.body_facts.specs.Bodies.{AreBodies};
 ghost use Rattle.unit_read.specs.Units.{base_of};
@@ -143,6 +144,7 @@ fn accepted(
     block: &PackageBlock,
     refused: &Vec<Refusal>,
 ) -> Result<Vec<Exported>, NoMemory>
+    requires read { IsRead u.now }
     requires state { IsState s.now }
     requires block { IsBlock (unit_of u.now) block.now }
     ensures rise { IfOk result (λ list. refused.now.items ≡ [] → rises object_before (outs_in s.now list.items) ≡ true) }
@@ -249,6 +251,7 @@ fn judge_read<R: Rules>(
     requires small { AreSmall trees.now }
     requires few { length trees.now < 2 ^ 32 }
     requires bodies { AreBodies (texts_of sources.now) trees.now }
+    requires texts { AreTexts path.now (texts_of sources.now) trees.now }
     requires uses { AreInOrder uses }
     requires env { IsEnvironment env.now }
     requires basics { HasBasics table }
@@ -283,6 +286,7 @@ fn judge_files<R: Rules>(
     requires small { AreSmall trees.now }
     requires few { length trees.now < 2 ^ 32 }
     requires spelled { AreSpelled trees.now files.now }
+    requires texts { AreTexts path.now (map text_of files.now) trees.now }
     requires uses { AreInOrder uses }
     requires basics { HasBasics table }
     requires within { AreInterfacesIn (count table) (types_in table) env.now }
@@ -320,6 +324,7 @@ pub fn check<R: Rules>(
     env: &[Interface],
 ) -> Result<Outcome, NoMemory>
     requires spelled { AreSpelled trees.now files.now }
+    requires texts { AreTexts path.now (map text_of files.now) trees.now }
     requires small { AreSmall trees.now }
     requires few { length trees.now < 2 ^ 32 }
     requires basics { HasBasics table }

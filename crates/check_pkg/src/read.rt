@@ -5,6 +5,7 @@ ghost use Rattle.go_tree.specs.Bindings.{AreInOrder};
 ghost use Rattle.unit_read.specs.Environments.{IsEnvironment, faces_in};
 ghost use Rattle.unit_read.specs.Index.{texts_of};
 ghost use Rattle.unit_read.specs.Subjects.{unit_of, IsRead};
+ghost use Rattle.unit_read.specs.Texts.{AreTexts};
 ghost use Rattle.package_objects.specs.Declares.{AreSmall, declared};
 ghost use Rattle.package_needs.specs.Worlds.{AreNeedsOf};
 ghost use Rattle.type_model.specs.Tables.{terms_in, declarations_in};
@@ -82,6 +83,7 @@ fn seen_unit<'a>(
     requires few { length trees.now ≤ 2 ^ 32 }
     requires uses { AreInOrder uses.now }
     requires env { IsEnvironment env.now }
+    requires texts { AreTexts path.now (texts_of texts.now) trees.now }
     ensures read { IfOk result (λ u. IsRead u) }
     ensures of { IfOk result (λ u. unit_of u ≡ package_unit path.now (texts_of texts.now) trees.now uses.now (faces_in env.now) [] [] [] []) }
     ensures env { IfOk result (λ u. u.env.now ≡ env.now) }
@@ -118,6 +120,7 @@ pub fn read<'a>(
     requires few { length trees.now ≤ 2 ^ 32 }
     requires uses { AreInOrder uses.now }
     requires env { IsEnvironment env.now }
+    requires texts { AreTexts path.now (texts_of texts.now) trees.now }
     requires basics { HasBasics table.now }
     requires types { env.now.types.now ≡ terms_in table.now }
     requires base { (name : AName) → declarations_in table.now name ≡ given path.now (faces_in env.now) name }

@@ -22,14 +22,14 @@ use rule_words::look;
 use std::alloc::Global;
 use type_model::{Field, Method, Term, TypeId};
 use type_questions::Found;
-use type_rules::fields::{is_exported, utf8};
+use type_rules::fields::is_exported;
 use typed_marks::{Item, Mark, Stage, State};
 use unit_read::Subject;
 
-fn same_name(name: &[u8], owner: &[u8], field: &Field) -> bool
+fn same_name(name: &str, owner: &str, field: &Field) -> bool
     ensures { result ≡ same_name name.now owner.now field.now.name field.now.«package» }
 {
-    name == field.name.as_str().as_bytes() && owner == field.package.as_str().as_bytes()
+    name == field.name.as_str() && owner == field.package.as_str()
 }
 
 fn nth_field(fields: &[Field], i: usize) -> &Field
@@ -39,7 +39,7 @@ fn nth_field(fields: &[Field], i: usize) -> &Field
     &fields[i]
 }
 
-fn is_field_of(s: &State, name: &[u8], owner: &[u8], fields: &[Field]) -> bool
+fn is_field_of(s: &State, name: &str, owner: &str, fields: &[Field]) -> bool
     ensures { result ≡ is_field_of name.now owner.now (fields_of (types_in s.now.table) fields.now) }
 {
     let _ = s;
@@ -52,7 +52,7 @@ fn is_field_of(s: &State, name: &[u8], owner: &[u8], fields: &[Field]) -> bool
 }
 
 /// Whether a struct has a field of this name.
-pub(crate) fn has_field(s: &State, name: &[u8], owner: &[u8], of: TypeId) -> bool
+pub(crate) fn has_field(s: &State, name: &str, owner: &str, of: TypeId) -> bool
     requires table { IsTable s.now.table }
     requires within { IsTypeOf s.now of }
     ensures { result ≡ has_field name.now owner.now (type_in s.now of) }
@@ -72,34 +72,28 @@ pub(crate) fn has_field(s: &State, name: &[u8], owner: &[u8], of: TypeId) -> boo
 }
 
 /// The package of a name; empty for an exported one.
-pub(crate) fn owner_of<'a>(u: &Subject<'a>, name: &str) -> &'a [u8]
+pub(crate) fn owner_of<'a>(u: &Subject<'a>, name: &str) -> &'a str
+    requires { IsRead u.now }
     ensures { result.now ≡ owner_of (unit_of u.now) name.now }
 {
-    if is_exported(name) { &[] } else { u.path }
+    if is_exported(name) { "" } else { u.path_text() }
 }
 
-pub(crate) fn is_blank(name: &[u8]) -> bool
+pub(crate) fn is_blank(name: &str) -> bool
     ensures { result ≡ is_blank name.now }
 {
-    name == b"_".as_slice()
+    name == "_"
 }
 
 /// Whether a method is in no set.
-fn is_left_out(
-    u: &Subject,
-    s: &State,
-    under: TypeId,
-    at: NodeRef,
-    name: &[u8],
-) -> Result<bool, NoMemory>
+fn is_left_out(u: &Subject, s: &State, under: TypeId, at: NodeRef, name: &str) -> bool
     requires read { IsRead u.now }
     requires table { IsTable s.now.table }
     requires within { IsTypeOf s.now under }
-    ensures { IfOk result (λ b. b ≡ is_left_out (unit_of u.now) (type_in s.now under) at name.now) }
+    ensures { result ≡ is_left_out (unit_of u.now) (type_in s.now under) at name.now }
 {
-    let text = utf8(name)?;
-    let owner = owner_of(u, text);
-    Ok(is_blank(name) || (u.is_repeated_method(at) || has_field(s, name, owner, under)))
+    let owner = owner_of(u, name);
+    is_blank(name) || (u.is_repeated_method(at) || has_field(s, name, owner, under))
 }
 
 fn first_entry(nodes: &[Node], list: u32) -> Option<u32>
@@ -126,7 +120,7 @@ fn entry(
     u: &Subject,
     s: &State,
     at: NodeRef,
-    name: &[u8],
+    name: &str,
     m: Mark,
     entry: u32,
     out: &mut Vec<Method>,
@@ -152,7 +146,7 @@ fn receiver(
     s: &State,
     at: NodeRef,
     node: &Node,
-    name: &[u8],
+    name: &str,
     m: Mark,
     out: &mut Vec<Method>,
 ) -> Result<Option<Item>, NoMemory>
@@ -177,7 +171,7 @@ fn signature(
     s: &State,
     at: NodeRef,
     node: &Node,
-    name: &[u8],
+    name: &str,
     out: &mut Vec<Method>,
 ) -> Result<Option<Item>, NoMemory>
     requires scene { IsScene u.now s.now }
@@ -194,21 +188,23 @@ fn signature(
     }
 }
 
-fn part_name<'a>(u: &Subject<'a>, file: u32, node: &Node) -> &'a [u8]
+fn part_name<'a>(u: &Subject<'a>, file: u32, node: &Node) -> &'a str
+    requires { IsRead u.now }
     ensures { result.now ≡ part_name (unit_of u.now) file node.now }
 {
     match part_of(node, 1) {
-        Some(n) => u.name_at(NodeRef { file, node: n }),
-        None => &[],
+        Some(n) => u.name_text(NodeRef { file, node: n }),
+        None => "",
     }
 }
 
-fn method_name<'a>(u: &Subject<'a>, at: NodeRef) -> &'a [u8]
+fn method_name<'a>(u: &Subject<'a>, at: NodeRef) -> &'a str
+    requires { IsRead u.now }
     ensures { result.now ≡ method_name (unit_of u.now) at }
 {
     match u.node_at(at) {
         Some(node) => part_name(u, at.file, node),
-        None => &[],
+        None => "",
     }
 }
 
@@ -228,8 +224,7 @@ fn node_method(
     ensures below { OnOk result (MethodsBelow (count s.now.table) out.new.items) }
 {
     let name = method_name(u, at);
-    let left_out = is_left_out(u, s, under, at, name)?;
-    if left_out {
+    if is_left_out(u, s, under, at, name) {
         return Ok(None);
     }
     let waits = signature(alloc, u, s, at, node, name, out)?;

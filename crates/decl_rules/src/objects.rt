@@ -129,26 +129,14 @@ fn alias_at(u: &Subject, s: &State, file: u32, n: Option<u32>) -> Step
     }
 }
 
-fn text_of(alloc: Global, bytes: &[u8]) -> Result<Text, NoMemory>
-    ensures { IfOk result (λ text. text ≡ bytes.now) }
-{
-    match std::str::from_utf8(bytes) {
-        Ok(text) => {
-            let copy = Text::of(alloc, text)?;
-            Ok(copy)
-        }
-        Err(_) => Err(NoMemory),
-    }
-}
-
 /// The name of the defined type that is declared at a node.
 pub fn type_name(alloc: Global, u: &Subject, at: NodeRef, local: u64) -> Result<TypeName, NoMemory>
     requires read { IsRead u.now }
     requires local { option_map (λ n. n.local) (type_name_at (unit_of u.now) at) ≡ Some local }
     ensures { IfOk result (λ n. Some n ≡ type_name_at (unit_of u.now) at) }
 {
-    let package = text_of(alloc, u.path)?;
-    let name = text_of(alloc, u.name_at(at))?;
+    let package = Text::of(alloc, u.path_text())?;
+    let name = Text::of(alloc, u.name_text(at))?;
     Ok(TypeName {
         package,
         name,
@@ -190,10 +178,7 @@ fn judge_form(
         Named::Valued => Ok(judge_variable_object(u, s, file, node, p.index)),
         Named::Param => Ok(variable_at(u, s, file, Some(p.around))),
         Named::Function => Ok(function_at(u, s, file, p.around)),
-        Named::Method => {
-            let step = method_part(u, s, name, p)?;
-            Ok(step)
-        }
+        Named::Method => Ok(method_part(u, s, name, p)),
         Named::Defined => {
             let step = defined(alloc, u, s, name)?;
             Ok(step)

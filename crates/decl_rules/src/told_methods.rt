@@ -2,7 +2,7 @@
 ghost use Rattle.std.specs.Prelude.{◌≡◌, ◌++◌, map, OnOk};
 ghost use Rattle.type_model.specs.GoTypes.{MethodsBelow};
 ghost use Rattle.type_model.specs.Tables.{count, IsTable};
-ghost use Rattle.unit_read.specs.Subjects.{unit_of};
+ghost use Rattle.unit_read.specs.Subjects.{unit_of, IsRead};
 ghost use Rattle.rule_words.specs.Scenes.{said, IsMarkOf, type_in, IsTypeOf};
 ghost use Rattle.rule_words.specs.Good.{known_of, AreFactsOf};
 ghost use Rattle.type_rules.specs.Elements.{method_in};
@@ -41,10 +41,11 @@ fn add_unknown(
     alloc: Global,
     u: &Subject,
     s: &State,
-    name: &[u8],
+    name: &str,
     r: Facts,
     out: &mut Vec<Method>,
 ) -> Result<(), NoMemory>
+    requires read { IsRead u.now }
     requires table { IsTable s.now.table }
     requires receiver { AreFactsOf s.now r }
     requires below { MethodsBelow (count s.now.table) out.old.items }
@@ -60,11 +61,12 @@ fn add_signed(
     alloc: Global,
     u: &Subject,
     s: &State,
-    name: &[u8],
+    name: &str,
     x: Facts,
     r: Facts,
     out: &mut Vec<Method>,
 ) -> Result<(), NoMemory>
+    requires read { IsRead u.now }
     requires table { IsTable s.now.table }
     requires of { AreFactsOf s.now x }
     requires receiver { AreFactsOf s.now r }
@@ -87,11 +89,12 @@ fn add_received(
     alloc: Global,
     u: &Subject,
     s: &State,
-    name: &[u8],
+    name: &str,
     m: Mark,
     r: Facts,
     out: &mut Vec<Method>,
 ) -> Result<(), NoMemory>
+    requires read { IsRead u.now }
     requires table { IsTable s.now.table }
     requires mark { IsMarkOf s.now m }
     requires receiver { AreFactsOf s.now r }
@@ -115,11 +118,12 @@ pub(crate) fn add_told(
     alloc: Global,
     u: &Subject,
     s: &State,
-    name: &[u8],
+    name: &str,
     m: Mark,
     r: Mark,
     out: &mut Vec<Method>,
 ) -> Result<(), NoMemory>
+    requires read { IsRead u.now }
     requires table { IsTable s.now.table }
     requires mark { IsMarkOf s.now m }
     requires receiver { IsMarkOf s.now r }

@@ -1,3 +1,4 @@
+mod NameTexts
 mod ReadLemmas
 mod GivenLemmas
 mod SeenLemmas

@@ -10,6 +10,7 @@ ghost use Rattle.type_model.specs.declared.term.TypeName.{TypeName as AName};
 ghost use Rattle.type_model.specs.Tables.{IsTable, Extends, count, declarations_in, terms_in, types_in};
 ghost use Rattle.typed_tree.specs.Basics.{HasBasics};
 ghost use Rattle.unit_read.specs.Index.{found};
+ghost use Rattle.unit_read.specs.Texts.{HaveTokens};
 ghost use Rattle.check_pkg.specs.declared.judging.Outcome.TheVariants as outcome;
 ghost use Rattle.check_pkg.specs.Packages.{package_of, package_name, text_of};
 ghost use Rattle.action_graph.specs.Judging.{AllKnown, HasNothing, IfAccepted, Tells, accepted_text, fault_line, line_of, load_text, refused_text};
@@ -86,8 +87,8 @@ fn first_text<'a>(files: &'a [(Text, Bytes)]) -> &'a [u8]
     }
 }
 
-/// The name of the package: the first token of its first file's first node.
-fn package_name<'a>(files: &'a [(Text, Bytes)], trees: &[FileTree]) -> &'a [u8]
+/// The bytes of the package's name: the first token of its first file's first node.
+fn name_bytes<'a>(files: &'a [(Text, Bytes)], trees: &[FileTree]) -> &'a [u8]
     ensures { result.now ≡ package_name (package_of [] files.now trees.now) }
 {
     let Some(tree) = trees.first() else {
@@ -100,6 +101,14 @@ fn package_name<'a>(files: &'a [(Text, Bytes)], trees: &[FileTree]) -> &'a [u8]
         return b"";
     };
     token_text(first_text(files), token)
+}
+
+/// The name of the package.
+fn package_name<'a>(files: &'a [(Text, Bytes)], trees: &[FileTree]) -> &'a str
+    requires { HaveTokens (map text_of files.now) trees.now }
+    ensures { result.now ≡ package_name (package_of [] files.now trees.now) }
+{
+    unsafe { str::from_utf8_unchecked(name_bytes(files, trees)) }
 }
 
 fn are_none(refused: &[Refusal]) -> bool
@@ -159,12 +168,11 @@ fn tell_seen(
     }
 }
 
-/// The answer for a package that nothing refuses. A file that parses is UTF-8, and the package's name is a token of it, and so a text; a name
-/// that is none would be answered as want of memory.
+/// The answer for a package that nothing refuses.
 fn accept(
     alloc: Global,
     path: &str,
-    name: &[u8],
+    name: &str,
     places: &HashMap<&[u8], usize>,
     checked: Checked,
 ) -> Result<(Load<()>, Typed), Unloaded>
@@ -173,9 +181,6 @@ fn accept(
     ensures told { IfOk result (λ r. (f : Face) × IsSeenOf path.now name.now (λ q. found places.now q) checked f × Tells (Accepts f) (load_text r.0)) }
     ensures untold { result ≡ Err Unloaded.Stuck → (f : Face) → IsSeenOf path.now name.now (λ q. found places.now q) checked f → ⊥ }
 {
-    let Ok(name) = std::str::from_utf8(name) else {
-        return Err(Unloaded::NoMemory);
-    };
     let path = Text::of(alloc, path)?;
     let name = Text::of(alloc, name)?;
     let typed = checked.typed;
@@ -200,6 +205,7 @@ fn told(
     checked: Checked,
 ) -> Result<(Load<()>, Typed), Unloaded>
     requires stands { checked.refused.items ≡ [] → Stands path.now checked }
+    requires texts { HaveTokens (map text_of files.now) trees.now }
     ensures typed { IfOk result (λ r. r.1 ≡ checked.typed) }
     ensures accepted { IfOk result (λ r. checked.refused.items ≡ [] → (f : Face) × IsSeenOf path.now (package_name (package_of path.now files.now trees.now)) (λ q. found places.now q) checked f × Tells (Accepts f) (load_text r.0)) }
     ensures refused { IfOk result (λ r. (checked.refused.items ≡ [] → ⊥) → Tells (Refuses (map line_of checked.refused.items)) (load_text r.0)) }
@@ -241,6 +247,7 @@ pub(crate) fn judge(
     env: &[Interface],
 ) -> Result<(Load<Typed>, Option<TypeTable>), Unloaded>
     requires spelled { AreSpelled trees.now files.now }
+    requires texts { HaveTokens (map text_of files.now) trees.now }
     requires small { AreSmall trees.now }
     requires few { length trees.now < 2 ^ 32 }
     requires basics { HasBasics table }

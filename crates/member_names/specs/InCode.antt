@@ -12,7 +12,7 @@ use Rattle.member_names.specs.declared.named.Named.{Named}
 use Rattle.member_names.specs.Named.{method_led}
 
 abbrev pub named_in : Named → List ℕ × List ℕ
-named_in x = (x.path.items, x.name.items)
+named_in x = (x.path, x.name)
 
 abbrev pub found_named : Option Named → Option (List ℕ × List ℕ)
 found_named o = option_map named_in o

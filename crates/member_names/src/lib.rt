@@ -6,5 +6,5 @@ mod naming;
 mod selecting;
 mod ways;
 
-pub use named::Named;
+pub use named::{Named, dotted};
 pub use naming::named_at;

@@ -4,37 +4,43 @@ ghost use Rattle.method_sets.specs.Shown.{is_interface_type};
 ghost use Rattle.type_model.specs.GoTypes.{type_at};
 ghost use Rattle.type_model.specs.Tables.{IsTable, types_in, count, declarations_in};
 ghost use Rattle.selected_methods.specs.Selected.{is_interface};
-ghost use Rattle.member_names.specs.Named.{method_named, named_of, method_of, method_led};
+ghost use Rattle.member_names.specs.Named.{dotted, method_named, named_of, method_of, method_led};
 ghost use Rattle.member_names.specs.InCode.{named_in, found_named};
 
 use crate::ways::{base_of, led};
-use gv_base::NoMemory;
+use gv_base::{NoMemory, Text};
 use std::alloc::Global;
 use type_model::{Term, TypeId, TypeName, TypeTable};
 
 /// A function or method: the path of its package, and its name or `Type.Method`.
 #[derive(Drop)]
 pub struct Named {
-    pub path: Vec<u8>,
-    pub name: Vec<u8>,
+    pub path: Text,
+    pub name: Text,
 }
 
-fn method_named(alloc: Global, method: &[u8], t: &TypeName) -> Result<Named, NoMemory>
+/// `Type.Method`.
+pub fn dotted(alloc: Global, of: &str, method: &str) -> Result<Text, NoMemory>
+    ensures { IfOk result (λ text. text ≡ dotted of.now method.now) }
+{
+    let mut text = String::from_str(alloc, of)?;
+    text.push_str(".")?;
+    text.push_str(method)?;
+    Ok(Text::new(text))
+}
+
+fn method_named(alloc: Global, method: &str, t: &TypeName) -> Result<Named, NoMemory>
     ensures { IfOk result (λ x. named_in x ≡ method_named method.now t.now) }
 {
-    let mut path = Vec::new(alloc);
-    path.extend_from_slice(t.package.as_str().as_bytes())?;
-    let mut name = Vec::new(alloc);
-    name.extend_from_slice(t.name.as_str().as_bytes())?;
-    name.push(b'.')?;
-    name.extend_from_slice(method)?;
+    let path = t.package.copy(alloc)?;
+    let name = dotted(alloc, t.name.as_str(), method)?;
     Ok(Named { path, name })
 }
 
 fn named_of(
     alloc: Global,
     t: &TypeTable,
-    method: &[u8],
+    method: &str,
     of: TypeId,
 ) -> Result<Option<Named>, NoMemory>
     requires table { IsTable t.now }
@@ -92,7 +98,7 @@ fn is_interface(t: &TypeTable, of: TypeId) -> bool
 fn method_of(
     alloc: Global,
     t: &TypeTable,
-    method: &[u8],
+    method: &str,
     of: TypeId,
 ) -> Result<Option<Named>, NoMemory>
     requires table { IsTable t.now }
@@ -110,7 +116,7 @@ fn method_of(
 pub(crate) fn method_led(
     alloc: Global,
     t: &TypeTable,
-    method: &[u8],
+    method: &str,
     of: TypeId,
     path: &[u32],
 ) -> Result<Option<Named>, NoMemory>

@@ -16,7 +16,7 @@ use crate::named::Named;
 use crate::selecting::selected_from;
 use findings::Pass;
 use go_tree::{Node, NodeKind};
-use gv_base::NoMemory;
+use gv_base::{NoMemory, Text};
 use package_objects::{node_of, part_of};
 use std::alloc::Global;
 use type_model::TypeId;
@@ -81,7 +81,7 @@ fn owned_method(alloc: Global, p: &Pass, file: u32, node: &Node) -> Result<Optio
 {
     match owner_of(p, file, node) {
         Some(of) => {
-            let named = selected_from(alloc, p, p.subject.spelled(file, node.last), of)?;
+            let named = selected_from(alloc, p, p.subject.spelled_text(file, node.last), of)?;
             Ok(named)
         }
         None => Ok(None),
@@ -117,10 +117,8 @@ fn node_names_method(alloc: Global, p: &Pass, file: u32, n: u32) -> Result<Optio
 fn copied(alloc: Global, x: Function) -> Result<Named, NoMemory>
     ensures { IfOk result (λ named. Some (x.entry.path.now, x.entry.name.now) ≡ found_named (Some named)) }
 {
-    let mut path = Vec::new(alloc);
-    path.extend_from_slice(x.path)?;
-    let mut name = Vec::new(alloc);
-    name.extend_from_slice(x.name)?;
+    let path = Text::of(alloc, x.path)?;
+    let name = Text::of(alloc, x.name)?;
     Ok(Named { path, name })
 }
 

@@ -17,7 +17,7 @@ use type_model::{TypeId, TypeTable};
 fn method_found(
     alloc: Global,
     t: &TypeTable,
-    name: &[u8],
+    name: &str,
     of: TypeId,
     path: &[u32],
     kind: Selected,
@@ -39,7 +39,7 @@ fn method_found(
 fn method_chosen(
     alloc: Global,
     t: &TypeTable,
-    name: &[u8],
+    name: &str,
     of: TypeId,
     selection: Selection,
 ) -> Result<Option<Named>, NoMemory>
@@ -57,29 +57,18 @@ fn method_chosen(
     }
 }
 
-fn utf8(bytes: &[u8]) -> Result<&str, NoMemory>
-    ensures { IfOk result (λ text. text.now ≡ bytes.now) }
-{
-    match std::str::from_utf8(bytes) {
-        Ok(text) => Ok(text),
-        Err(_) => Err(NoMemory),
-    }
-}
-
 /// The method that a name, written in the package, selects from a type.
 pub(crate) fn selected_from(
     alloc: Global,
     p: &Pass,
-    name: &[u8],
+    name: &str,
     of: TypeId,
 ) -> Result<Option<Named>, NoMemory>
     requires pass { IsPass p.now }
     requires within { of.0 < count p.now.state.now.table }
     ensures { IfOk result (Finds (IsMethodNamed (unit_in p.now) (declarations_in p.now.state.now.table) name.now (type_in p.now.state.now of))) }
 {
-    let text = utf8(name)?;
-    let from = utf8(p.subject.path)?;
-    let selection = select(alloc, &p.state.table, of, text, from)?;
+    let selection = select(alloc, &p.state.table, of, name, p.subject.path_text())?;
     selection_lasts();
     let named = method_chosen(alloc, &p.state.table, name, of, selection)?;
     Ok(named)

@@ -18,9 +18,9 @@ pushed old new d e = ap (λ l. map named_in l) e ∙ over old where
   over [] = refl
   over (x ∷ xs) = ap (λ l. named_in x ∷ l) (over xs)
 
-pub pushed_named : (old new : List Declared) (d : Declared) (f n : ℕ) (o : Option (List ℕ)) → new ≡ old ++ d ∷ [] → o ≡ Some d.name.items → d.at ≡ place f n → map named_in new ≡ map named_in old ++ option_map_or (named_at f n) o []
+pub pushed_named : (old new : List Declared) (d : Declared) (f n : ℕ) (o : Option (List ℕ)) → new ≡ old ++ d ∷ [] → o ≡ Some d.name → d.at ≡ place f n → map named_in new ≡ map named_in old ++ option_map_or (named_at f n) o []
 pushed_named old new d f n o e is at =
-    pushed old new d e ∙ ap (λ (l : List Named). map named_in old ++ l) (ap (λ (p : NodeRef). (d.name.items, p) ∷ []) at ∙ sym (ap (λ (x : Option (List ℕ)). option_map_or (named_at f n) x []) is))
+    pushed old new d e ∙ ap (λ (l : List Named). map named_in old ++ l) (ap (λ (p : NodeRef). (d.name, p) ∷ []) at ∙ sym (ap (λ (x : Option (List ℕ)). option_map_or (named_at f n) x []) is))
 
 -- other nodes declare none
 unnamed : (u : Unit) (f n : ℕ) (at : Node) (kind : NodeKind) → declares kind ≡ false → name_by u f n at kind ≡ None
@@ -59,9 +59,9 @@ size_is u list e = over list ∙ ap (λ l. length l) e where
   over [] = refl
   over (x ∷ xs) = ap (λ n. suc n) (over xs)
 
-pub name_is : (u : Unit) (list : List Declared) (i : ℕ) (d : Declared) → map named_in list ≡ functions u → slice_get list i ≡ Some d → d.name.items ≡ nth_name u i
+pub name_is : (u : Unit) (list : List Declared) (i : ℕ) (d : Declared) → map named_in list ≡ functions u → slice_get list i ≡ Some d → d.name ≡ nth_name u i
 name_is u list i d e there = sym (ap (λ (l : List Named). option_map_or name_in (slice_get l i) []) (sym e) ∙ over list i there) where
-  over : (xs : List Declared) (i : ℕ) → slice_get xs i ≡ Some d → option_map_or name_in (slice_get (map named_in xs) i) [] ≡ d.name.items
+  over : (xs : List Declared) (i : ℕ) → slice_get xs i ≡ Some d → option_map_or name_in (slice_get (map named_in xs) i) [] ≡ d.name
   over [] i there = absurd (cc)
   over (x ∷ xs) zero there = ap (λ (o : Option Declared). option_map_or declared_name o []) there
   over (x ∷ xs) (suc i) there = over xs i there

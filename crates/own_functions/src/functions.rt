@@ -9,13 +9,13 @@ ghost use Rattle.unit_read.specs.Index.{texts_of, found};
 ghost use Rattle.unit_read.specs.Methods.{method_name, part_name};
 ghost use Rattle.unit_read.specs.Units.{nodes_at, is_blank};
 ghost use Rattle.findings.specs.Passes.{unit_in, IsPass};
-ghost use Rattle.member_names.specs.Named.{dotted};
 ghost use Rattle.own_functions.specs.Functions.{can_be_named, if_named, function_name, if_method, method_of, type_and_method, declares, name_by, named_at, function_by, function_at, functions_in, functions, nth_name};
-ghost use Rattle.own_functions.specs.InCode.{text_in, named_in, declared_name};
+ghost use Rattle.own_functions.specs.InCode.{named_in, declared_name};
 
 use findings::Pass;
 use go_tree::{Node, NodeKind, NodeRef};
-use gv_base::NoMemory;
+use gv_base::{NoMemory, Text};
+use member_names::dotted;
 use package_objects::{node_of, part_of};
 use std::alloc::Global;
 use std::collections::HashMap;
@@ -24,7 +24,7 @@ use unit_read::{cell, index};
 /// A function or method that can be named, and where it is declared.
 #[derive(Drop)]
 pub struct Declared {
-    pub name: Vec<u8>,
+    pub name: Text,
     pub at: NodeRef,
 }
 
@@ -36,63 +36,49 @@ fn place(file: u32, node: u32) -> NodeRef
     NodeRef { file, node }
 }
 
-fn is_word(name: &[u8], word: &str) -> bool
+fn is_word(name: &str, word: &str) -> bool
     ensures { result ≡ bytes_eq name.now word.now }
 {
-    name == word.as_bytes()
+    name == word
 }
 
-fn is_blank(name: &[u8]) -> bool
+fn is_blank(name: &str) -> bool
     ensures { result ≡ is_blank name.now }
 {
     is_word(name, "_")
 }
 
-fn can_be_named(name: &[u8]) -> bool
+fn can_be_named(name: &str) -> bool
     ensures { result ≡ can_be_named name.now }
 {
     !(is_word(name, "init") || is_blank(name))
 }
 
-fn if_named(alloc: Global, name: &[u8]) -> Result<Option<Vec<u8>>, NoMemory>
-    ensures { IfOk result (λ o. text_in o ≡ if_named name.now) }
+fn if_named(alloc: Global, name: &str) -> Result<Option<Text>, NoMemory>
+    ensures { IfOk result (λ o. o ≡ if_named name.now) }
 {
     if can_be_named(name) {
-        let text = name.to_vec(alloc)?;
+        let text = Text::of(alloc, name)?;
         return Ok(Some(text));
     }
     Ok(None)
 }
 
-fn function_name(
-    alloc: Global,
-    p: &Pass,
-    file: u32,
-    node: &Node,
-) -> Result<Option<Vec<u8>>, NoMemory>
-    ensures { IfOk result (λ o. text_in o ≡ function_name (unit_in p.now) file node.now) }
+fn function_name(alloc: Global, p: &Pass, file: u32, node: &Node) -> Result<Option<Text>, NoMemory>
+    requires { IsPass p.now }
+    ensures { IfOk result (λ o. o ≡ function_name (unit_in p.now) file node.now) }
 {
     match part_of(node, 0) {
         Some(n) => {
-            let name = if_named(alloc, p.subject.name_at(place(file, n)))?;
+            let name = if_named(alloc, p.subject.name_text(place(file, n)))?;
             Ok(name)
         }
         None => Ok(None),
     }
 }
 
-fn dotted(alloc: Global, of: &[u8], name: &[u8]) -> Result<Vec<u8>, NoMemory>
-    ensures { IfOk result (λ text. text.items ≡ dotted of.now name.now) }
-{
-    let mut text = Vec::new(alloc);
-    text.extend_from_slice(of)?;
-    text.push(b'.')?;
-    text.extend_from_slice(name)?;
-    Ok(text)
-}
-
-fn if_method(alloc: Global, of: &[u8], name: &[u8]) -> Result<Option<Vec<u8>>, NoMemory>
-    ensures { IfOk result (λ o. text_in o ≡ if_method of.now name.now) }
+fn if_method(alloc: Global, of: &str, name: &str) -> Result<Option<Text>, NoMemory>
+    ensures { IfOk result (λ o. o ≡ if_method of.now name.now) }
 {
     if is_blank(name) {
         return Ok(None);
@@ -101,21 +87,23 @@ fn if_method(alloc: Global, of: &[u8], name: &[u8]) -> Result<Option<Vec<u8>>, N
     Ok(Some(text))
 }
 
-fn part_name<'a>(p: &Pass<'a>, file: u32, node: &Node) -> &'a [u8]
+fn part_name<'a>(p: &Pass<'a>, file: u32, node: &Node) -> &'a str
+    requires { IsPass p.now }
     ensures { result.now ≡ part_name (unit_in p.now) file node.now }
 {
     match part_of(node, 1) {
-        Some(n) => p.subject.name_at(place(file, n)),
-        None => &[],
+        Some(n) => p.subject.name_text(place(file, n)),
+        None => "",
     }
 }
 
-fn method_name<'a>(p: &Pass<'a>, at: NodeRef) -> &'a [u8]
+fn method_name<'a>(p: &Pass<'a>, at: NodeRef) -> &'a str
+    requires { IsPass p.now }
     ensures { result.now ≡ method_name (unit_in p.now) at }
 {
     match p.subject.node_at(at) {
         Some(node) => part_name(p, at.file, node),
-        None => &[],
+        None => "",
     }
 }
 
@@ -125,12 +113,13 @@ fn owner(p: &Pass, at: NodeRef) -> Option<NodeRef>
     cell(&p.subject.owners, at)
 }
 
-fn type_and_method(alloc: Global, p: &Pass, at: NodeRef) -> Result<Option<Vec<u8>>, NoMemory>
-    ensures { IfOk result (λ o. text_in o ≡ type_and_method (unit_in p.now) at) }
+fn type_and_method(alloc: Global, p: &Pass, at: NodeRef) -> Result<Option<Text>, NoMemory>
+    requires { IsPass p.now }
+    ensures { IfOk result (λ o. o ≡ type_and_method (unit_in p.now) at) }
 {
     match owner(p, at) {
         Some(t) => {
-            let name = if_method(alloc, p.subject.name_at(t), method_name(p, at))?;
+            let name = if_method(alloc, p.subject.name_text(t), method_name(p, at))?;
             Ok(name)
         }
         None => Ok(None),
@@ -144,8 +133,9 @@ pub fn name_by(
     file: u32,
     n: u32,
     node: &Node,
-) -> Result<Option<Vec<u8>>, NoMemory>
-    ensures { IfOk result (λ o. text_in o ≡ name_by (unit_in p.now) file n node.now node.now.kind) }
+) -> Result<Option<Text>, NoMemory>
+    requires { IsPass p.now }
+    ensures { IfOk result (λ o. o ≡ name_by (unit_in p.now) file n node.now node.now.kind) }
 {
     match node.kind {
         NodeKind::FuncDecl => {
@@ -166,9 +156,9 @@ fn push_named(
     found: &mut Vec<Declared>,
     file: u32,
     n: u32,
-    name: Option<Vec<u8>>,
+    name: Option<Text>,
 ) -> Result<(), NoMemory>
-    ensures { OnOk result (map named_in found.new.items ≡ map named_in found.old.items ++ option_map_or (named_at file n) (text_in name) []) }
+    ensures { OnOk result (map named_in found.new.items ≡ map named_in found.old.items ++ option_map_or (named_at file n) name []) }
 {
     match name {
         Some(name) => {
@@ -197,6 +187,7 @@ fn push_declared(
     node: &Node,
     found: &mut Vec<Declared>,
 ) -> Result<(), NoMemory>
+    requires { IsPass p.now }
     ensures { OnOk result (map named_in found.new.items ≡ map named_in found.old.items ++ function_by (unit_in p.now) file n node.now) }
 {
     let name = name_by(alloc, p, file, n, node)?;
@@ -212,6 +203,7 @@ fn push_function(
     node: &Node,
     found: &mut Vec<Declared>,
 ) -> Result<(), NoMemory>
+    requires { IsPass p.now }
     ensures { OnOk result (map named_in found.new.items ≡ map named_in found.old.items ++ function_by (unit_in p.now) file n node.now) }
 {
     if declares(node.kind) {
@@ -228,6 +220,7 @@ fn push_at(
     n: u32,
     found: &mut Vec<Declared>,
 ) -> Result<(), NoMemory>
+    requires { IsPass p.now }
     ensures { OnOk result (map named_in found.new.items ≡ map named_in found.old.items ++ function_at (unit_in p.now) file n) }
 {
     match node_of(p.subject.nodes_at(file), n) {
@@ -276,7 +269,7 @@ fn names_of(alloc: Global, list: &[Declared]) -> Result<Vec<&[u8]>, NoMemory>
 {
     let mut names = Vec::new(alloc);
     for d in list {
-        names.push(d.name.as_slice())?;
+        names.push(d.name.as_str().as_bytes())?;
     }
     Ok(names)
 }
@@ -297,5 +290,15 @@ pub fn nth_name<'a>(p: &Pass, list: &'a [Declared], i: usize) -> &'a [u8]
     ensures { result.now ≡ nth_name (unit_in p.now) i }
 {
     let _ = p;
-    list[i].name.as_slice()
+    list[i].name.as_str().as_bytes()
+}
+
+/// The same as a text.
+pub fn nth_text<'a>(p: &Pass, list: &'a [Declared], i: usize) -> &'a str
+    requires list { map named_in list.now ≡ functions (unit_in p.now) }
+    requires there { i < length list.now }
+    ensures { result.now ≡ nth_name (unit_in p.now) i }
+{
+    let _ = p;
+    list[i].name.as_str()
 }

@@ -5,4 +5,4 @@ mod declared;
 mod functions;
 
 pub use declared::{block_at, declared_at};
-pub use functions::{Declared, functions_of, name_by, nth_name, numbers_of};
+pub use functions::{Declared, functions_of, name_by, nth_name, nth_text, numbers_of};

@@ -39,15 +39,6 @@ use unit_read::Subject;
 
 // ---- selectors
 
-fn utf8(bytes: &[u8]) -> Result<&str, NoMemory>
-    ensures { IfOk result (λ text. text.now ≡ bytes.now) }
-{
-    match std::str::from_utf8(bytes) {
-        Ok(text) => Ok(text),
-        Err(_) => Err(NoMemory),
-    }
-}
-
 fn is_blank(name: &[u8]) -> bool
     ensures { result ≡ is_blank name.now }
 {
@@ -67,9 +58,8 @@ fn judge_member(
     ensures comes { IfOk result (ComesTo u.now s.now (select_rule (unit_of u.now) (name_in (unit_of u.now) at node.now) (facts_in s.now x))) }
     ensures over { IfOk result (IsStepOf s.now) }
 {
-    let name = utf8(u.spelled(at.file, node.last))?;
-    let from = utf8(u.path)?;
-    let step = judge_select(alloc, u, s, name, from, x)?;
+    let name = u.spelled_text(at.file, node.last);
+    let step = judge_select(alloc, u, s, name, u.path_text(), x)?;
     Ok(step)
 }
 

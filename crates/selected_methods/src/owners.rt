@@ -4,7 +4,7 @@ ghost use Rattle.mark_walk.specs.Asks.{filled};
 ghost use Rattle.typed_marks.specs.Meanings.{Quiet};
 ghost use Rattle.typed_marks.specs.States.{so_far, IsState};
 ghost use Rattle.typed_tree.specs.Places.{is_package};
-ghost use Rattle.unit_read.specs.Subjects.{unit_of};
+ghost use Rattle.unit_read.specs.Subjects.{unit_of, IsRead};
 ghost use Rattle.rule_words.specs.Asking.{item};
 ghost use Rattle.rule_words.specs.Good.{known_of, AreFactsOf};
 ghost use Rattle.rule_words.specs.Scenes.{said, type_in, IsMarkOf, MayBeTypeOf};
@@ -150,11 +150,12 @@ pub(crate) fn owner_of(u: &Subject, s: &State, at: NodeRef) -> Option<TypeId>
 }
 
 /// The name behind the dot.
-pub(crate) fn selected_name<'a>(u: &Subject<'a>, at: NodeRef) -> &'a [u8]
+pub(crate) fn selected_name<'a>(u: &Subject<'a>, at: NodeRef) -> &'a str
+    requires { IsRead u.now }
     ensures { result.now ≡ selected_name (unit_of u.now) at }
 {
     match u.node_at(at) {
-        Some(node) => u.spelled(at.file, node.last),
-        None => &[],
+        Some(node) => u.spelled_text(at.file, node.last),
+        None => "",
     }
 }

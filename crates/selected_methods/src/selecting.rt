@@ -72,21 +72,12 @@ fn method_chosen(
     }
 }
 
-fn utf8(bytes: &[u8]) -> Result<&str, NoMemory>
-    ensures { IfOk result (λ text. text.now ≡ bytes.now) }
-{
-    match std::str::from_utf8(bytes) {
-        Ok(text) => Ok(text),
-        Err(_) => Err(NoMemory),
-    }
-}
-
 /// The method that a name selects from a type.
 fn selected_from(
     alloc: Global,
     u: &Subject,
     t: &TypeTable,
-    name: &[u8],
+    name: &str,
     of: TypeId,
 ) -> Result<Option<NodeRef>, NoMemory>
     requires read { IsRead u.now }
@@ -94,11 +85,9 @@ fn selected_from(
     requires within { of.0 < count t.now }
     ensures { IfOk result (IsWhat (IsMethodOf (unit_of u.now) (declarations_in t.now) name.now (type_at (types_in t.now) of))) }
 {
-    let text = utf8(name)?;
-    let from = utf8(u.path)?;
-    let selection = select(alloc, t, of, text, from)?;
+    let selection = select(alloc, t, of, name, u.path_text())?;
     selection_lasts();
-    Ok(method_chosen(u, t, name, of, selection))
+    Ok(method_chosen(u, t, name.as_bytes(), of, selection))
 }
 
 /// The method that the selector at a node selects.

@@ -41,25 +41,16 @@ pub fn is_exported(name: &str) -> bool
     }
 }
 
-pub fn utf8(bytes: &[u8]) -> Result<&str, NoMemory>
-    ensures { IfOk result (λ text. text.now ≡ bytes.now) }
-{
-    match std::str::from_utf8(bytes) {
-        Ok(text) => Ok(text),
-        Err(_) => Err(NoMemory),
-    }
-}
-
 /// The package of a name: empty for an exported one.
 pub fn owner_of(alloc: Global, u: &Subject, name: &str) -> Result<Text, NoMemory>
+    requires { IsRead u.now }
     ensures { IfOk result (λ owner. owner ≡ owner_of (unit_of u.now) name.now) }
 {
     if is_exported(name) {
         let none = Text::of(alloc, "")?;
         Ok(none)
     } else {
-        let path = utf8(u.path)?;
-        let owner = Text::of(alloc, path)?;
+        let owner = Text::of(alloc, u.path_text())?;
         Ok(owner)
     }
 }
@@ -94,17 +85,17 @@ pub fn tag_of(alloc: Global, u: &Subject, file: u32, node: &Node) -> Result<Byte
 pub fn field_of(
     alloc: Global,
     u: &Subject,
-    name: &[u8],
+    name: &str,
     embedded: bool,
     tag: Bytes,
     of: TypeId,
 ) -> Result<Field, NoMemory>
+    requires { IsRead u.now }
     ensures is { IfOk result (λ f. (s : State) → field_in s f ≡ field_of (unit_of u.now) name.now embedded tag (type_in s of)) }
     ensures of { IfOk result (λ f. f.of ≡ of) }
 {
-    let text = utf8(name)?;
-    let package = owner_of(alloc, u, text)?;
-    let name = Text::of(alloc, text)?;
+    let package = owner_of(alloc, u, name)?;
+    let name = Text::of(alloc, name)?;
     Ok(Field {
         name,
         package,
@@ -114,21 +105,23 @@ pub fn field_of(
     })
 }
 
-fn type_word<'a>(u: &Subject<'a>, at: NodeRef) -> &'a [u8]
+fn type_word<'a>(u: &Subject<'a>, at: NodeRef) -> &'a str
+    requires { IsRead u.now }
     ensures { result.now ≡ type_word (unit_of u.now) at }
 {
     match u.node_at(at) {
-        Some(node) => u.spelled(at.file, node.last),
-        None => &[],
+        Some(node) => u.spelled_text(at.file, node.last),
+        None => "",
     }
 }
 
-pub fn embedded_name<'a>(u: &Subject<'a>, file: u32, node: &Node) -> &'a [u8]
+pub fn embedded_name<'a>(u: &Subject<'a>, file: u32, node: &Node) -> &'a str
+    requires { IsRead u.now }
     ensures { result.now ≡ embedded_name (unit_of u.now) file node.now }
 {
     match part_of(node, 0) {
         Some(n) => type_word(u, NodeRef { file, node: n }),
-        None => &[],
+        None => "",
     }
 }
 

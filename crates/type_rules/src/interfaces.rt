@@ -7,7 +7,7 @@ ghost use Rattle.type_model.specs.Orders.{AreInOrder};
 ghost use Rattle.type_model.specs.Tables.{types_in, count, IsTable};
 ghost use Rattle.typed_marks.specs.States.{so_far, IsState};
 ghost use Rattle.typed_tree.specs.Basics.{HasBasics};
-ghost use Rattle.unit_read.specs.Subjects.{unit_of};
+ghost use Rattle.unit_read.specs.Subjects.{unit_of, IsRead};
 ghost use Rattle.rule_words.specs.Putting.{methods_from};
 ghost use Rattle.rule_words.specs.Scenes.{type_in, IsTypeOf, MayBeTypeOf, part_in, IsSeenOf, parts_in, AreSeenOf};
 ghost use Rattle.rule_words.specs.Steps.{step_in, IsStepOf};
@@ -15,7 +15,7 @@ ghost use Rattle.type_rules.specs.Interfaces.{signature_told, methods_told, meth
 ghost use Rattle.type_rules.specs.Elements.{method_in};
 
 use crate::copies::{method_copied, nth_method, signature_copied};
-use crate::fields::{owner_of, utf8};
+use crate::fields::owner_of;
 use crate::ordering::methods_in_order;
 use crate::params::{are_good, type_of_part};
 use go_tree::{Node, NodeKind};
@@ -63,19 +63,19 @@ pub fn add_with(
     alloc: Global,
     u: &Subject,
     s: &State,
-    name: &[u8],
+    name: &str,
     pointer: bool,
     of: &Signature,
     out: &mut Vec<Method>,
 ) -> Result<(), NoMemory>
+    requires read { IsRead u.now }
     requires of { SignatureBelow (count s.now.table) of.now }
     requires below { MethodsBelow (count s.now.table) out.old.items }
     ensures is { OnOk result (map (method_in s.now) out.new.items ≡ map (method_in s.now) out.old.items ++ method_with (unit_of u.now) name.now pointer (signature_of (types_in s.now.table) of.now)) }
     ensures below { OnOk result (MethodsBelow (count s.now.table) out.new.items) }
 {
-    let text = utf8(name)?;
-    let package = owner_of(alloc, u, text)?;
-    let name = Text::of(alloc, text)?;
+    let package = owner_of(alloc, u, name)?;
+    let name = Text::of(alloc, name)?;
     let of = signature_copied(alloc, of)?;
     let method = Method {
         name,
@@ -92,10 +92,11 @@ fn add_written(
     alloc: Global,
     u: &Subject,
     s: &State,
-    name: &[u8],
+    name: &str,
     of: TypeId,
     out: &mut Vec<Method>,
 ) -> Result<(), NoMemory>
+    requires read { IsRead u.now }
     requires table { IsTable s.now.table }
     requires of { IsTypeOf s.now of }
     requires below { MethodsBelow (count s.now.table) out.old.items }
@@ -196,6 +197,7 @@ fn add_elem(
     node: &Node,
     out: &mut Vec<Method>,
 ) -> Result<(), NoMemory>
+    requires read { IsRead u.now }
     requires state { IsState s.now }
     requires basics { HasBasics s.now.table }
     requires part { IsSeenOf s.now p }
@@ -205,7 +207,7 @@ fn add_elem(
 {
     if is_method(node.kind) {
         let of = type_of_part(s, p);
-        add_written(alloc, u, s, u.spelled(file, node.first), of, out)?;
+        add_written(alloc, u, s, u.spelled_text(file, node.first), of, out)?;
     } else {
         add_embedded(alloc, s, p.under, out)?;
     }
@@ -222,6 +224,7 @@ pub fn add_at(
     n: u32,
     out: &mut Vec<Method>,
 ) -> Result<(), NoMemory>
+    requires read { IsRead u.now }
     requires state { IsState s.now }
     requires basics { HasBasics s.now.table }
     requires part { IsSeenOf s.now p }
@@ -246,6 +249,7 @@ fn add_part(
     i: usize,
     out: &mut Vec<Method>,
 ) -> Result<(), NoMemory>
+    requires read { IsRead u.now }
     requires state { IsState s.now }
     requires basics { HasBasics s.now.table }
     requires parts { AreSeenOf s.now parts.now }
@@ -268,6 +272,7 @@ fn all_methods(
     node: &Node,
     parts: &[Seen],
 ) -> Result<Vec<Method>, NoMemory>
+    requires read { IsRead u.now }
     requires state { IsState s.now }
     requires basics { HasBasics s.now.table }
     requires parts { AreSeenOf s.now parts.now }
@@ -289,6 +294,7 @@ fn method_row(
     node: &Node,
     parts: &[Seen],
 ) -> Result<Vec<Method>, NoMemory>
+    requires read { IsRead u.now }
     requires state { IsState s.now }
     requires basics { HasBasics s.now.table }
     requires parts { AreSeenOf s.now parts.now }
@@ -310,6 +316,7 @@ pub fn interface(
     node: &Node,
     parts: &[Seen],
 ) -> Result<Step, NoMemory>
+    requires read { IsRead u.now }
     requires state { IsState s.now }
     requires basics { HasBasics s.now.table }
     requires parts { AreSeenOf s.now parts.now }

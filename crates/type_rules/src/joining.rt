@@ -5,7 +5,7 @@ ghost use Rattle.type_model.specs.GoTypes.{MethodsBelow};
 ghost use Rattle.type_model.specs.Tables.{count};
 ghost use Rattle.typed_marks.specs.States.{so_far, IsState};
 ghost use Rattle.typed_tree.specs.Basics.{HasBasics};
-ghost use Rattle.unit_read.specs.Subjects.{unit_of};
+ghost use Rattle.unit_read.specs.Subjects.{unit_of, IsRead};
 ghost use Rattle.rule_words.specs.declared.read.How.TheVariants as h;
 ghost use Rattle.rule_words.specs.Answers.{is_plain};
 ghost use Rattle.rule_words.specs.Parts.{read_as};
@@ -102,6 +102,7 @@ fn clash_at(
     p: Seen,
     r: Read,
 ) -> Result<bool, NoMemory>
+    requires read { IsRead u.now }
     requires state { IsState s.now }
     requires basics { HasBasics s.now.table }
     requires methods { MethodsBelow (count s.now.table) methods.now }
@@ -129,6 +130,7 @@ fn nth_clash(
     parts: &[Seen],
     k: usize,
 ) -> Result<bool, NoMemory>
+    requires read { IsRead u.now }
     requires state { IsState s.now }
     requires basics { HasBasics s.now.table }
     requires methods { MethodsBelow (count s.now.table) methods.now }
@@ -156,6 +158,7 @@ fn clash_among(
     parts: &[Seen],
     n: usize,
 ) -> Result<bool, NoMemory>
+    requires read { IsRead u.now }
     requires state { IsState s.now }
     requires basics { HasBasics s.now.table }
     requires methods { MethodsBelow (count s.now.table) methods.now }
@@ -180,6 +183,7 @@ fn joined(
     methods: &[Method],
     parts: &[Seen],
 ) -> Result<Step, NoMemory>
+    requires read { IsRead u.now }
     requires state { IsState s.now }
     requires basics { HasBasics s.now.table }
     requires mark { IsMarkOf s.now m }

@@ -5,7 +5,7 @@ ghost use Rattle.type_model.specs.GoTypes.{FieldsBelow, fields_of};
 ghost use Rattle.type_model.specs.Tables.{types_in, count};
 ghost use Rattle.typed_marks.specs.States.{so_far};
 ghost use Rattle.typed_tree.specs.Basics.{HasBasics};
-ghost use Rattle.unit_read.specs.Subjects.{unit_of};
+ghost use Rattle.unit_read.specs.Subjects.{unit_of, IsRead};
 ghost use Rattle.rule_words.specs.Scenes.{type_in, IsTypeOf, parts_in, AreSeenOf};
 ghost use Rattle.rule_words.specs.Steps.{step_in, IsStepOf};
 ghost use Rattle.type_rules.specs.Structs.{fields_from, tag_of, field_of, named_field, nth_field, named_fields, embedded_field, fields_by, fields_at, nth_fields, all_fields, struct_rule};
@@ -37,12 +37,13 @@ fn add_made(
     alloc: Global,
     u: &Subject,
     s: &State,
-    name: &[u8],
+    name: &str,
     embedded: bool,
     tag: Bytes,
     of: TypeId,
     out: &mut Vec<Field>,
 ) -> Result<(), NoMemory>
+    requires read { IsRead u.now }
     requires of { IsTypeOf s.now of }
     requires below { FieldsBelow (count s.now.table) out.old.items }
     ensures is { OnOk result (map (field_in s.now) out.new.items ≡ map (field_in s.now) out.old.items ++ field_of (unit_of u.now) name.now embedded tag (type_in s.now of) ∷ []) }
@@ -63,6 +64,7 @@ fn add_named(
     n: u32,
     out: &mut Vec<Field>,
 ) -> Result<(), NoMemory>
+    requires read { IsRead u.now }
     requires of { IsTypeOf s.now of }
     requires below { FieldsBelow (count s.now.table) out.old.items }
     ensures is { OnOk result (map (field_in s.now) out.new.items ≡ map (field_in s.now) out.old.items ++ named_field (unit_of u.now) file (tag_of (unit_of u.now) file node.now) (type_in s.now of) (Some n)) }
@@ -73,7 +75,7 @@ fn add_named(
         alloc,
         u,
         s,
-        u.name_at(NodeRef { file, node: n }),
+        u.name_text(NodeRef { file, node: n }),
         false,
         tag,
         of,
@@ -93,6 +95,7 @@ fn add_nth(
     i: usize,
     out: &mut Vec<Field>,
 ) -> Result<(), NoMemory>
+    requires read { IsRead u.now }
     requires of { IsTypeOf s.now of }
     requires below { FieldsBelow (count s.now.table) out.old.items }
     ensures is { OnOk result (map (field_in s.now) out.new.items ≡ map (field_in s.now) out.old.items ++ nth_field (unit_of u.now) file nodes.now node.now (type_in s.now of) i) }
@@ -115,6 +118,7 @@ fn add_names(
     of: TypeId,
     out: &mut Vec<Field>,
 ) -> Result<(), NoMemory>
+    requires read { IsRead u.now }
     requires of { IsTypeOf s.now of }
     requires below { FieldsBelow (count s.now.table) out.old.items }
     ensures is { OnOk result (map (field_in s.now) out.new.items ≡ map (field_in s.now) out.old.items ++ named_fields (unit_of u.now) file nodes.now node.now (type_in s.now of)) }
@@ -135,6 +139,7 @@ fn add_embedded(
     of: TypeId,
     out: &mut Vec<Field>,
 ) -> Result<(), NoMemory>
+    requires read { IsRead u.now }
     requires of { IsTypeOf s.now of }
     requires below { FieldsBelow (count s.now.table) out.old.items }
     ensures is { OnOk result (map (field_in s.now) out.new.items ≡ map (field_in s.now) out.old.items ++ embedded_field (unit_of u.now) file node.now (type_in s.now of)) }
@@ -164,6 +169,7 @@ fn add_by_kind(
     of: TypeId,
     out: &mut Vec<Field>,
 ) -> Result<(), NoMemory>
+    requires read { IsRead u.now }
     requires of { IsTypeOf s.now of }
     requires below { FieldsBelow (count s.now.table) out.old.items }
     ensures is { OnOk result (map (field_in s.now) out.new.items ≡ map (field_in s.now) out.old.items ++ fields_by (unit_of u.now) file nodes.now (type_in s.now of) node.now.kind node.now) }
@@ -188,6 +194,7 @@ fn add_at(
     n: u32,
     out: &mut Vec<Field>,
 ) -> Result<(), NoMemory>
+    requires read { IsRead u.now }
     requires of { IsTypeOf s.now of }
     requires below { FieldsBelow (count s.now.table) out.old.items }
     ensures is { OnOk result (map (field_in s.now) out.new.items ≡ map (field_in s.now) out.old.items ++ fields_at (unit_of u.now) file nodes.now (type_in s.now of) n) }
@@ -210,6 +217,7 @@ fn add_part(
     i: usize,
     out: &mut Vec<Field>,
 ) -> Result<(), NoMemory>
+    requires read { IsRead u.now }
     requires basics { HasBasics s.now.table }
     requires parts { AreSeenOf s.now parts.now }
     requires below { FieldsBelow (count s.now.table) out.old.items }
@@ -231,6 +239,7 @@ fn all_fields(
     node: &Node,
     parts: &[Seen],
 ) -> Result<Vec<Field>, NoMemory>
+    requires read { IsRead u.now }
     requires basics { HasBasics s.now.table }
     requires parts { AreSeenOf s.now parts.now }
     ensures are { IfOk result (λ list. map (field_in s.now) list.items ≡ all_fields (unit_of u.now) file node.now (parts_in s.now parts.now)) }
@@ -251,6 +260,7 @@ fn field_row(
     node: &Node,
     parts: &[Seen],
 ) -> Result<Vec<Field>, NoMemory>
+    requires read { IsRead u.now }
     requires basics { HasBasics s.now.table }
     requires parts { AreSeenOf s.now parts.now }
     ensures are { IfOk result (λ list. fields_of (types_in s.now.table) list.items ≡ fields_from (all_fields (unit_of u.now) file node.now (parts_in s.now parts.now))) }
@@ -269,6 +279,7 @@ pub fn structure(
     node: &Node,
     parts: &[Seen],
 ) -> Result<Step, NoMemory>
+    requires read { IsRead u.now }
     requires basics { HasBasics s.now.table }
     requires parts { AreSeenOf s.now parts.now }
     ensures is { IfOk result (λ step. step_in s.now step ≡ tell (so_far s.now) (struct_rule (unit_of u.now) file node.now (parts_in s.now parts.now))) }

@@ -4,4 +4,5 @@ pub mod EnvironmentLemmas
 pub mod FaceLemmas
 pub mod IndexLemmas
 mod RowLemmas
+pub mod TextLemmas
 pub mod TypeLemmas

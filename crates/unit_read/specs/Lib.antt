@@ -9,4 +9,5 @@ pub mod Places
 pub mod Passages
 pub mod Rows
 pub mod Subjects
+pub mod Texts
 pub mod Units

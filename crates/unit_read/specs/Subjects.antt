@@ -11,6 +11,7 @@ use Rattle.unit_read.specs.Environments.{IsEnvironment, faces_in}
 use Rattle.unit_read.specs.Imports.{lead_at}
 use Rattle.unit_read.specs.Index.{texts_of, found}
 use Rattle.unit_read.specs.Passages.{passages}
+use Rattle.unit_read.specs.Texts.{AreTexts}
 use Rattle.unit_read.specs.Units.{Unit, object_at, place_at, spec_at, defined, type_name, type_name_at, named_by, copy_at}
 use Rattle.unit_read.specs.Members.{is_repeat}
 use Rattle.unit_read.specs.Methods.{methods_of, is_repeated_method}
@@ -39,7 +40,7 @@ kept_by groups number = option_map_or (group_in groups) number []
 abbrev pub kept_methods : List (Vec NodeRef) → List (List (ℕ × ℕ)) → NodeRef → List NodeRef
 kept_methods groups kin t = kept_by groups (entry kin t)
 
--- each row has what is said of its nodes
+-- each row has what is said of its nodes, and names are texts
 pub record IsRead (s : Subject) : Type 0 where
   pub blocks : s.passages.items ≡ passages s.trees.now
   pub objects : (at : NodeRef) → cell s.objects.items at ≡ object_at (unit_of s) at
@@ -55,3 +56,4 @@ pub record IsRead (s : Subject) : Type 0 where
   pub repeated : (at : NodeRef) → flag s.repeated.items at ≡ is_repeated_method (unit_of s) at
   pub copies : (at : NodeRef) → entry s.copies.items at ≡ copy_at (unit_of s) at
   pub named : (q : List ℕ) → found s.named q ≡ named_by (unit_of s) (top_name (unit_of s) q) (defined (unit_of s))
+  pub texts : AreTexts s.path.now (texts_of s.texts.now) s.trees.now

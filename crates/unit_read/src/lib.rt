@@ -14,6 +14,7 @@ mod place;
 mod places;
 mod seen;
 mod subject;
+mod texts;
 
 pub use entries::Entries;
 pub use environment::{Environment, path_index};

@@ -4,6 +4,7 @@ ghost use Rattle.go_tree.specs.Bindings.{AreInOrder};
 ghost use Rattle.unit_read.specs.Environments.{IsEnvironment, faces_in};
 ghost use Rattle.unit_read.specs.Index.{texts_of};
 ghost use Rattle.unit_read.specs.Subjects.{unit_of, IsRead};
+ghost use Rattle.unit_read.specs.Texts.{AreTexts};
 ghost use Rattle.unit_rows.specs.Drafts.{package_unit, with_flags, with_owners};
 ghost use Rattle.package_objects.specs.Declares.{AreSmall};
 
@@ -41,6 +42,7 @@ pub fn read_unit<'a>(
     requires few { length trees.now ≤ 2 ^ 32 }
     requires uses { AreInOrder uses.now }
     requires env { IsEnvironment env.now }
+    requires texts { AreTexts path.now (texts_of texts.now) trees.now }
     ensures read { IfOk result (λ s. IsRead s) }
     ensures of { IfOk result (λ s. unit_of s ≡ package_unit path.now (texts_of texts.now) trees.now uses.now (faces_in env.now) redeclared.items cyclic.items circular.items owners.items) }
     ensures env { IfOk result (λ s. s.env.now ≡ env.now) }

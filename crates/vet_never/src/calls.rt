@@ -9,7 +9,6 @@ ghost use Rattle.vet_never.specs.Knowing.{handed_in, IsKnown};
 
 use crate::callees::told_of;
 use crate::told::Told;
-use crate::words::utf8;
 use fact_codec::Never;
 use findings::Pass;
 use flow::Call;
@@ -30,7 +29,7 @@ pub(crate) struct Known<'k, 'a> {
 fn is_own(p: &Pass, m: &Name) -> bool
     ensures { result ≡ is_own 0 (unit_in p.now) (member_in m.now) }
 {
-    m.path.as_slice() == p.subject.path
+    m.path.as_str().as_bytes() == p.subject.path
 }
 
 fn as_call(number: usize) -> Call
@@ -46,7 +45,7 @@ fn own_number(p: &Pass, known: &Known<'_, '_>, m: &Name) -> Option<usize>
     ensures below { IfSome result (λ i. i < 2 ^ 32) }
 {
     if is_own(p, m) {
-        find(known.numbers, &m.name)
+        find(known.numbers, m.name.as_str().as_bytes())
     } else {
         None
     }
@@ -62,39 +61,34 @@ fn own_call(p: &Pass, known: &Known<'_, '_>, m: &Name) -> Call
     }
 }
 
-fn is_handed(p: &Pass, known: &Known<'_, '_>, m: &Name) -> Result<bool, NoMemory>
+fn is_handed(p: &Pass, known: &Known<'_, '_>, m: &Name) -> bool
     requires { IsKnown (unit_in p.now) known.now }
-    ensures { IfOk result (λ b. b ≡ handed_in known.now (member_in m.now)) }
+    ensures { result ≡ handed_in known.now (member_in m.now) }
 {
     let _ = p;
-    let name = utf8(&m.name)?;
-    let handed = known.handed.has(&m.path, name);
-    Ok(handed)
+    let path = m.path.as_str().as_bytes();
+    known.handed.has(path, m.name.as_str())
 }
 
-fn named_call(p: &Pass, known: &Known<'_, '_>, m: &Name) -> Result<Call, NoMemory>
+fn named_call(p: &Pass, known: &Known<'_, '_>, m: &Name) -> Call
     requires { IsKnown (unit_in p.now) known.now }
-    ensures { IfOk result (λ call. call ≡ call_of (handed_in known.now) (number 0 (unit_in p.now)) (Named (member_in m.now))) }
+    ensures { result ≡ call_of (handed_in known.now) (number 0 (unit_in p.now)) (Named (member_in m.now)) }
 {
-    let stops = is_handed(p, known, m)?;
-    if stops {
-        return Ok(Call::Stops);
+    if is_handed(p, known, m) {
+        return Call::Stops;
     }
-    Ok(own_call(p, known, m))
+    own_call(p, known, m)
 }
 
 /// A call by number.
-fn call(p: &Pass, known: &Known<'_, '_>, told: &Told) -> Result<Call, NoMemory>
+fn call(p: &Pass, known: &Known<'_, '_>, told: &Told) -> Call
     requires { IsKnown (unit_in p.now) known.now }
-    ensures { IfOk result (λ call. call ≡ call_of (handed_in known.now) (number 0 (unit_in p.now)) (callee_in told.now)) }
+    ensures { result ≡ call_of (handed_in known.now) (number 0 (unit_in p.now)) (callee_in told.now) }
 {
     match told {
-        Told::Other => Ok(Call::Passes),
-        Told::Panic => Ok(Call::Stops),
-        Told::Named(m) => {
-            let call = named_call(p, known, m)?;
-            Ok(call)
-        }
+        Told::Other => Call::Passes,
+        Told::Panic => Call::Stops,
+        Told::Named(m) => named_call(p, known, m),
     }
 }
 
@@ -111,8 +105,7 @@ fn call_at(
     ensures { IfOk result (IsCallAt (unit_in p.now) (marks_in p.now) (handed_in known.now) file n) }
 {
     let told = told_of(alloc, p, file, n)?;
-    let call = call(p, known, &told)?;
-    Ok(call)
+    Ok(call(p, known, &told))
 }
 
 /// What the nodes of a file call, by number.

@@ -8,7 +8,6 @@ mod files;
 mod laws;
 mod never;
 mod told;
-mod words;
 
 pub use laws::one_never_text;
 pub use never::CtrlFlow;

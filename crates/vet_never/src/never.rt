@@ -15,13 +15,12 @@ ghost use Rattle.vet_never.specs.Never.{spelling, fact_name, IsNeverText};
 use crate::bodies::functions_by_number;
 use crate::calls::Known;
 use crate::files::{all_known, all_lent};
-use crate::words::utf8;
 use fact_codec::{FactTable, Never};
 use findings::Pass;
 use gv_base::{Bytes, NoMemory, Text};
 use handed_facts::read_handed;
 use never_returns::{found_by_numbers, never_returning};
-use own_functions::{Declared, functions_of, nth_name, numbers_of};
+use own_functions::{Declared, functions_of, nth_text, numbers_of};
 use std::alloc::Global;
 use unit_read::find;
 
@@ -51,14 +50,6 @@ fn put_text(table: &mut FactTable<Never>, name: &str) -> Result<(), NoMemory>
     Ok(())
 }
 
-fn put_name(table: &mut FactTable<Never>, name: &[u8]) -> Result<(), NoMemory>
-    ensures { OnOk result ((q : List ℕ) → Contains (map fact_name table.new) q ↔ (Contains (map fact_name table.old) q ⊎ (q ≡ name.now))) }
-{
-    let text = utf8(name)?;
-    put_text(table, text)?;
-    Ok(())
-}
-
 fn flag_at(flags: &[bool], i: usize) -> bool
     ensures { result ≡ slice_index_or flags.now i false }
 {
@@ -78,12 +69,12 @@ fn flag_of(flags: &[bool], number: Option<usize>) -> bool
 }
 
 /// Whether the first function of a name is flagged.
-fn is_flagged(p: &Pass, known: &Known<'_, '_>, flags: &[bool], name: &[u8]) -> bool
+fn is_flagged(p: &Pass, known: &Known<'_, '_>, flags: &[bool], name: &str) -> bool
     requires { IsKnown (unit_in p.now) known.now }
     ensures { result ≡ is_marked (set_of flags.now) (first_of (unit_in p.now) name.now) }
 {
     let _ = p;
-    flag_of(flags, find(known.numbers, name))
+    flag_of(flags, find(known.numbers, name.as_bytes()))
 }
 
 fn put_flagged(
@@ -91,13 +82,13 @@ fn put_flagged(
     known: &Known<'_, '_>,
     table: &mut FactTable<Never>,
     flags: &[bool],
-    name: &[u8],
+    name: &str,
 ) -> Result<(), NoMemory>
     requires { IsKnown (unit_in p.now) known.now }
     ensures { OnOk result ((q : List ℕ) → Contains (map fact_name table.new) q ↔ (Contains (map fact_name table.old) q ⊎ ((is_marked (set_of flags.now) (first_of (unit_in p.now) name.now) ≡ true) × (q ≡ name.now)))) }
 {
     if is_flagged(p, known, flags, name) {
-        put_name(table, name)?;
+        put_text(table, name)?;
         return Ok(());
     }
     Ok(())
@@ -117,7 +108,7 @@ fn table_of(
 {
     let mut table = FactTable::new(alloc);
     for i in 0..list.len() {
-        put_flagged(p, known, &mut table, flags, nth_name(p, list, i))?;
+        put_flagged(p, known, &mut table, flags, nth_text(p, list, i))?;
     }
     Ok(table)
 }

@@ -52,20 +52,20 @@ module _ (k : Known) (u : Unit) (marks : Item → Meaning) (x : Printing) where
   says wrap.Errorf path name = says_errorf (prints k u wrap.Print x.print.items path name) (prints k u wrap.Printf x.printf.items path name) (prints k u wrap.Errorf x.errorf.items path name)
 
   -- what the node names
-  pub cell_some : (f n : ℕ) (o : Option Named) (m : Named) (c : ℕ) → Finds (IsNamed u marks f n) o → o ≡ Some m → c ≡ kinds_of_member k u x m.path.items m.name.items → IsKindsCell k u marks x f n c
+  pub cell_some : (f n : ℕ) (o : Option Named) (m : Named) (c : ℕ) → Finds (IsNamed u marks f n) o → o ≡ Some m → c ≡ kinds_of_member k u x m.path m.name → IsKindsCell k u marks x f n c
   cell_some f n o m c finds is e = record {
     each = λ kind. (
       λ h. (
-          let p = sym (says kind m.path.items m.name.items) ∙ (ap (λ d. has_flag d (number_of kind)) (sym e) ∙ h) in
-          (named_in m, (finds (named_in m)).0 (ap found_named is), or_cases (handed_in k (member m.path.items m.name.items (number_of kind))) (sets_of u x kind (member m.path.items m.name.items (number_of kind))) p)
+          let p = sym (says kind m.path m.name) ∙ (ap (λ d. has_flag d (number_of kind)) (sym e) ∙ h) in
+          (named_in m, (finds (named_in m)).0 (ap found_named is), or_cases (handed_in k (member m.path m.name (number_of kind))) (sets_of u x kind (member m.path m.name (number_of kind))) p)
           ),
       λ (y, named, h). (
           let same : named_in m ≡ y = same_some (sym (ap found_named is) ∙ (finds y).1 named) in
           let q = subst (λ (z : List ℕ × List ℕ). (handed_in k (member z.0 z.1 (number_of kind)) ≡ true) ⊎ (sets_of u x kind (member z.0 z.1 (number_of kind)) ≡ true)) (sym same) h in
           ap (λ d. has_flag d (number_of kind)) e
-          ∙ (says kind m.path.items m.name.items
-          ∙ either q (λ a. or_left (handed_in k (member m.path.items m.name.items (number_of kind))) (sets_of u x kind (member m.path.items m.name.items (number_of kind))) a)
-          (λ b. or_right (handed_in k (member m.path.items m.name.items (number_of kind))) (sets_of u x kind (member m.path.items m.name.items (number_of kind))) b))
+          ∙ (says kind m.path m.name
+          ∙ either q (λ a. or_left (handed_in k (member m.path m.name (number_of kind))) (sets_of u x kind (member m.path m.name (number_of kind))) a)
+          (λ b. or_right (handed_in k (member m.path m.name (number_of kind))) (sets_of u x kind (member m.path m.name (number_of kind))) b))
           ),
     );
   }

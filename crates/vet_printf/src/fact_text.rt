@@ -7,11 +7,10 @@ ghost use Rattle.vet_printf.specs.Knowing.{IsKnown};
 
 use crate::known::Known;
 use crate::printing::{Printing, kinds_named};
-use crate::words::utf8;
 use fact_codec::{FactTable, Wraps};
 use findings::Pass;
 use gv_base::NoMemory;
-use own_functions::nth_name;
+use own_functions::nth_text;
 use std::alloc::Global;
 
 fn has(table: &FactTable<Wraps>, name: &str) -> bool
@@ -38,20 +37,12 @@ fn put_text(table: &mut FactTable<Wraps>, name: &str, fact: Wraps) -> Result<(),
     Ok(())
 }
 
-fn put_name(table: &mut FactTable<Wraps>, name: &[u8], fact: Wraps) -> Result<(), NoMemory>
-    ensures { OnOk result (IsAdded name.now (Some fact) table.old table.new) }
-{
-    let text = utf8(name)?;
-    put_text(table, text, fact)?;
-    Ok(())
-}
-
-fn put_some(table: &mut FactTable<Wraps>, name: &[u8], fact: Option<Wraps>) -> Result<(), NoMemory>
+fn put_some(table: &mut FactTable<Wraps>, name: &str, fact: Option<Wraps>) -> Result<(), NoMemory>
     ensures { OnOk result (IsAdded name.now fact table.old table.new) }
 {
     match fact {
         Some(fact) => {
-            put_name(table, name, fact)?;
+            put_text(table, name, fact)?;
             Ok(())
         }
         None => Ok(()),
@@ -77,8 +68,9 @@ pub(crate) fn table_of(
 {
     let mut table = FactTable::new(alloc);
     for i in 0..known.list.len() {
-        let name = nth_name(p, known.list, i);
-        put_some(&mut table, name, fact_named(p, known, x, name))?;
+        let name = nth_text(p, known.list, i);
+        let fact = fact_named(p, known, x, name.as_bytes());
+        put_some(&mut table, name, fact)?;
     }
     Ok(table)
 }

@@ -19,29 +19,23 @@ use member_names::{Named, named_at};
 use package_objects::node_of;
 use std::alloc::Global;
 
-fn prints(
-    p: &Pass,
-    known: &Known<'_, '_>,
-    kind: WrapKind,
-    flags: &[bool],
-    m: &Named,
-) -> Result<bool, NoMemory>
+fn prints(p: &Pass, known: &Known<'_, '_>, kind: WrapKind, flags: &[bool], m: &Named) -> bool
     requires { IsKnown (unit_in p.now) (marks_in p.now) known.now }
-    ensures { IfOk result (λ b. b ≡ prints known.now (unit_in p.now) kind flags.now m.now.path.items m.now.name.items) }
+    ensures { result ≡ prints known.now (unit_in p.now) kind flags.now m.now.path m.now.name }
 {
-    let given = is_given(p, known, kind, m)?;
+    let given = is_given(p, known, kind, m);
     let own = is_marked(flags, own_place(p, known, m));
-    Ok(given || own)
+    given || own
 }
 
-fn kinds_of_member(p: &Pass, known: &Known<'_, '_>, x: &Printing, m: &Named) -> Result<u8, NoMemory>
+fn kinds_of_member(p: &Pass, known: &Known<'_, '_>, x: &Printing, m: &Named) -> u8
     requires { IsKnown (unit_in p.now) (marks_in p.now) known.now }
-    ensures { IfOk result (λ c. c ≡ kinds_of_member known.now (unit_in p.now) x.now m.now.path.items m.now.name.items) }
+    ensures { result ≡ kinds_of_member known.now (unit_in p.now) x.now m.now.path m.now.name }
 {
-    let print = prints(p, known, WrapKind::Print, &x.print, m)?;
-    let printf = prints(p, known, WrapKind::Printf, &x.printf, m)?;
-    let errorf = prints(p, known, WrapKind::Errorf, &x.errorf, m)?;
-    Ok(kinds_number(print, printf, errorf))
+    let print = prints(p, known, WrapKind::Print, &x.print, m);
+    let printf = prints(p, known, WrapKind::Printf, &x.printf, m);
+    let errorf = prints(p, known, WrapKind::Errorf, &x.errorf, m);
+    kinds_number(print, printf, errorf)
 }
 
 fn is_declared(object: Object) -> bool
@@ -102,10 +96,7 @@ fn cell_named(
 {
     let named = named_at(alloc, p, file, n)?;
     match named {
-        Some(m) => {
-            let kinds = kinds_of_member(p, known, x, &m)?;
-            Ok(kinds)
-        }
+        Some(m) => Ok(kinds_of_member(p, known, x, &m)),
         None => Ok(0),
     }
 }

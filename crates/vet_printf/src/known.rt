@@ -1,5 +1,5 @@
 //! What is known of functions by name and by number.
-ghost use Rattle.std.specs.Prelude.{◌≡◌, ◌<◌, ◌^◌, ℕ, List, IfOk, IfSome, map, bytes_eq, option_map};
+ghost use Rattle.std.specs.Prelude.{◌≡◌, ◌<◌, ◌^◌, ℕ, List, map, bytes_eq, option_map};
 ghost use Rattle.std.specs.Option.{option_copied};
 ghost use Rattle.go_tree.specs.Lexeme.{place_of};
 ghost use Rattle.object_order.specs.Spots.{place};
@@ -13,10 +13,8 @@ ghost use Rattle.vet_printf.specs.Handing.{cell_in};
 ghost use Rattle.vet_printf.specs.Knowing.{has_number, given_as, handed_in, called_at, own_place, IsKnown};
 ghost use Rattle.vet_printf.specs.Wraps.{number_of};
 
-use crate::words::utf8;
 use fact_codec::{WrapKind, Wraps};
 use findings::Pass;
-use gv_base::NoMemory;
 use handed_facts::Handed;
 use member_names::Named;
 use own_functions::Declared;
@@ -63,35 +61,28 @@ fn given_as(known: &Known<'_, '_>, kind: WrapKind, path: &[u8], name: &str) -> b
 }
 
 /// Whether other packages' facts have a function with this kind.
-pub(crate) fn is_given(
-    p: &Pass,
-    known: &Known<'_, '_>,
-    kind: WrapKind,
-    x: &Named,
-) -> Result<bool, NoMemory>
+pub(crate) fn is_given(p: &Pass, known: &Known<'_, '_>, kind: WrapKind, x: &Named) -> bool
     requires { IsKnown (unit_in p.now) (marks_in p.now) known.now }
-    ensures { IfOk result (λ b. b ≡ handed_in known.now (member x.now.path.items x.now.name.items (number_of kind))) }
+    ensures { result ≡ handed_in known.now (member x.now.path x.now.name (number_of kind)) }
 {
     let _ = p;
-    let name = utf8(&x.name)?;
-    let given = given_as(known, kind, &x.path, name);
-    Ok(given)
+    given_as(known, kind, x.path.as_str().as_bytes(), x.name.as_str())
 }
 
 // ---- functions of the package
 
 fn is_own(p: &Pass, x: &Named) -> bool
-    ensures { result ≡ bytes_eq x.now.path.items (unit_in p.now).path }
+    ensures { result ≡ bytes_eq x.now.path (unit_in p.now).path }
 {
-    x.path.as_slice() == p.subject.path
+    x.path.as_str().as_bytes() == p.subject.path
 }
 
 pub(crate) fn own_place(p: &Pass, known: &Known<'_, '_>, x: &Named) -> Option<usize>
     requires { IsKnown (unit_in p.now) (marks_in p.now) known.now }
-    ensures { result ≡ own_place (unit_in p.now) x.now.path.items x.now.name.items }
+    ensures { result ≡ own_place (unit_in p.now) x.now.path x.now.name }
 {
     if is_own(p, x) {
-        find(known.numbers, &x.name)
+        find(known.numbers, x.name.as_str().as_bytes())
     } else {
         None
     }
@@ -108,7 +99,7 @@ fn as_number(p: &Pass, i: usize) -> u32
 /// The number of a function of the package.
 pub(crate) fn own_number(p: &Pass, known: &Known<'_, '_>, x: &Named) -> Option<u32>
     requires { IsKnown (unit_in p.now) (marks_in p.now) known.now }
-    ensures { result ≡ own_place (unit_in p.now) x.now.path.items x.now.name.items }
+    ensures { result ≡ own_place (unit_in p.now) x.now.path x.now.name }
 {
     match own_place(p, known, x) {
         Some(i) => Some(as_number(p, i)),

@@ -40,7 +40,6 @@ mod touching;
 mod verb;
 mod walk;
 mod ways;
-mod words;
 mod wrapping;
 
 pub use analyzer::Printed;

@@ -4,7 +4,7 @@ ghost use Rattle.std.specs.Option.{option_map_or};
 ghost use Rattle.unit_read.specs.Units.{nodes_at};
 ghost use Rattle.findings.specs.Passes.{unit_in, marks_in, IsPass};
 ghost use Rattle.own_functions.specs.declared.functions.Declared.{Declared as ADeclared};
-ghost use Rattle.own_functions.specs.InCode.{named_in, text_in};
+ghost use Rattle.own_functions.specs.InCode.{named_in};
 ghost use Rattle.vet_printf.specs.Forwards.{AreTouched};
 ghost use Rattle.vet_printf.specs.Knowing.{IsKnown};
 ghost use Rattle.vet_printf.specs.Walk.{declared_name, stands_at, number_if, number_named, owner_number, giver_in, giver_of, giver_around, giver_from, giver};
@@ -15,7 +15,7 @@ use crate::spreads::is_spread_call;
 use crate::standing::declaration_of;
 use findings::Pass;
 use go_tree::Node;
-use gv_base::NoMemory;
+use gv_base::{NoMemory, Text};
 use own_functions::{Declared, name_by};
 use package_objects::node_of;
 use std::alloc::Global;
@@ -23,8 +23,9 @@ use unit_read::find;
 
 // ---- the function that a node declares
 
-fn declared_name(alloc: Global, p: &Pass, file: u32, d: u32) -> Result<Option<Vec<u8>>, NoMemory>
-    ensures { IfOk result (λ o. text_in o ≡ declared_name (unit_in p.now) file d) }
+fn declared_name(alloc: Global, p: &Pass, file: u32, d: u32) -> Result<Option<Text>, NoMemory>
+    requires { IsPass p.now }
+    ensures { IfOk result (λ o. o ≡ declared_name (unit_in p.now) file d) }
 {
     match node_of(p.subject.nodes_at(file), d) {
         Some(node) => {
@@ -80,12 +81,13 @@ fn owner_number(
     file: u32,
     d: u32,
 ) -> Result<Option<usize>, NoMemory>
-    requires { IsKnown (unit_in p.now) (marks_in p.now) known.now }
+    requires pass { IsPass p.now }
+    requires known { IsKnown (unit_in p.now) (marks_in p.now) known.now }
     ensures { IfOk result (λ o. o ≡ owner_number (unit_in p.now) file d) }
 {
     let name = declared_name(alloc, p, file, d)?;
     match name {
-        Some(name) => Ok(number_named(p, known, file, d, &name)),
+        Some(name) => Ok(number_named(p, known, file, d, name.as_str().as_bytes())),
         None => Ok(None),
     }
 }

@@ -36,7 +36,7 @@ fn put_named(
     requires below { i < length (functions (unit_in p.now)) }
     ensures { OnOk result (Fills (length (functions (unit_in p.now))) (handed_in known.now) (number (number_of kind) (unit_in p.now)) (Some (given_of (number_of kind) i (named_in x.now))) buckets.old buckets.new) }
 {
-    let given = is_given(p, known, kind, x)?;
+    let given = is_given(p, known, kind, x);
     let own = own_number(p, known, x);
     put(buckets, i, given, own)?;
     Ok(())

@@ -40,7 +40,8 @@ fn report_name(
     j: usize,
     found: &mut Vec<Diagnostic>,
 ) -> Result<(), NoMemory>
-    requires { AreLines (unit_in p.now).texts s.now.lines.items }
+    requires pass { IsPass p.now }
+    requires lines { AreLines (unit_in p.now).texts s.now.lines.items }
     ensures { OnOk result (found.new.items ≡ found.old.items ++ nth_told s.now.paths.now (unit_in p.now) file parts.now i n node.now t.now j) }
 {
     match fault_told(alloc, p, s, file, parts, i, node, t, j)? {
@@ -64,6 +65,7 @@ fn report_names(
     t: &Told,
     found: &mut Vec<Diagnostic>,
 ) -> Result<(), NoMemory>
+    requires pass { IsPass p.now }
     requires lines { AreLines (unit_in p.now).texts s.now.lines.items }
     requires stands { IsPart (unit_in p.now) file parts.now i node.now }
     ensures { OnOk result (IsTold (unit_in p.now) file parts.now i node.now t.now → found.new.items ≡ found.old.items ++ field_faults s.now.paths.now (unit_in p.now) file parts.now i n node.now) }
@@ -144,6 +146,7 @@ fn report_node(
     xml_met: &mut HashMap<Vec<u8>, usize>,
     found: &mut Vec<Diagnostic>,
 ) -> Result<(), NoMemory>
+    requires pass { IsPass p.now }
     requires lines { AreLines (unit_in p.now).texts s.now.lines.items }
     requires stands { IsPart (unit_in p.now) file parts.now i node.now }
     ensures found { OnOk result (AreMet (unit_in p.now) file parts.now i json_met.old xml_met.old → found.new.items ≡ found.old.items ++ field_faults s.now.paths.now (unit_in p.now) file parts.now i n node.now) }
@@ -166,6 +169,7 @@ fn report_number(
     xml_met: &mut HashMap<Vec<u8>, usize>,
     found: &mut Vec<Diagnostic>,
 ) -> Result<(), NoMemory>
+    requires pass { IsPass p.now }
     requires lines { AreLines (unit_in p.now).texts s.now.lines.items }
     requires stands { part parts.now i ≡ Some n }
     ensures found { OnOk result (AreMet (unit_in p.now) file parts.now i json_met.old xml_met.old → found.new.items ≡ found.old.items ++ node_faults s.now.paths.now (unit_in p.now) file parts.now i n) }
@@ -193,6 +197,7 @@ fn report_part(
     xml_met: &mut HashMap<Vec<u8>, usize>,
     found: &mut Vec<Diagnostic>,
 ) -> Result<(), NoMemory>
+    requires pass { IsPass p.now }
     requires lines { AreLines (unit_in p.now).texts s.now.lines.items }
     ensures found { OnOk result (AreMet (unit_in p.now) file parts.now i json_met.old xml_met.old → found.new.items ≡ found.old.items ++ part_faults s.now.paths.now (unit_in p.now) file parts.now i) }
     ensures met { OnOk result (AreMet (unit_in p.now) file parts.now i json_met.old xml_met.old → AreMet (unit_in p.now) file parts.now (i + 1) json_met.new xml_met.new) }
@@ -220,6 +225,7 @@ fn report_parts(
     parts: &Node,
     found: &mut Vec<Diagnostic>,
 ) -> Result<(), NoMemory>
+    requires pass { IsPass p.now }
     requires lines { AreLines (unit_in p.now).texts s.now.lines.items }
     ensures { OnOk result (found.new.items ≡ found.old.items ++ gather (part_faults s.now.paths.now (unit_in p.now) file parts.now) (length parts.now.parts)) }
 {
@@ -255,6 +261,7 @@ fn report_struct(
     node: &Node,
     found: &mut Vec<Diagnostic>,
 ) -> Result<(), NoMemory>
+    requires pass { IsPass p.now }
     requires lines { AreLines (unit_in p.now).texts s.now.lines.items }
     ensures { OnOk result (found.new.items ≡ found.old.items ++ tag_faults s.now.paths.now (unit_in p.now) (marks_in p.now) at node.now) }
 {

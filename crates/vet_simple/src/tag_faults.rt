@@ -1,8 +1,8 @@
 //! Faults of tags: of what a part of a struct was read to say.
-ghost use Rattle.std.specs.Prelude.{◌≡◌, ◌==◌, [], ℕ, Some, None, not, ◌&&◌, codes, if◌then◌else◌, option_map, IfOk};
+ghost use Rattle.std.specs.Prelude.{◌≡◌, ◌==◌, ℕ, Some, None, not, ◌&&◌, codes, if◌then◌else◌, option_map, IfOk};
 ghost use Rattle.std.specs.Option.{option_map_or, option_or};
 ghost use Rattle.std.specs.Global.{Vec as OneVec};
-ghost use Rattle.findings.specs.Passes.{unit_in};
+ghost use Rattle.findings.specs.Passes.{unit_in, IsPass};
 ghost use Rattle.vet_simple.specs.StructTags.{is_field, field_count, written_name, nth_name, field_name, again_text, hidden_by, is_hidden, if_hidden, bad_text};
 ghost use Rattle.vet_simple.specs.TagSpots.{AreLines, told_by, or_this, earlier, again_told, fault_in, fault_told};
 ghost use Rattle.vet_simple.specs.declared.tags.Pair.{Pair as OnePair};
@@ -15,7 +15,7 @@ use gv_base::NoMemory;
 use package_objects::{count, item, part_of};
 use std::alloc::Global;
 use std::marker::Model;
-use type_rules::fields::{embedded_name, is_exported, utf8};
+use type_rules::fields::{embedded_name, is_exported};
 
 // ---- fields
 
@@ -36,22 +36,25 @@ pub(crate) fn field_count(p: &Pass, file: u32, node: &Node) -> usize
     }
 }
 
-fn written_name<'a>(p: &Pass<'a>, file: u32, n: u32) -> &'a [u8]
+fn written_name<'a>(p: &Pass<'a>, file: u32, n: u32) -> &'a str
+    requires { IsPass p.now }
     ensures { result.now ≡ written_name (unit_in p.now) file n }
 {
-    p.subject.name_at(NodeRef { file, node: n })
+    p.subject.name_text(NodeRef { file, node: n })
 }
 
-fn nth_name<'a>(p: &Pass<'a>, file: u32, node: &Node, j: usize) -> &'a [u8]
+fn nth_name<'a>(p: &Pass<'a>, file: u32, node: &Node, j: usize) -> &'a str
+    requires { IsPass p.now }
     ensures { result.now ≡ nth_name (unit_in p.now) file node.now j }
 {
     match item(p.subject.nodes_at(file), part_of(node, 0), j) {
         Some(n) => written_name(p, file, n),
-        None => &[],
+        None => "",
     }
 }
 
-fn field_name<'a>(p: &Pass<'a>, file: u32, node: &Node, j: usize) -> &'a [u8]
+fn field_name<'a>(p: &Pass<'a>, file: u32, node: &Node, j: usize) -> &'a str
+    requires { IsPass p.now }
     ensures { result.now ≡ field_name (unit_in p.now) file node.now j }
 {
     if is_field(node.kind) {
@@ -63,14 +66,13 @@ fn field_name<'a>(p: &Pass<'a>, file: u32, node: &Node, j: usize) -> &'a [u8]
 
 // ---- faults
 
-fn is_hidden(node: &Node, name: &[u8]) -> Result<bool, NoMemory>
-    ensures { IfOk result (λ b. b ≡ is_hidden node.now name.now) }
+fn is_hidden(node: &Node, name: &str) -> bool
+    ensures { result ≡ is_hidden node.now name.now }
 {
-    let text = utf8(name)?;
-    Ok(is_field(node.kind) && !is_exported(text))
+    is_field(node.kind) && !is_exported(name)
 }
 
-fn hidden_in(alloc: Global, name: &[u8], pairs: &[Pair]) -> Result<Option<Vec<u8>>, NoMemory>
+fn hidden_in(alloc: Global, name: &str, pairs: &[Pair]) -> Result<Option<Vec<u8>>, NoMemory>
     ensures { IfOk result (λ text. option_map (λ (v : OneVec ℕ). v.items) text ≡ option_or (hidden_by (codes "json") name.now pairs.now) (hidden_by (codes "xml") name.now pairs.now)) }
 {
     match hidden_by(alloc, b"json", name, pairs)? {
@@ -85,13 +87,12 @@ fn hidden_in(alloc: Global, name: &[u8], pairs: &[Pair]) -> Result<Option<Vec<u8
 fn if_hidden(
     alloc: Global,
     node: &Node,
-    name: &[u8],
+    name: &str,
     pairs: &[Pair],
 ) -> Result<Option<Vec<u8>>, NoMemory>
     ensures { IfOk result (λ text. option_map (λ (v : OneVec ℕ). v.items) text ≡ if_hidden node.now name.now pairs.now) }
 {
-    let hidden = is_hidden(node, name)?;
-    if hidden {
+    if is_hidden(node, name) {
         let text = hidden_in(alloc, name, pairs)?;
         Ok(text)
     } else {
@@ -144,7 +145,7 @@ fn json_again(
     parts: &Node,
     i: usize,
     j: usize,
-    name: &[u8],
+    name: &str,
     t: &Told,
 ) -> Result<Option<Vec<u8>>, NoMemory>
     requires { AreLines (unit_in p.now).texts s.now.lines.items }
@@ -163,7 +164,7 @@ fn xml_again(
     parts: &Node,
     i: usize,
     j: usize,
-    name: &[u8],
+    name: &str,
     t: &Told,
 ) -> Result<Option<Vec<u8>>, NoMemory>
     requires { AreLines (unit_in p.now).texts s.now.lines.items }
@@ -182,7 +183,7 @@ fn again_told(
     parts: &Node,
     i: usize,
     j: usize,
-    name: &[u8],
+    name: &str,
     t: &Told,
 ) -> Result<Option<Vec<u8>>, NoMemory>
     requires { AreLines (unit_in p.now).texts s.now.lines.items }
@@ -214,7 +215,7 @@ fn pairs_fault(
     i: usize,
     j: usize,
     node: &Node,
-    name: &[u8],
+    name: &str,
     t: &Told,
     pairs: &[Pair],
 ) -> Result<Option<Vec<u8>>, NoMemory>
@@ -239,7 +240,7 @@ fn fault_in(
     i: usize,
     j: usize,
     node: &Node,
-    name: &[u8],
+    name: &str,
     t: &Told,
     pairs: &Option<Vec<Pair>>,
 ) -> Result<Option<Vec<u8>>, NoMemory>
@@ -270,7 +271,8 @@ pub(crate) fn fault_told(
     t: &Told,
     j: usize,
 ) -> Result<Option<Vec<u8>>, NoMemory>
-    requires { AreLines (unit_in p.now).texts s.now.lines.items }
+    requires pass { IsPass p.now }
+    requires lines { AreLines (unit_in p.now).texts s.now.lines.items }
     ensures { IfOk result (λ text. option_map (λ (v : OneVec ℕ). v.items) text ≡ fault_told s.now.paths.now (unit_in p.now) file parts.now i node.now t.now j) }
 {
     let name = field_name(p, file, node, j);

@@ -25,17 +25,17 @@ pub(crate) struct Spots<'a> {
     pub lines: Vec<Lines>,
 }
 
-pub(crate) fn said_of(alloc: Global, name: &[u8], rest: &[u8]) -> Result<Vec<u8>, NoMemory>
+pub(crate) fn said_of(alloc: Global, name: &str, rest: &[u8]) -> Result<Vec<u8>, NoMemory>
     ensures { IfOk result (λ text. text.items ≡ said_of name.now rest.now) }
 {
     let mut text = Vec::new(alloc);
     text.extend_from_slice(b"struct field ")?;
-    text.extend_from_slice(name)?;
+    text.extend_from_slice(name.as_bytes())?;
     text.extend_from_slice(rest)?;
     Ok(text)
 }
 
-fn hidden_text(alloc: Global, word: &[u8], name: &[u8]) -> Result<Vec<u8>, NoMemory>
+fn hidden_text(alloc: Global, word: &[u8], name: &str) -> Result<Vec<u8>, NoMemory>
     ensures { IfOk result (λ text. text.items ≡ hidden_text word.now name.now) }
 {
     let mut rest = Vec::new(alloc);
@@ -56,7 +56,7 @@ fn has_pair(word: &[u8], pairs: &[Pair]) -> bool
 pub(crate) fn hidden_by(
     alloc: Global,
     word: &[u8],
-    name: &[u8],
+    name: &str,
     pairs: &[Pair],
 ) -> Result<Option<Vec<u8>>, NoMemory>
     ensures { IfOk result (λ text. option_map (λ (v : OneVec ℕ). v.items) text ≡ hidden_by word.now name.now pairs.now) }
@@ -205,7 +205,7 @@ fn again_text(
     file: u32,
     parts: &Node,
     word: &[u8],
-    name: &[u8],
+    name: &str,
     key: &[u8],
     i: usize,
 ) -> Result<Vec<u8>, NoMemory>
@@ -225,7 +225,7 @@ fn told_before(
     file: u32,
     parts: &Node,
     word: &[u8],
-    name: &[u8],
+    name: &str,
     key: &[u8],
     before: Option<usize>,
 ) -> Result<Option<Vec<u8>>, NoMemory>
@@ -249,7 +249,7 @@ pub(crate) fn told_by(
     file: u32,
     parts: &Node,
     word: &[u8],
-    name: &[u8],
+    name: &str,
     key: &Option<Vec<u8>>,
     before: Option<usize>,
 ) -> Result<Option<Vec<u8>>, NoMemory>

@@ -73,20 +73,20 @@ fn call_of(nodes: &[Node], n: u32) -> Option<&Node>
 
 // ---- functions
 
-fn is_word(name: &[u8], word: &str) -> bool
+fn is_word(name: &str, word: &str) -> bool
     ensures { result ≡ bytes_eq name.now word.now }
 {
-    name == word.as_bytes()
+    name == word
 }
 
-fn is_print_name(name: &[u8]) -> bool
+fn is_print_name(name: &str) -> bool
     ensures { result ≡ is_print_name name.now }
 {
     is_word(name, "Errorf")
         || (is_word(name, "Sprint") || (is_word(name, "Sprintf") || is_word(name, "Sprintln")))
 }
 
-fn is_pure_name(path: &[u8], name: &[u8]) -> bool
+fn is_pure_name(path: &str, name: &str) -> bool
     ensures { result ≡ is_pure_name path.now name.now }
 {
     if is_word(path, "errors") {
@@ -112,7 +112,7 @@ fn is_pure(p: &Pass, file: u32, n: u32) -> bool
 
 // ---- methods
 
-fn is_text_name(name: &[u8]) -> bool
+fn is_text_name(name: &str) -> bool
     ensures { result ≡ is_text_name name.now }
 {
     is_word(name, "Error") || is_word(name, "String")
@@ -132,7 +132,7 @@ fn is_text_call(p: &Pass, file: u32, n: u32, node: &Node) -> bool
     requires { IsPass p.now }
     ensures { result ≡ is_text_call (unit_in p.now) (marks_in p.now) file n node.now }
 {
-    is_text_name(p.subject.spelled(file, node.last)) && has_text_type(p, file, n)
+    is_text_name(p.subject.spelled_text(file, node.last)) && has_text_type(p, file, n)
 }
 
 fn is_text_method(alloc: Global, p: &Pass, file: u32, n: u32, node: &Node) -> Result<bool, NoMemory>

@@ -21,8 +21,8 @@ use unit_read::{Lead, Place};
 /// A function, by the path of its package and its name.
 #[derive(Clone, Copy, Drop)]
 pub struct Function<'a> {
-    pub path: &'a [u8],
-    pub name: &'a [u8],
+    pub path: &'a str,
+    pub name: &'a str,
 }
 
 fn place(file: u32, node: u32) -> NodeRef
@@ -64,19 +64,19 @@ fn declares_function(p: &Pass, name: NodeRef) -> bool
     }
 }
 
-fn own_function<'a>(p: &Pass<'a>, name: &'a [u8], object: Object) -> Option<Function<'a>>
+fn own_function<'a>(p: &Pass<'a>, name: &'a str, object: Object) -> Option<Function<'a>>
     requires { IsPass p.now }
     ensures { function_found result ≡ own_function (unit_in p.now) name.now object }
 {
     match object {
-        Object::Package(at) => function_if(declares_function(p, at), p.subject.path, name),
+        Object::Package(at) => function_if(declares_function(p, at), p.subject.path_text(), name),
         Object::Universe(_) => None,
         Object::Import(_) => None,
         Object::Local(_) => None,
     }
 }
 
-fn function_if<'a>(holds: bool, path: &'a [u8], name: &'a [u8]) -> Option<Function<'a>>
+fn function_if<'a>(holds: bool, path: &'a str, name: &'a str) -> Option<Function<'a>>
     ensures { function_found result ≡ (if holds then Some (path.now, name.now) else None) }
 {
     if holds {
@@ -99,7 +99,7 @@ fn named_function<'a>(p: &Pass<'a>, file: u32, n: u32, node: &Node) -> Option<Fu
     ensures { function_found result ≡ named_function (unit_in p.now) file n node.now }
 {
     match object_of(p, file, n) {
-        Some(object) => own_function(p, p.subject.spelled(file, node.first), object),
+        Some(object) => own_function(p, p.subject.spelled_text(file, node.first), object),
         None => None,
     }
 }
@@ -112,16 +112,16 @@ fn interface_at<'a>(p: &Pass<'a>, i: usize) -> Option<&'a Interface>
     p.subject.env.interfaces.get(i)
 }
 
-fn path_at<'a>(p: &Pass<'a>, i: usize) -> Option<&'a [u8]>
+fn path_at<'a>(p: &Pass<'a>, i: usize) -> Option<&'a str>
     ensures { option_copied result ≡ path_at (unit_in p.now) i }
 {
     match interface_at(p, i) {
-        Some(face) => Some(face.path.as_str().as_bytes()),
+        Some(face) => Some(face.path.as_str()),
         None => None,
     }
 }
 
-fn path_led<'a>(p: &Pass<'a>, lead: Lead) -> Option<&'a [u8]>
+fn path_led<'a>(p: &Pass<'a>, lead: Lead) -> Option<&'a str>
     ensures { option_copied result ≡ path_led (unit_in p.now) lead }
 {
     match lead.interface {
@@ -130,7 +130,7 @@ fn path_led<'a>(p: &Pass<'a>, lead: Lead) -> Option<&'a [u8]>
     }
 }
 
-fn imported_path<'a>(p: &Pass<'a>, at: NodeRef) -> Option<&'a [u8]>
+fn imported_path<'a>(p: &Pass<'a>, at: NodeRef) -> Option<&'a str>
     requires { IsPass p.now }
     ensures { option_copied result ≡ option_and_then (path_led (unit_in p.now)) (lead_at (unit_in p.now) at) }
 {
@@ -141,7 +141,7 @@ fn imported_path<'a>(p: &Pass<'a>, at: NodeRef) -> Option<&'a [u8]>
 }
 
 /// The path of the package that a name denotes.
-fn package_path<'a>(p: &Pass<'a>, object: Object) -> Option<&'a [u8]>
+fn package_path<'a>(p: &Pass<'a>, object: Object) -> Option<&'a str>
     requires { IsPass p.now }
     ensures { option_copied result ≡ package_path (unit_in p.now) object }
 {
@@ -163,7 +163,7 @@ fn part_object(p: &Pass, file: u32, node: &Node) -> Option<Object>
     }
 }
 
-fn owner_path<'a>(p: &Pass<'a>, file: u32, node: &Node) -> Option<&'a [u8]>
+fn owner_path<'a>(p: &Pass<'a>, file: u32, node: &Node) -> Option<&'a str>
     requires { IsPass p.now }
     ensures { option_copied result ≡ owner_path (unit_in p.now) file node.now }
 {
@@ -189,7 +189,7 @@ fn is_value_at(p: &Pass, file: u32, n: u32) -> bool
     }
 }
 
-fn with_name<'a>(name: &'a [u8], path: Option<&'a [u8]>) -> Option<Function<'a>>
+fn with_name<'a>(name: &'a str, path: Option<&'a str>) -> Option<Function<'a>>
     ensures { function_found result ≡ option_map (with_name name.now) (option_copied path.entry) }
 {
     match path {
@@ -204,7 +204,7 @@ fn selected_function<'a>(p: &Pass<'a>, file: u32, n: u32, node: &Node) -> Option
 {
     if is_value_at(p, file, n) {
         with_name(
-            p.subject.spelled(file, node.last),
+            p.subject.spelled_text(file, node.last),
             owner_path(p, file, node),
         )
     } else {

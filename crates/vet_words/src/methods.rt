@@ -85,24 +85,13 @@ fn is_method(selection: Selection) -> bool
     }
 }
 
-fn utf8(bytes: &[u8]) -> Result<&str, NoMemory>
-    ensures { IfOk result (λ text. text.now ≡ bytes.now) }
-{
-    match std::str::from_utf8(bytes) {
-        Ok(text) => Ok(text),
-        Err(_) => Err(NoMemory),
-    }
-}
-
 /// Whether a name, written in the package, selects a method from a type.
-fn selects_from(alloc: Global, p: &Pass, name: &[u8], of: TypeId) -> Result<bool, NoMemory>
+fn selects_from(alloc: Global, p: &Pass, name: &str, of: TypeId) -> Result<bool, NoMemory>
     requires pass { IsPass p.now }
     requires within { of.0 < count p.now.state.now.table }
     ensures { IfOk result (λ b. IsTrue b ↔ IsMethodOf (unit_in p.now) (declarations_in p.now.state.now.table) name.now (type_in p.now.state.now of)) }
 {
-    let text = utf8(name)?;
-    let from = utf8(p.subject.path)?;
-    let selection = select(alloc, &p.state.table, of, text, from)?;
+    let selection = select(alloc, &p.state.table, of, name, p.subject.path_text())?;
     selection_lasts();
     Ok(is_method(selection))
 }
@@ -114,7 +103,7 @@ fn selects_by(alloc: Global, p: &Pass, file: u32, node: &Node) -> Result<bool, N
 {
     match owner_of(p, file, node) {
         Some(of) => {
-            let found = selects_from(alloc, p, p.subject.spelled(file, node.last), of)?;
+            let found = selects_from(alloc, p, p.subject.spelled_text(file, node.last), of)?;
             Ok(found)
         }
         None => Ok(false),

@@ -7,6 +7,7 @@ use Rattle.type_model.specs.GoTypes.{types_of}
 use Rattle.type_model.specs.Tables.{terms_in}
 use Rattle.unit_read.specs.Environments.{faces_in}
 use Rattle.unit_read.specs.Index.{texts_of}
+use Rattle.unit_read.specs.Texts.{AreTexts}
 use Rattle.body_facts.specs.Bodies.{AreBodies}
 use Rattle.check_pkg.specs.Checks.{IsOutcomeBy}
 use Rattle.check_pkg.proofs.BodyLemmas.{spelled_bodies}
@@ -20,6 +21,10 @@ pub judge_read-requires-clause-bodies : goal.judge_read-requires-clause-bodies
 judge_read-requires-clause-bodies g c =
     subst (λ (texts : List (List ℕ)). AreBodies texts c.args.trees.now) (sym (ap texts_of c.deref.ensures.value ∙ c.in_ok-sources.ensures))
     (spelled_bodies c.args.trees.now c.args.files.now c.requires.spelled c.requires.small c.requires.few)
+
+pub judge_read-requires-clause-texts : goal.judge_read-requires-clause-texts
+judge_read-requires-clause-texts g c =
+    subst (λ (texts : List (List ℕ)). AreTexts c.args.path.now texts c.args.trees.now) (sym (ap texts_of c.deref.ensures.value ∙ c.in_ok-sources.ensures)) c.requires.texts
 
 pub judge_read-requires-clause-types : goal.judge_read-requires-clause-types
 judge_read-requires-clause-types g c = c.in_ok-environment.ensures.types ∙ c.terms.ensures

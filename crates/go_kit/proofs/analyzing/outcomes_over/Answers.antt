@@ -1,15 +1,19 @@
-use Rattle.std.proofs.Common.{◌≡◌, ℕ, ◌≤◌, ◌^◌, List, length, map, sym, ap, ◌∙◌, subst, arith}
+use Rattle.std.proofs.Common.{◌≡◌, ℕ, ◌≤◌, ◌^◌, List, length, map, refl, sym, ap, ◌∙◌, subst, arith}
 use Rattle.go_tree.specs.declared.tree.FileTree.{FileTree}
 use Rattle.bind.specs.Answers.{AreSmall}
 use Rattle.unit_read.specs.declared.environment.Environment.{Environment}
 use Rattle.unit_read.specs.Environments.{faces_in}
 use Rattle.unit_read.specs.Index.{texts_of}
 use Rattle.unit_read.specs.Subjects.{unit_of}
+use Rattle.unit_read.specs.Texts.{AreTexts}
 use Rattle.unit_read.specs.Units.{Unit}
 use Rattle.check_pkg.specs.Typings.{marks_of}
 use Rattle.action_graph.specs.Free.{path_of}
 use Rattle.action_graph.specs.Nodes.{Named}
 use Rattle.go_kit.specs.Loading.{AreOutcomesIn, unit_loaded}
+use Rattle.unit_read.proofs.TextLemmas.{are_texts}
+use Rattle.action_graph.specs.Judging.{text_of}
+use Rattle.go_kit.proofs.NameTexts.{files_texts}
 use Rattle.go_kit.proofs.RunLemmas.{few-files, given-of, ordered-uses, read-as, scene-of, small-trees}
 use Rattle.go_kit.proofs.analyzing.outcomes_over.Goals as goal
 
@@ -20,6 +24,13 @@ pub subject-requires-clause-few : goal.subject-requires-clause-few
 subject-requires-clause-few c =
     let few = few-files c.args.loaded.now c.args.load.now c.requires.of in
     subst (λ (trees : List FileTree). length trees ≤ 2 ^ 32) (sym c.deref.ensures.value) (omega (arith, few))
+
+pub subject-requires-clause-texts : goal.subject-requires-clause-texts
+subject-requires-clause-texts c =
+    let tokens = files_texts c.args.load.now.files c.args.load.now.files c.args.loaded.now.trees.items refl c.requires.of.files in
+    subst (λ (texts : List (List ℕ)). AreTexts c.as_bytes-path.result.now texts c.deref.result.now) (sym c.requires.texts)
+    (subst (λ (trees : List FileTree). AreTexts c.as_bytes-path.result.now (map text_of c.args.load.now.files) trees) (sym c.deref.ensures.value)
+    (are_texts c.as_bytes-path.result.now (map text_of c.args.load.now.files) c.args.loaded.now.trees.items c.as_bytes-path.ensures.utf8 tokens))
 
 pub subject-requires-clause-uses : goal.subject-requires-clause-uses
 subject-requires-clause-uses c = ordered-uses c.args.loaded.now c.args.load.now c.requires.of

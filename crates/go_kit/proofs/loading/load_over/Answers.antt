@@ -9,11 +9,15 @@ use Rattle.check_pkg.specs.Packages.{package_of}
 use Rattle.action_graph.specs.Judging.{AreInterfaces, Env, load_text, refused_text}
 use Rattle.go_kit.specs.Loading.{IsAcceptedOf, IsTypedOver}
 use Rattle.go_kit.proofs.LoadLemmas.{accepted-both, accepted-so, extends-then, some-so, typed-over, files-spelled, files-small, few-trees, outcome-of, readable, stuck-of, unfit}
+use Rattle.go_kit.proofs.NameTexts.{files_texts}
 use Rattle.go_kit.proofs.TellLemmas.{err_as}
 use Rattle.go_kit.proofs.loading.load_over.Goals as goal
 
 pub judge-requires-clause-spelled : goal.judge-requires-clause-spelled
 judge-requires-clause-spelled c = files-spelled c.as_slice-files.result.now c.args.input.now.files c.args.trees.now c.as_slice-files.ensures c.requires.files
+
+pub judge-requires-clause-texts : goal.judge-requires-clause-texts
+judge-requires-clause-texts c = files_texts c.as_slice-files.result.now c.args.input.now.files c.args.trees.now c.as_slice-files.ensures c.requires.files
 
 pub judge-requires-clause-small : goal.judge-requires-clause-small
 judge-requires-clause-small c = files-small c.args.input.now.files c.args.trees.now c.requires.files

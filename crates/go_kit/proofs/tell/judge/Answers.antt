@@ -1,4 +1,4 @@
-use Rattle.std.proofs.Common.{ℕ, List, Option, IfSome, sym, subst}
+use Rattle.std.proofs.Common.{ℕ, List, Option, IfSome, map, sym, subst}
 use Rattle.std.proofs.lemmas.Result.{err_from_is_err_and}
 use Rattle.action_graph.specs.Stages.{rule}
 use Rattle.package_faces.specs.Interfaces.{faces_of}
@@ -6,10 +6,11 @@ use Rattle.type_model.specs.declared.table.TypeTable.{TypeTable}
 use Rattle.type_model.specs.Tables.{Extends, terms_in, types_in}
 use Rattle.typed_tree.specs.Basics.{HasBasics}
 use Rattle.unit_read.specs.Index.{found}
+use Rattle.unit_read.proofs.TextLemmas.{are_texts}
 use Rattle.check_pkg.specs.declared.judging.Outcome.TheVariants as outcome
 use Rattle.check_pkg.specs.declared.typing.Typed.{Typed}
 use Rattle.check_pkg.specs.Checks.{IsOutcomeOf as Comes}
-use Rattle.check_pkg.specs.Packages.{package_of}
+use Rattle.check_pkg.specs.Packages.{package_of, text_of}
 use Rattle.action_graph.specs.declared.kit.Load.{Load}
 use Rattle.action_graph.specs.Judging.{IfAccepted, load_text}
 use Rattle.go_kit.specs.Loading.{IsAcceptedOf}
@@ -18,12 +19,13 @@ use Rattle.go_kit.proofs.SeenLemmas.{found-told, nothing-told, stands}
 use Rattle.go_kit.proofs.TellLemmas.{always, err_as, kept-accepted, kept-table, kept-text, taken}
 use Rattle.go_kit.proofs.tell.judge.Goals as goal
 
-pub told-requires : goal.told-requires
-told-requires c = record {
-  stands =
-      stands (package_of c.args.path.now c.args.files.now c.args.trees.now) (faces_of (types_in c.args.table) c.args.env.now) c.in-Checked.checked
-      (subst (λ (q : List ℕ). Comes rule (package_of q c.args.files.now c.args.trees.now) (faces_of (types_in c.args.table) c.args.env.now) (outcome.Checked c.in-Checked.checked)) c.as_bytes.ensures.value (rw c.in-Checked.is at c.in_ok-outcome.ensures.is));
-}
+pub check-requires-clause-texts : goal.check-requires-clause-texts
+check-requires-clause-texts c = are_texts c.as_bytes.result.now (map text_of c.args.files.now) c.args.trees.now c.as_bytes.ensures.utf8 c.requires.texts
+
+pub told-requires-clause-stands : goal.told-requires-clause-stands
+told-requires-clause-stands c =
+    stands (package_of c.args.path.now c.args.files.now c.args.trees.now) (faces_of (types_in c.args.table) c.args.env.now) c.in-Checked.checked
+    (subst (λ (q : List ℕ). Comes rule (package_of q c.args.files.now c.args.trees.now) (faces_of (types_in c.args.table) c.args.env.now) (outcome.Checked c.in-Checked.checked)) c.as_bytes.ensures.value (rw c.in-Checked.is at c.in_ok-outcome.ensures.is))
 
 pub returns-in-Checked-clause-told : goal.returns-in-Checked-clause-told
 returns-in-Checked-clause-told c =

@@ -23,7 +23,7 @@ returns-in_ok-named-in-Some c =
     what_some (owner_of marks c.args.file c.args.node.now) (IsMethodNamed u (declared_by u marks) name) of (found_named c.in_ok-named-in-Some.named)
     (sym c.owner_of.ensures.is ∙ ap (λ (o : Option TypeId). option_map (type_in s) o) c.in-Some.is)
     (subst (λ (d : Declarations). Finds (IsMethodNamed u d name of) c.in_ok-named-in-Some.named) (table_declares p.subject.now s c.requires.scene)
-    (subst (λ (n : List ℕ). Finds (IsMethodNamed u (declarations_in s.table) n of) c.in_ok-named-in-Some.named) c.spelled.ensures c.in_ok-named-in-Some.ensures))
+    (subst (λ (n : List ℕ). Finds (IsMethodNamed u (declarations_in s.table) n of) c.in_ok-named-in-Some.named) c.spelled_text.ensures c.in_ok-named-in-Some.ensures))
 
 pub returns-in-None : goal.returns-in-None
 returns-in-None c =

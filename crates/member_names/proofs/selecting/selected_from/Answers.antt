@@ -14,7 +14,6 @@ returns c =
     let s = c.args.p.now.state.now in
     let of = type_in s c.args.of in
     let sel = c.in_ok-selection.selection in
-    let says = c.selection_lasts.ensures.said s.table of (selector c.in_ok-text.text.now c.in_ok-from.from.now) sel c.in_ok-selection.ensures in
-    let named = subst (λ (n : List ℕ). SaysSelected (declarations_in s.table) (record { of = of; name = selector n c.in_ok-from.from.now }) (chosen_in s.table sel)) c.in_ok-text.ensures says in
-    let own = subst (λ (f : List ℕ). SaysSelected (declarations_in s.table) (record { of = of; name = selector c.args.name.now f }) (chosen_in s.table sel)) c.in_ok-from.ensures named in
+    let says = c.selection_lasts.ensures.said s.table of (selector c.args.name.now c.path_text.result.now) sel c.in_ok-selection.ensures in
+    let own = subst (λ (f : List ℕ). SaysSelected (declarations_in s.table) (record { of = of; name = selector c.args.name.now f }) (chosen_in s.table sel)) c.path_text.ensures says in
     what_chosen u s.table c.args.name.now of c.selection_lasts.ensures.selected.once sel (found_named c.in_ok-named.named) own c.in_ok-named.ensures

@@ -42,4 +42,5 @@ returns-clause-read c =
       repeated = c.in_ok-methods.ensures.repeated;
       copies = λ at. c.in_ok-copies.ensures at ∙ ap (λ (xs : List Passage). first_for c.args.trees.now (map repeater xs) at) (c.deref.ensures.value ∙ c.in_ok-passages.ensures);
       named = λ q. c.in_ok-named.ensures q ∙ ap (named_by u (top_name u q)) c.in_ok-defined.ensures;
+      texts = c.requires.texts;
     }

@@ -18,4 +18,5 @@ returns-clause-read c =
       repeated = r.repeated;
       copies = r.copies;
       named = r.named;
+      texts = r.texts;
     }

@@ -18,4 +18,5 @@ returns-clause-read c =
       repeated = c.in_ok-methods.ensures.repeated;
       copies = r.copies;
       named = r.named;
+      texts = r.texts;
     }

@@ -3,8 +3,8 @@ use Rattle.vet_never.proofs.never.put_flagged.Goals as goal
 
 pub returns-then-is_flagged : goal.returns-then-is_flagged
 returns-then-is_flagged c = λ q. (
-  λ there. elim ((c.in_ok-put_name.ensures q).0 there) [ inl before ↦ inl before | inr same ↦ inr (sym c.is_flagged.ensures ∙ c.if-is_flagged.true, same) ],
-  λ h. (c.in_ok-put_name.ensures q).1 (elim h [ inl before ↦ inl before | inr (flag, same) ↦ inr same ]),
+  λ there. elim ((c.in_ok-put_text.ensures q).0 there) [ inl before ↦ inl before | inr same ↦ inr (sym c.is_flagged.ensures ∙ c.if-is_flagged.true, same) ],
+  λ h. (c.in_ok-put_text.ensures q).1 (elim h [ inl before ↦ inl before | inr (flag, same) ↦ inr same ]),
 )
 
 pub returns : goal.returns

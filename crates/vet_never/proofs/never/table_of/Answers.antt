@@ -16,7 +16,7 @@ loop-i-preserved c =
     let u = unit_in c.args.p.now in
     let flags = c.args.flags.now in
     name_more u flags c.loop-i.i c.loop-i.table c.put_flagged.new.table c.loop-i.invariant (λ q.
-    subst (λ (n : List ℕ). Contains (map fact_name c.put_flagged.new.table) q ↔ (Contains (map fact_name c.loop-i.table) q ⊎ ((is_marked (set_of flags) (first_of u n) ≡ true) × (q ≡ n)))) c.nth_name.ensures (c.in_ok-put_flagged.ensures q))
+    subst (λ (n : List ℕ). Contains (map fact_name c.put_flagged.new.table) q ↔ (Contains (map fact_name c.loop-i.table) q ⊎ ((is_marked (set_of flags) (first_of u n) ≡ true) × (q ≡ n)))) c.nth_text.ensures (c.in_ok-put_flagged.ensures q))
 
 pub returns : goal.returns
 returns c = all_names (unit_in c.args.p.now) c.args.flags.now c.loop-i.i (length c.args.list.now) c.loop-i.table (omega (arith, c.loop-i-test.false, c.loop-i.auto.i-end)) c.loop-i.invariant

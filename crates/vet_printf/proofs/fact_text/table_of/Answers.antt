@@ -14,10 +14,10 @@ pub loop-i-preserved : goal.loop-i-preserved
 loop-i-preserved c =
     let u = unit_in c.args.p.now in
     let x = c.args.x.now in
-    let name : List ℕ = c.nth_name-name.result.now in
+    let name : List ℕ = c.nth_text-name.result.now in
     let size = size_is u c.args.known.now.list.now c.requires.list in
-    let added : IsAdded name (fact_named u x name) c.loop-i.table c.put_some.new.table = subst (λ (o : Option Wraps). IsAdded name o c.loop-i.table c.put_some.new.table) c.fact_named.ensures c.in_ok-put_some.ensures in
-    facts_more u x c.loop-i.i name c.loop-i.table c.put_some.new.table (nth_there u c.loop-i.i name c.nth_name-name.ensures (omega (arith, c.loop-i-test.true, c.loop-i.auto.i-end, size))) c.loop-i.invariant added
+    let added : IsAdded name (fact_named u x name) c.loop-i.table c.put_some.new.table = subst (λ (o : Option Wraps). IsAdded name o c.loop-i.table c.put_some.new.table) (c.fact_named-fact.ensures ∙ ap (fact_named u x) c.as_bytes.ensures.value) c.in_ok-put_some.ensures in
+    facts_more u x c.loop-i.i name c.loop-i.table c.put_some.new.table (nth_there u c.loop-i.i name c.nth_text-name.ensures (omega (arith, c.loop-i-test.true, c.loop-i.auto.i-end, size))) c.loop-i.invariant added
 
 pub returns : goal.returns
 returns c =

@@ -5,6 +5,6 @@ use Rattle.vet_printf.proofs.known.own_number.Goals as goal
 
 pub as_number-requires : goal.as_number-requires
 as_number-requires c =
-    let low = place_below (unit_in c.args.p.now) c.args.x.now.path.items c.args.x.now.name.items c.in-Some.i (sym c.own_place.ensures ∙ c.in-Some.is) in
+    let low = place_below (unit_in c.args.p.now) c.args.x.now.path c.args.x.now.name c.in-Some.i (sym c.own_place.ensures ∙ c.in-Some.is) in
     let few = c.requires.few in
     omega (arith, low, few)

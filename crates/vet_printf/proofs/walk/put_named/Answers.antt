@@ -17,6 +17,6 @@ pub returns : goal.returns
 returns c lists were =
     let u = unit_in c.args.p.now in
     let kind = number_of c.args.kind in
-    let path = c.args.x.now.path.items in
-    let name = c.args.x.now.name.items in
-    c.in_ok-put.ensures (length (functions u)) lists (handed_in c.args.known.now) (number kind u) (member path name kind) (sym c.in_ok-given.ensures) (own_is kind u path name ∙ sym c.own_number-own.ensures) were
+    let path = c.args.x.now.path in
+    let name = c.args.x.now.name in
+    c.in_ok-put.ensures (length (functions u)) lists (handed_in c.args.known.now) (number kind u) (member path name kind) (sym c.is_given-given.ensures) (own_is kind u path name ∙ sym c.own_number-own.ensures) were

@@ -5,7 +5,7 @@ use Rattle.vet_words.proofs.called.path_at.Goals as goal
 
 pub returns-in-Some : goal.returns-in-Some
 returns-in-Some c =
-    ap Some (c.as_bytes.ensures.value ∙ c.as_str.ensures)
+    ap Some c.as_str.ensures
     ∙ (ap (λ (o : Option Interface). option_map (λ (x : Interface). x.path) o) c.in-Some.ensures ∙ sym (path_seen c.args.p.now.subject.now.env.now c.args.i))
 
 pub returns-in-None : goal.returns-in-None

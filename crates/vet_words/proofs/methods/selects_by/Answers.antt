@@ -15,7 +15,7 @@ returns-in_ok-found-in-Some c =
     let of = type_in s c.in-Some.of in
     let owns = sym c.owner_of.ensures.is ∙ ap (λ (o : Option TypeId). option_map (type_in s) o) c.in-Some.is in
     selects_owned (unit_in p) (marks_in p) c.args.file c.args.node.now (declarations_in s.table) of c.in_ok-found-in-Some.found owns (table_declares p.subject.now s c.requires.pass.scene) c.requires.selects
-    (subst (λ (n : List ℕ). (c.in_ok-found-in-Some.found ≡ true) ↔ IsMethodOf (unit_in p) (declarations_in s.table) n of) c.spelled.ensures c.in_ok-found-in-Some.ensures)
+    (subst (λ (n : List ℕ). (c.in_ok-found-in-Some.found ≡ true) ↔ IsMethodOf (unit_in p) (declarations_in s.table) n of) c.spelled_text.ensures c.in_ok-found-in-Some.ensures)
 
 pub returns-in-None : goal.returns-in-None
 returns-in-None c =
