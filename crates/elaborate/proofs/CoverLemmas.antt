@@ -29,6 +29,7 @@ use Rattle.elaborate.proofs.WalkLemmas.{first_declared, rule_of_item}
 use Rattle.elaborate.specs.Walks.{blocks_of, count_of, item_rule, IsItemOf}
 use Rattle.type_answers.specs.Answering.{says_of, pends_of, answers_last}
 use Rattle.elaborate.specs.Elaborated.{IsAtWork, IsAnnotated, IsInCircle}
+use Rattle.elaborate.specs.Types.{AreQuietTypes}
 use Rattle.elaborate.specs.Covering.{Went, Ended, IsAtRest, IsCircleAt, IsElaborated, IsNodeOf, IsNodeMarked, AreStagesMarked, AreStagesOfNodes, AreNodesOf, AreNodesMarked, AreBlocksMarked}
 
 -- ---- from one package to the same
@@ -44,6 +45,9 @@ item_at u0 u1 i same is = subst (λ (u : Unit). IsItemOf u i) (sym same) is
 
 pub node_at : (u0 u1 : Unit) (block n : ℕ) → u1 ≡ u0 → IsNodeOf u0 block n → IsNodeOf u1 block n
 node_at u0 u1 block n same is stage = subst (λ (u : Unit). IsItemOf u (item stage block n)) (sym same) (is stage)
+
+pub flags_at : (rule : Unit → Item → Rule) (u0 u1 : Unit) (block : ℕ) (flags : List Bool) → u1 ≡ u0 → AreQuietTypes rule u0 block flags → AreQuietTypes rule u1 block flags
+flags_at rule u0 u1 block flags same quiet = subst (λ (u : Unit). AreQuietTypes rule u block flags) (sym same) quiet
 
 pub scene_for : (u0 u1 : Subject) (s : State) → u1 ≡ u0 → IsScene u1 s → IsScene u0 s
 scene_for u0 u1 s same scene = subst (λ (u : Subject). IsScene u s) same scene

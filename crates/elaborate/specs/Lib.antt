@@ -3,3 +3,4 @@ pub mod Settling
 pub mod Elaborated
 pub mod Covering
 pub mod Briefs
+pub mod Types

@@ -9,6 +9,7 @@ mod questions;
 mod rules;
 mod settling;
 mod steps;
+mod type_stage;
 mod whole;
 mod work;
 

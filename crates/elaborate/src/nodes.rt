@@ -16,13 +16,13 @@ use gv_base::NoMemory;
 use mark_walk::{Walk, Walked, mark};
 use typed_marks::{Item, Stage};
 
-/// How many stages there are, and how many of them are those of a node alone: what is declared at it comes after.
-pub const STAGES: usize = 6;
-
+/// How many stages are those of a node alone, and how many come before what it declares as a type.
 pub const NODE_STAGES: usize = 4;
 
+pub const OBJECT_STAGES: usize = 5;
+
 /// Marks an item of which nothing is said.
-fn mark_quiet<R: Rules>(work: &mut Work<R>, item: Item) -> Result<(), NoMemory>
+pub fn mark_quiet<R: Rules>(work: &mut Work<R>, item: Item) -> Result<(), NoMemory>
     requires work { IsAtWork work.old.subject.now work.old.state }
     requires item { IsItemOf (unit_of work.old.subject.now) item }
     requires unmarked { so_far work.old.state item ≡ None }

@@ -58,6 +58,7 @@ fn settle_by<R: Rules>(
 pub fn judge_by<R: Rules>(
     alloc: Global,
     rules: &R,
+    room: &mut R::Room,
     u: &Subject,
     s: &mut State,
     item: Item,
@@ -69,7 +70,7 @@ pub fn judge_by<R: Rules>(
     ensures work { OnOk result (IsAtWork u.now s.new) }
     ensures steps { IfOk result (StepsAs u.now s.old s.new item (R.rule (unit_of u.now) item)) }
 {
-    let brief = rules.judge(alloc, u, s, item)?;
+    let brief = rules.judge(alloc, room, u, s, item)?;
     match brief {
         Brief::Mark(mark) => {
             keep(u, s, item, Answer::Mark(mark))?;

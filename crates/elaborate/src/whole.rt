@@ -14,8 +14,9 @@ ghost use Rattle.elaborate.specs.Elaborated.{IsAtWork, IsAnnotated, IsInCircle};
 ghost use Rattle.elaborate.specs.Covering.{Went, IsAtRest, Ended, IsElaborated, IsAnything, AreStagesOfNodes, AreNodesMarked, AreBlocksMarked};
 
 use crate::ahead::{Stretch, mark_ahead};
-use crate::nodes::{NODE_STAGES, STAGES, mark_nodes};
+use crate::nodes::{NODE_STAGES, OBJECT_STAGES, mark_nodes};
 use crate::rules::Rules;
+use crate::type_stage::mark_types;
 use crate::work::Work;
 use gv_base::NoMemory;
 use mark_walk::{Walk, walk_over};
@@ -50,6 +51,51 @@ fn mark_early<R: Rules>(
     Ok(circle)
 }
 
+/// Marks the nodes of a block, of which the stages of nodes are marked, with what is declared at them, but for types.
+fn mark_objects<R: Rules>(
+    walk: &mut Walk<Item>,
+    work: &mut Work<R>,
+    number: usize,
+    block: Block,
+) -> Result<Option<Item>, NoMemory>
+    requires work { IsAtWork work.old.subject.now work.old.state }
+    requires block { slice_get (blocks_of (unit_of work.old.subject.now)) number ≡ Some block }
+    requires early { AreStagesOfNodes number block.low block.end 4 (so_far work.old.state) }
+    requires rests { IsAtRest (unit_of work.old.subject.now) work.old.state walk.old }
+    ensures went { OnOk result (Went R.rule work.old.subject.now work.new.subject.now work.old.state work.new.state) }
+    ensures ended { IfOk result (Ended R.rule (unit_of work.old.subject.now) work.new.state walk.new (AreStagesOfNodes number block.low block.end 5)) }
+{
+    let circle = mark_nodes(
+        walk,
+        work,
+        number,
+        block.low,
+        block.end,
+        NODE_STAGES,
+        OBJECT_STAGES,
+    )?;
+    Ok(circle)
+}
+
+/// Marks the nodes of a block, of which all other stages are marked, with the types that they declare.
+fn mark_declared<R: Rules>(
+    walk: &mut Walk<Item>,
+    work: &mut Work<R>,
+    number: usize,
+    block: Block,
+) -> Result<Option<Item>, NoMemory>
+    requires work { IsAtWork work.old.subject.now work.old.state }
+    requires block { slice_get (blocks_of (unit_of work.old.subject.now)) number ≡ Some block }
+    requires early { AreStagesOfNodes number block.low block.end 5 (so_far work.old.state) }
+    requires rests { IsAtRest (unit_of work.old.subject.now) work.old.state walk.old }
+    ensures went { OnOk result (Went R.rule work.old.subject.now work.new.subject.now work.old.state work.new.state) }
+    ensures ended { IfOk result (Ended R.rule (unit_of work.old.subject.now) work.new.state walk.new (AreNodesMarked number block.low block.end)) }
+{
+    let flags = work.rules.quiet_types(work.alloc, work.subject, number)?;
+    let circle = mark_types(walk, work, number, block.low, block.end, &flags)?;
+    Ok(circle)
+}
+
 /// Marks the nodes of a block, of which the stages of nodes are marked, at each stage.
 fn mark_whole<R: Rules>(
     walk: &mut Walk<Item>,
@@ -64,15 +110,11 @@ fn mark_whole<R: Rules>(
     ensures went { OnOk result (Went R.rule work.old.subject.now work.new.subject.now work.old.state work.new.state) }
     ensures ended { IfOk result (Ended R.rule (unit_of work.old.subject.now) work.new.state walk.new (AreNodesMarked number block.low block.end)) }
 {
-    let circle = mark_nodes(
-        walk,
-        work,
-        number,
-        block.low,
-        block.end,
-        NODE_STAGES,
-        STAGES,
-    )?;
+    let objects = mark_objects(walk, work, number, block)?;
+    if let Some(other) = objects {
+        return Ok(Some(other));
+    }
+    let circle = mark_declared(walk, work, number, block)?;
     Ok(circle)
 }
 
@@ -196,6 +238,7 @@ pub fn elaborate<R: Rules>(
         rules,
         subject: u,
         state,
+        room: rules.room(alloc),
     };
     let mut walk = walk_over(alloc, &work)?;
     let circle = mark_in_turn(&mut walk, &mut work, first)?;

@@ -25,6 +25,7 @@ pub struct Work<'a, R: Rules> {
     pub rules: &'a R,
     pub subject: &'a Subject<'a>,
     pub state: State,
+    pub room: R::Room,
 }
 
 fn is_declaring(stage: Stage) -> bool
@@ -44,6 +45,7 @@ fn is_declaring(stage: Stage) -> bool
 fn step<R: Rules>(
     alloc: Global,
     rules: &R,
+    room: &mut R::Room,
     u: &Subject,
     s: &mut State,
     item: Item,
@@ -58,7 +60,7 @@ fn step<R: Rules>(
         let waits = declare_by(alloc, rules, u, s, item)?;
         Ok(waits)
     } else {
-        let waits = judge_by(alloc, rules, u, s, item)?;
+        let waits = judge_by(alloc, rules, room, u, s, item)?;
         Ok(waits)
     }
 }
@@ -109,7 +111,14 @@ impl<'a, R: Rules> Marking for Work<'a, R> {
     }
 
     fn judge(&mut self, item: Item) -> Result<Option<Item>, NoMemory> {
-        let waits = step(self.alloc, self.rules, self.subject, &mut self.state, item)?;
+        let waits = step(
+            self.alloc,
+            self.rules,
+            &mut self.room,
+            self.subject,
+            &mut self.state,
+            item,
+        )?;
         Ok(waits)
     }
 }

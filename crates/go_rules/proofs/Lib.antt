@@ -3,4 +3,5 @@ mod FunctionLemmas
 mod PassingLemmas
 mod QuietLemmas
 mod ReadLemmas
+mod UnnamedLemmas
 mod UseLemmas

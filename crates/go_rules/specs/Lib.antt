@@ -8,4 +8,5 @@ pub mod Slots
 pub mod Stages
 pub mod Statements
 pub mod Types
+pub mod Unnamed
 pub mod Uses

@@ -11,6 +11,7 @@ use crate::number::number;
 use crate::objects::object;
 use crate::placed::placed;
 use crate::role::role_at;
+use crate::room::Room;
 use crate::wants::wanted;
 use elaborate::Brief;
 use elaborate::briefly::silent;
@@ -23,6 +24,7 @@ use unit_read::Subject;
 #[tactic(auto, using(type_answers::proofs::ComingLaws::same_comes))]
 fn judge_stage(
     alloc: Global,
+    room: &mut Room,
     u: &Subject,
     s: &State,
     stage: Stage,
@@ -36,9 +38,9 @@ fn judge_stage(
     ensures over { IfOk result (IsBriefOf s.now) }
 {
     match stage {
-        Stage::Before => before(alloc, u, s, role_at(u, at, node), block, at, node),
+        Stage::Before => before(alloc, room, u, s, role_at(u, at, node), block, at, node),
         Stage::Wanted => Ok(wanted(u, s, block, at)),
-        Stage::Judged => judged(alloc, u, s, role_at(u, at, node), block, at, node),
+        Stage::Judged => judged(alloc, room, u, s, role_at(u, at, node), block, at, node),
         Stage::Placed => placed(alloc, u, s, block, at, node),
         Stage::Object => object(alloc, u, s, role_at(u, at, node), block, at, node),
         Stage::Under => unreachable!(),
@@ -48,6 +50,7 @@ fn judge_stage(
 #[tactic(auto, using(type_answers::proofs::ComingLaws::same_comes))]
 fn judge_at(
     alloc: Global,
+    room: &mut Room,
     u: &Subject,
     s: &State,
     item: Item,
@@ -59,13 +62,14 @@ fn judge_at(
     ensures over { IfOk result (IsBriefOf s.now) }
 {
     match u.node_at(at) {
-        Some(node) => judge_stage(alloc, u, s, item.stage, item.block, at, node),
+        Some(node) => judge_stage(alloc, room, u, s, item.stage, item.block, at, node),
         None => Ok(silent()),
     }
 }
 
 fn judge_nth(
     alloc: Global,
+    room: &mut Room,
     u: &Subject,
     s: &State,
     item: Item,
@@ -77,32 +81,45 @@ fn judge_nth(
     ensures comes { IfOk result (ComesBriefly u.now s.now (nth_rule (unit_of u.now) item file node)) }
     ensures over { IfOk result (IsBriefOf s.now) }
 {
-    judge_at(alloc, u, s, item, NodeRef { file, node })
+    judge_at(alloc, room, u, s, item, NodeRef { file, node })
 }
 
 #[tactic(auto, using(type_answers::proofs::ComingLaws::same_comes))]
-fn judge_in(alloc: Global, u: &Subject, s: &State, item: Item, file: u32) -> Result<Brief, NoMemory>
+fn judge_in(
+    alloc: Global,
+    room: &mut Room,
+    u: &Subject,
+    s: &State,
+    item: Item,
+    file: u32,
+) -> Result<Brief, NoMemory>
     requires scene { IsScene u.now s.now }
     requires stage { is_declaring item.stage ≡ false }
     ensures comes { IfOk result (ComesBriefly u.now s.now (in_file (unit_of u.now) item file)) }
     ensures over { IfOk result (IsBriefOf s.now) }
 {
     match number(item.node) {
-        Some(node) => judge_nth(alloc, u, s, item, file, node),
+        Some(node) => judge_nth(alloc, room, u, s, item, file, node),
         None => Ok(silent()),
     }
 }
 
 /// What the rule of an item comes to, of one that declares no type.
 #[tactic(auto, using(type_answers::proofs::ComingLaws::same_comes))]
-pub fn judge_item(alloc: Global, u: &Subject, s: &State, item: Item) -> Result<Brief, NoMemory>
+pub fn judge_item(
+    alloc: Global,
+    room: &mut Room,
+    u: &Subject,
+    s: &State,
+    item: Item,
+) -> Result<Brief, NoMemory>
     requires scene { IsScene u.now s.now }
     requires stage { is_declaring item.stage ≡ false }
     ensures comes { IfOk result (ComesBriefly u.now s.now (rule (unit_of u.now) item)) }
     ensures over { IfOk result (IsBriefOf s.now) }
 {
     match u.passage_at(item.block) {
-        Some(passage) => judge_in(alloc, u, s, item, passage.file),
+        Some(passage) => judge_in(alloc, room, u, s, item, passage.file),
         None => Ok(silent()),
     }
 }

@@ -1,21 +1,22 @@
 //! The rule of a node by its parts: before anything is wanted of it, and with what its place wants.
-ghost use Rattle.std.specs.Prelude.{◌≡◌, IfOk};
-ghost use Rattle.std.specs.Global.{Vec};
+ghost use Rattle.std.specs.Prelude.{◌≡◌, None, IfOk};
 ghost use Rattle.unit_read.specs.Subjects.{unit_of};
-ghost use Rattle.rule_words.specs.Scenes.{IsScene, IfFound, said, IsMarkOf, parts_in, AreSeenOf};
+ghost use Rattle.rule_words.specs.Scenes.{IsScene, said, IsMarkOf, parts_in, AreSeenOf};
 ghost use Rattle.rule_words.specs.Wanting.{wanted_of, IsWantedOf};
 ghost use Rattle.type_answers.specs.Coming.{FoundBy};
 ghost use Rattle.elaborate.specs.Briefs.{ComesBriefly, IsBriefOf};
 ghost use Rattle.literal_rules.specs.Keys.{key_role};
-ghost use Rattle.go_rules.specs.Families.{family, is_expression, node_reads};
+ghost use Rattle.go_rules.specs.Families.{family, is_expression};
+ghost use Rattle.go_rules.specs.Slots.{ComeTo};
 ghost use Rattle.go_rules.specs.Stages.{from_parts, parts_read, with_parts, nothing_wanted, before_plain, before_in, before_as, judged_wanting, judged_with, judged_plain, judged_in, judged_key, key_judged, judged_as};
 
 use crate::by_family::judge_by;
 use crate::clause::nothing;
 use crate::family::{family_of, is_expression};
 use crate::own::is_own_type;
-use crate::reads::node_reads;
+use crate::reads::{add_parts, add_reads};
 use crate::role::{Role, clause_for};
+use crate::room::Room;
 use crate::statements::judge_switched;
 use crate::uses::{free_use, judge_use};
 use decl_rules::declared_name;
@@ -27,7 +28,7 @@ use literal_rules::{KeyRole, key_role};
 use package_objects::part_count;
 use rule_words::{Seen, Wanted, wanted_by};
 use std::alloc::Global;
-use type_answers::{ask_mark, ask_parts};
+use type_answers::ask_mark;
 use type_questions::Found;
 use typed_marks::{Item, Mark, Stage, State, Want};
 use typed_tree::{NOT_A_TYPE, Want as Demand};
@@ -56,27 +57,28 @@ fn from_parts(
 
 /// The parts of a node, as they are read at a stage.
 fn read_parts(
-    alloc: Global,
+    room: &mut Room,
     u: &Subject,
     s: &State,
     stage: Stage,
     block: usize,
     at: NodeRef,
     node: &Node,
-) -> Result<Found<Vec<Seen>, Item>, NoMemory>
+) -> Result<Option<Item>, NoMemory>
     requires { IsScene u.now s.now }
-    ensures is { IfOk result (FoundBy u.now s.now (λ (v : Vec Seen). parts_in s.now v.items) (parts_read (unit_of u.now) stage block at node.now)) }
-    ensures over { IfOk result (λ found. IfFound found (λ v. AreSeenOf s.now v.items)) }
+    ensures is { IfOk result (ComeTo u.now s.now (parts_read (unit_of u.now) stage block at node.now) (parts_in s.now room.new.seen.items)) }
+    ensures over { IfOk result (λ waits. waits ≡ None → AreSeenOf s.now room.new.seen.items) }
 {
-    let reads = node_reads(alloc, u.nodes_at(at.file), node)?;
-    let found = ask_parts(alloc, u, s, stage, block, &reads)?;
-    Ok(found)
+    add_reads(&mut room.reads, u.nodes_at(at.file), node)?;
+    let waits = add_parts(&mut room.seen, u, s, stage, block, &room.reads)?;
+    Ok(waits)
 }
 
 /// Reads the parts of a node at a stage, and judges it with what its place wants.
 #[tactic(auto, using(type_answers::proofs::ComingLaws::bind_waits))]
 fn with_parts(
     alloc: Global,
+    room: &mut Room,
     u: &Subject,
     s: &State,
     stage: Stage,
@@ -93,10 +95,10 @@ fn with_parts(
     if part_count(node) == 0 {
         return from_parts(alloc, u, s, block, at, node, w, &[]);
     }
-    let found = read_parts(alloc, u, s, stage, block, at, node)?;
-    match found {
-        Found::Is(list) => from_parts(alloc, u, s, block, at, node, w, &list),
-        Found::Wait(item) => Ok(Brief::Waits(item)),
+    let waits = read_parts(room, u, s, stage, block, at, node)?;
+    match waits {
+        None => from_parts(alloc, u, s, block, at, node, w, &room.seen),
+        Some(item) => Ok(Brief::Waits(item)),
     }
 }
 
@@ -104,6 +106,7 @@ fn with_parts(
 #[tactic(auto, using(type_answers::proofs::ComingLaws::same_comes))]
 fn with_use(
     alloc: Global,
+    room: &mut Room,
     u: &Subject,
     s: &State,
     stage: Stage,
@@ -119,7 +122,7 @@ fn with_use(
 {
     match free_use(u, at, node, w.want) {
         Some(name) => Ok(judge_use(u, s, name)),
-        None => with_parts(alloc, u, s, stage, block, at, node, w),
+        None => with_parts(alloc, room, u, s, stage, block, at, node, w),
     }
 }
 
@@ -127,6 +130,7 @@ fn with_use(
 #[tactic(auto, using(type_answers::proofs::ComingLaws::same_comes))]
 fn before_plain(
     alloc: Global,
+    room: &mut Room,
     u: &Subject,
     s: &State,
     block: usize,
@@ -144,12 +148,13 @@ fn before_plain(
         demand: Demand::Nothing,
         want: Want::Free,
     };
-    with_use(alloc, u, s, Stage::Before, block, at, node, nothing)
+    with_use(alloc, room, u, s, Stage::Before, block, at, node, nothing)
 }
 
 #[tactic(auto, using(type_answers::proofs::ComingLaws::same_comes))]
 fn before_in(
     alloc: Global,
+    room: &mut Room,
     u: &Subject,
     s: &State,
     block: usize,
@@ -162,7 +167,7 @@ fn before_in(
 {
     match clause_for(u, at, node) {
         Some(clause) => in_brief(alloc, judge_switched(u, s, at.file, clause)),
-        None => before_plain(alloc, u, s, block, at, node),
+        None => before_plain(alloc, room, u, s, block, at, node),
     }
 }
 
@@ -170,6 +175,7 @@ fn before_in(
 #[tactic(auto, using(type_answers::proofs::ComingLaws::same_comes))]
 pub fn before(
     alloc: Global,
+    room: &mut Room,
     u: &Subject,
     s: &State,
     role: Role,
@@ -182,7 +188,7 @@ pub fn before(
     ensures over { IfOk result (IsBriefOf s.now) }
 {
     match role {
-        Role::Part => before_in(alloc, u, s, block, at, node),
+        Role::Part => before_in(alloc, room, u, s, block, at, node),
         Role::Key => Ok(silent()),
         Role::Declared => Ok(silent()),
         Role::Blank => Ok(silent()),
@@ -194,6 +200,7 @@ pub fn before(
 #[tactic(auto, using(type_answers::proofs::ComingLaws::same_comes))]
 fn judged_wanting(
     alloc: Global,
+    room: &mut Room,
     u: &Subject,
     s: &State,
     block: usize,
@@ -209,11 +216,12 @@ fn judged_wanting(
     if is_own_type(u, s, at, node, w) {
         return Ok(broken(NOT_A_TYPE));
     }
-    with_use(alloc, u, s, Stage::Placed, block, at, node, w)
+    with_use(alloc, room, u, s, Stage::Placed, block, at, node, w)
 }
 
 fn judged_with(
     alloc: Global,
+    room: &mut Room,
     u: &Subject,
     s: &State,
     block: usize,
@@ -227,12 +235,13 @@ fn judged_with(
     ensures over { IfOk result (IsBriefOf s.now) }
 {
     let w = wanted_by(s, m);
-    judged_wanting(alloc, u, s, block, at, node, w)
+    judged_wanting(alloc, room, u, s, block, at, node, w)
 }
 
 #[tactic(auto, using(type_answers::proofs::ComingLaws::bind_comes, type_answers::proofs::ComingLaws::bind_waits))]
 fn judged_plain(
     alloc: Global,
+    room: &mut Room,
     u: &Subject,
     s: &State,
     block: usize,
@@ -244,7 +253,7 @@ fn judged_plain(
     ensures over { IfOk result (IsBriefOf s.now) }
 {
     match ask_mark(u, s, Stage::Wanted, block, at.node) {
-        Found::Is(m) => judged_with(alloc, u, s, block, at, node, m),
+        Found::Is(m) => judged_with(alloc, room, u, s, block, at, node, m),
         Found::Wait(item) => Ok(Brief::Waits(item)),
     }
 }
@@ -253,6 +262,7 @@ fn judged_plain(
 #[tactic(auto, using(type_answers::proofs::ComingLaws::same_comes))]
 fn judged_in(
     alloc: Global,
+    room: &mut Room,
     u: &Subject,
     s: &State,
     block: usize,
@@ -265,13 +275,14 @@ fn judged_in(
 {
     match clause_for(u, at, node) {
         Some(clause) => in_brief(alloc, judge_switched(u, s, at.file, clause)),
-        None => judged_plain(alloc, u, s, block, at, node),
+        None => judged_plain(alloc, room, u, s, block, at, node),
     }
 }
 
 #[tactic(auto, using(type_answers::proofs::ComingLaws::same_comes))]
 fn judged_key(
     alloc: Global,
+    room: &mut Room,
     u: &Subject,
     s: &State,
     block: usize,
@@ -285,7 +296,7 @@ fn judged_key(
 {
     match key {
         KeyRole::Field => in_brief(alloc, nothing(s)),
-        KeyRole::Use => judged_in(alloc, u, s, block, at, node),
+        KeyRole::Use => judged_in(alloc, room, u, s, block, at, node),
         KeyRole::Unknown => Ok(silent()),
     }
 }
@@ -303,6 +314,7 @@ fn key_of(u: &Subject, s: &State, block: usize, at: NodeRef) -> Found<KeyRole, I
 #[tactic(auto, using(type_answers::proofs::ComingLaws::bind_comes, type_answers::proofs::ComingLaws::bind_waits))]
 fn key_judged(
     alloc: Global,
+    room: &mut Room,
     u: &Subject,
     s: &State,
     block: usize,
@@ -314,7 +326,7 @@ fn key_judged(
     ensures over { IfOk result (IsBriefOf s.now) }
 {
     match key_of(u, s, block, at) {
-        Found::Is(key) => judged_key(alloc, u, s, block, at, node, key),
+        Found::Is(key) => judged_key(alloc, room, u, s, block, at, node, key),
         Found::Wait(item) => Ok(Brief::Waits(item)),
     }
 }
@@ -323,6 +335,7 @@ fn key_judged(
 #[tactic(auto, using(type_answers::proofs::ComingLaws::same_comes))]
 pub fn judged(
     alloc: Global,
+    room: &mut Room,
     u: &Subject,
     s: &State,
     role: Role,
@@ -335,8 +348,8 @@ pub fn judged(
     ensures over { IfOk result (IsBriefOf s.now) }
 {
     match role {
-        Role::Part => judged_in(alloc, u, s, block, at, node),
-        Role::Key => key_judged(alloc, u, s, block, at, node),
+        Role::Part => judged_in(alloc, room, u, s, block, at, node),
+        Role::Key => key_judged(alloc, room, u, s, block, at, node),
         Role::Declared => in_brief(alloc, declared_name(u, s, at)),
         Role::Blank => in_brief(alloc, nothing(s)),
         Role::Untold => Ok(silent()),

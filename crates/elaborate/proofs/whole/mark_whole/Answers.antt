@@ -1,20 +1,41 @@
-use Rattle.std.proofs.Common.{arith}
-use Rattle.typed_marks.specs.States.{so_far}
+use Rattle.std.proofs.Common.{◌≡◌, ◌∙◌, refl, ap, slice_get}
+use Rattle.unit_read.specs.Units.{Unit}
 use Rattle.unit_read.specs.Subjects.{unit_of}
+use Rattle.elaborate.specs.Walks.{blocks_of}
 use Rattle.elaborate.specs.Covering.{AreStagesOfNodes, AreNodesMarked}
-use Rattle.elaborate.proofs.WalkLemmas.{ended_as}
-use Rattle.elaborate.proofs.CoverLemmas.{nodes_in, nodes_whole}
+use Rattle.elaborate.proofs.WalkLemmas.{went_then, ended_for}
+use Rattle.elaborate.proofs.CoverLemmas.{early, rest_at}
 use Rattle.elaborate.proofs.whole.mark_whole.Goals as goal
 
-pub mark_nodes-requires-clause-nodes : goal.mark_nodes-requires-clause-nodes
-mark_nodes-requires-clause-nodes g c = nodes_in (unit_of c.args.work.now.subject.now) c.args.number c.args.block c.requires.block
+pub mark_declared-requires-clause-work : goal.mark_declared-requires-clause-work
+mark_declared-requires-clause-work g c = c.in_ok-objects.ensures.went.work
 
-pub mark_nodes-requires-clause-marked : goal.mark_nodes-requires-clause-marked
-mark_nodes-requires-clause-marked g c = c.requires.early
+pub mark_declared-requires-clause-block : goal.mark_declared-requires-clause-block
+mark_declared-requires-clause-block g c = ap (λ (u : Unit). slice_get (blocks_of u) c.args.number) c.in_ok-objects.ensures.went.unit ∙ c.requires.block
+
+pub mark_declared-requires-clause-early : goal.mark_declared-requires-clause-early
+mark_declared-requires-clause-early g c = c.in_ok-objects.ensures.ended.marked c.in_default.is
+
+pub mark_declared-requires-clause-rests : goal.mark_declared-requires-clause-rests
+mark_declared-requires-clause-rests g c =
+    let now = c.mark_objects.new in
+    rest_at (unit_of c.args.work.now.subject.now) (unit_of now.work.subject.now) now.work.state now.walk c.in_ok-objects.ensures.went.unit (c.in_ok-objects.ensures.ended.rests c.in_default.is)
+
+pub returns-in-Some-clause-ended : goal.returns-in-Some-clause-ended
+returns-in-Some-clause-ended g c =
+    let now = c.mark_objects.new in
+    early g.R.Rules.rule (unit_of c.args.work.now.subject.now) (unit_of c.args.work.now.subject.now) now.work.state now.walk (AreStagesOfNodes c.args.number c.args.block.low c.args.block.end 5) (AreNodesMarked c.args.number c.args.block.low c.args.block.end)
+    c.in_ok-objects.objects c.in-Some.other refl c.in-Some.is c.in_ok-objects.ensures.ended
+
+pub returns-clause-went : goal.returns-clause-went
+returns-clause-went g c =
+    let before = c.args.work.now in
+    let now = c.mark_objects.new.work in
+    let next = c.mark_declared.new.work in
+    went_then g.R.Rules.rule before.subject.now now.subject.now next.subject.now before.state now.state next.state c.in_ok-objects.ensures.went c.in_ok-circle.ensures.went
 
 pub returns-clause-ended : goal.returns-clause-ended
 returns-clause-ended g c =
-    let next = c.mark_nodes.new in
-    ended_as g.R.Rules.rule (unit_of c.args.work.now.subject.now) next.work.state next.walk
-    (AreStagesOfNodes c.args.number c.args.block.low c.args.block.end 6) (AreNodesMarked c.args.number c.args.block.low c.args.block.end) c.in_ok-circle.circle
-    (λ none. nodes_whole c.args.number c.args.block.low c.args.block.end (so_far next.work.state)) c.in_ok-circle.ensures.ended
+    let next = c.mark_declared.new in
+    ended_for g.R.Rules.rule (unit_of c.args.work.now.subject.now) (unit_of c.mark_objects.new.work.subject.now) next.work.state next.walk (AreNodesMarked c.args.number c.args.block.low c.args.block.end)
+    c.in_ok-circle.circle c.in_ok-objects.ensures.went.unit c.in_ok-circle.ensures.ended
