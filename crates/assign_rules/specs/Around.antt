@@ -4,9 +4,8 @@ use Rattle.std.specs.Option.{option_map_or}
 use Rattle.go_tree.specs.declared.bindings.Object.{Object}
 use Rattle.go_tree.specs.declared.bindings.Object.TheVariants as o
 use Rattle.go_tree.specs.declared.tree.Node.{Node}
-use Rattle.go_tree.specs.declared.tree.NodeKind.{NodeKind}
-use Rattle.go_tree.specs.declared.tree.NodeKind.TheVariants as k
 use Rattle.go_tree.specs.declared.tree.NodeRef.{NodeRef}
+use Rattle.go_tree.specs.Kinds.{is_function}
 use Rattle.object_order.specs.Spots.{place}
 use Rattle.package_objects.specs.Declares.{kind_at}
 use Rattle.unit_read.specs.declared.passage.Passage.{Passage}
@@ -49,12 +48,6 @@ abbrev pub outermost : Unit → ℕ → ℕ → ℕ
 outermost u file n = wrapped u file deepest n
 
 -- ---- functions
-
-abbrev pub is_function : NodeKind → Bool
-is_function k.FuncDecl = true
-is_function k.MethodDecl = true
-is_function k.FuncLit = true
-is_function _ = false
 
 -- the nearest node around that passes a test, in so many steps at most
 abbrev pub nearest_by : (ℕ → Option ℕ) → (ℕ → Bool) → Place → Option ℕ

@@ -2,10 +2,10 @@
 ghost use Rattle.unit_read.specs.Units.{is_blank};
 ghost use Rattle.std.specs.Prelude.{◌≡◌, option_and_then};
 ghost use Rattle.unit_read.specs.Subjects.{unit_of, IsRead};
-ghost use Rattle.assign_rules.specs.Around.{file_of, deepest, is_blank_name, is_ignored, outside_by, outside, outermost, is_function, is_function_at, nearest, function_of, branch, around_of, bound_in, switch_of, clause_in, switched_by, clause_of};
+ghost use Rattle.assign_rules.specs.Around.{file_of, deepest, is_blank_name, is_ignored, outside_by, outside, outermost, is_function_at, nearest, function_of, branch, around_of, bound_in, switch_of, clause_in, switched_by, clause_of};
 
 use crate::kinds::{is_bind, is_name};
-use go_tree::{Node, NodeKind, NodeRef, Object};
+use go_tree::{Node, NodeRef, Object, is_function};
 use package_objects::kind_of;
 use unit_read::{Place, Subject};
 use variable_rules::{bare, is_paren};
@@ -52,15 +52,6 @@ fn deepest() -> usize
 }
 
 // ---- functions
-
-fn is_function(kind: NodeKind) -> bool
-    ensures { result ≡ is_function kind }
-{
-    matches!(
-        kind,
-        NodeKind::FuncDecl | NodeKind::MethodDecl | NodeKind::FuncLit
-    )
-}
 
 fn is_function_at(u: &Subject, file: u32, n: u32) -> bool
     ensures { result ≡ is_function_at (unit_of u.now) file n }

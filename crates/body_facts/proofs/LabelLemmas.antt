@@ -3,6 +3,7 @@ use Rattle.std.proofs.Common.{◌≡◌, ℕ, ◌<◌, ◌≤◌, ◌+◌, ◌�
 use Rattle.std.proofs.Math.ListN.{length-set}
 use Rattle.std.proofs.lemmas.Option.{slice_get_within}
 use Rattle.go_tree.specs.declared.tree.FileTree.{FileTree}
+use Rattle.go_tree.proofs.NodeLemmas.{differ}
 use Rattle.gv_base.proofs.Lists.{same_some}
 use Rattle.node_values.specs.Flagged.{IsOnly, AreFlagged}
 use Rattle.node_values.specs.Handed.{AreTops}
@@ -13,9 +14,6 @@ use Rattle.label_uses.specs.declared.answer.Labels.{Labels}
 use Rattle.label_uses.specs.Labels.{IsLabel, DenotesLabel, IsRepeated}
 use Rattle.label_uses.specs.Read.{JumpAnswer, AreLabels}
 use Rattle.body_facts.specs.LabelTables.{AreDenoted, AreFlagsOf, IsIdle, IsTold, AreTold, AreRising, Tells, TellsRepeated, TellsIdle}
-
-differ : (b : Bool) → b ≡ false → b ≡ true → ⊥
-differ b p q = cc
 
 -- ---- one answer more
 

@@ -7,6 +7,7 @@ use Rattle.go_tree.specs.declared.tree.NodeKind.TheVariants as k
 use Rattle.go_tree.specs.declared.tree.NodeRef.{NodeRef}
 use Rattle.go_tree.specs.declared.bindings.Object.{Object}
 use Rattle.go_tree.specs.declared.bindings.Object.TheVariants as o
+use Rattle.go_tree.specs.Kinds.{is_function}
 use Rattle.object_order.specs.Spots.{place}
 use Rattle.node_values.specs.Flagged.{AreFlagged}
 use Rattle.node_values.specs.Handed.{IsHandedDown}
@@ -98,12 +99,6 @@ is_none (Some object) = false
 -- The name declares: it is no use and not blank. One that its block has already declares a variable all the same, which no use denotes.
 abbrev pub is_new : Unit → ℕ → ℕ → Bool
 is_new u f n = is_none (object_at u (place f n)) && not (is_blank (name_at u (place f n)))
-
-abbrev pub is_function : NodeKind → Bool
-is_function k.FuncDecl = true
-is_function k.MethodDecl = true
-is_function k.FuncLit = true
-is_function _ = false
 
 -- what stands within a function
 abbrev pub within_rule : ℕ → Node → ℕ → Bool → Bool

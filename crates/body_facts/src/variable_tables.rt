@@ -2,15 +2,16 @@
 ghost use Rattle.std.specs.Prelude.{◌≡◌, ◌<◌, ◌≤◌, ◌^◌, ◌==◌, ◌||◌, ℕ, false, IfOk, length, get_or};
 ghost use Rattle.std.specs.Option.{option_copied};
 ghost use Rattle.go_tree.specs.declared.tree.Node.{Node};
+ghost use Rattle.go_tree.specs.Kinds.{is_function};
 ghost use Rattle.object_order.specs.Spots.{place};
 ghost use Rattle.node_values.specs.Parents.{AreParents};
 ghost use Rattle.node_values.specs.Trees.{IsTree};
 ghost use Rattle.unit_read.specs.Subjects.{unit_of, IsRead};
 ghost use Rattle.unit_read.specs.Units.{is_blank, name_at, object_at};
-ghost use Rattle.body_facts.specs.NameTables.{AreValues, is_declaring, kind_declares, declared_by, stands_declared, is_none, is_new, is_function, within_rule, AreWithin, is_variable, AreVariables};
+ghost use Rattle.body_facts.specs.NameTables.{AreValues, is_declaring, kind_declares, declared_by, stands_declared, is_none, is_new, within_rule, AreWithin, is_variable, AreVariables};
 
 use crate::name_tables::place;
-use go_tree::{Node, NodeKind, NodeRef, Object};
+use go_tree::{Node, NodeKind, NodeRef, Object, is_function};
 use gv_base::NoMemory;
 use node_values::{Hands, hand_down};
 use std::alloc::Global;
@@ -88,15 +89,6 @@ fn is_new(u: &Subject, file: u32, n: usize) -> bool
         return false;
     }
     !is_blank(u.name_at(at))
-}
-
-fn is_function(kind: NodeKind) -> bool
-    ensures { result ≡ is_function kind }
-{
-    matches!(
-        kind,
-        NodeKind::FuncDecl | NodeKind::MethodDecl | NodeKind::FuncLit
-    )
 }
 
 fn is_within(kind: NodeKind, own: bool) -> bool

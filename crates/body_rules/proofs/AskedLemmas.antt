@@ -5,7 +5,8 @@ use Rattle.gv_base.proofs.Lists.{nothing_there}
 use Rattle.gv_base.specs.declared.place.Place.{Place}
 use Rattle.go_tree.specs.declared.tree.Node.{Node}
 use Rattle.go_tree.specs.declared.tree.NodeKind.{NodeKind}
-use Rattle.node_values.proofs.FlagLemmas.{differ}
+use Rattle.go_tree.specs.Kinds.{is_function}
+use Rattle.go_tree.proofs.NodeLemmas.{differ}
 use Rattle.late_list.specs.declared.late.LateRule.{LateRule}
 use Rattle.late_list.specs.declared.late.LateRule.TheVariants as r
 use Rattle.body_rules.specs.declared.branches.Branch.{Branch}
@@ -15,7 +16,7 @@ use Rattle.body_rules.specs.Endings.{flag_of, kind_of, from_last}
 use Rattle.body_rules.specs.Files.{IsFaultIn, returns_by, lacks_label, bare_parts, has_none, is_nil, is_none, body_of, goto_label, is_undefined, branch_at, falls_at}
 use Rattle.body_rules.specs.Given.{Given}
 use Rattle.body_rules.specs.Jumps.{label_of}
-use Rattle.body_rules.specs.Kinds.{is_function, is_body, is_jump, is_break, is_continue, is_goto, is_fall}
+use Rattle.body_rules.specs.Kinds.{is_body, is_jump, is_break, is_continue, is_goto, is_fall}
 use Rattle.body_rules.specs.Asked.{acts, acts_at, is_marked, is_asked}
 
 neither : (a b : Bool) → (a || b) ≡ false → (a ≡ false) × (b ≡ false)

@@ -7,6 +7,7 @@ use Rattle.std.proofs.lemmas.Option.{slice_get_within}
 use Rattle.go_tree.specs.declared.tree.Node.{Node}
 use Rattle.go_tree.specs.declared.tree.NodeKind.{NodeKind}
 use Rattle.go_tree.specs.declared.tree.NodeKind.TheVariants as k
+use Rattle.go_tree.proofs.NodeLemmas.{differ}
 use Rattle.node_values.specs.Trees.{Holds, IsTree, IsPart, IsOfKind, InnermostOf, AreInnermost}
 use Rattle.node_values.specs.Parents.{at, IsParent, AreParents}
 use Rattle.node_values.specs.Ranges.{starts, IsTiled, IsWithin}
@@ -28,9 +29,6 @@ leaves_kind which nodes t low is = let (node, there) = there_is nodes t low in (
 
 kind_leaves : (which : Branch) (nodes : List Node) (t : ℕ) → IsOfKind (can_leave which) nodes t → can_leave which (kind_of nodes t) ≡ true
 kind_leaves which nodes t (node, there, is) = ap (can_leave which) (kind_at nodes t node there) ∙ is
-
-differ : (b : Bool) → b ≡ false → b ≡ true → ⊥
-differ b p q = cc
 
 kind_low : (kinds : NodeKind → Bool) (nodes : List Node) (t : ℕ) → IsOfKind kinds nodes t → t < length nodes
 kind_low kinds nodes t (node, there, is) = slice_get_within nodes t node there

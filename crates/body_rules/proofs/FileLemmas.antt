@@ -14,7 +14,7 @@ use Rattle.node_values.proofs.FlagLemmas.{one_flagged}
 use Rattle.std.proofs.Common.{◌<◌, length}
 use Rattle.node_values.specs.Trees.{IsTree}
 use Rattle.node_values.proofs.HandLemmas.{one_value}
-use Rattle.node_values.proofs.FlagLemmas.{differ}
+use Rattle.go_tree.proofs.NodeLemmas.{differ}
 use Rattle.body_rules.specs.Hands.{clause_rule, alone_rule, AreClauseEnds}
 use Rattle.body_rules.specs.Files.{body_of, IsUnfinished, falls_at, IsMisplacedFall, AreRead, IsUnused}
 

@@ -1,30 +1,14 @@
 -- Whether there is a node of some kind.
-use Rattle.std.proofs.Common.{◌≡◌, ℕ, ◌<◌, ◌≤◌, ◌+◌, Bool, true, false, cond, List, length, Option, Some, None, option_and_then, slice_get, refl, sym, ap, ◌∙◌, inl, inr, arith}
+use Rattle.std.proofs.Common.{◌≡◌, ℕ, Bool, true, false, cond, Option, Some, None, option_and_then, slice_get, refl, sym, ap, ◌∙◌}
 use Rattle.std.specs.Option.{option_map_or}
-use Rattle.std.proofs.lemmas.Bool.{cases_lt}
-use Rattle.std.proofs.lemmas.Option.{slice_get_within}
-use Rattle.gv_base.proofs.Lists.{same_some, nothing_there}
+use Rattle.gv_base.proofs.Lists.{nothing_there}
 use Rattle.go_tree.specs.declared.tree.Node.{Node}
-use Rattle.go_tree.specs.declared.tree.NodeKind.{NodeKind}
 use Rattle.node_values.specs.Trees.{IsOfKind}
-use Rattle.node_values.proofs.FlagLemmas.{differ}
+use Rattle.go_tree.proofs.NodeLemmas.{differ}
 use Rattle.body_rules.specs.Files.{goto_label, falls_at}
 use Rattle.body_rules.specs.Given.{Given}
 use Rattle.body_rules.specs.Jumps.{label_of}
 use Rattle.body_rules.specs.Kinds.{is_goto, is_fall}
-
-pub none_more : (kinds : NodeKind → Bool) (nodes : List Node) (n : ℕ) (node : Node) → slice_get nodes n ≡ Some node → kinds node.kind ≡ false
-    → ((m : ℕ) → m < n → IsOfKind kinds nodes m → ⊥) → (m : ℕ) → m < n + 1 → IsOfKind kinds nodes m → ⊥
-none_more kinds nodes n node there fails before m low (other, other_at, is) = elim (cases_lt m n) [
-  | inl less ↦ before m less (other, other_at, is)
-  | inr past ↦
-      let here : n ≡ m = omega arith in
-      let same : node ≡ other = same_some (slice_get nodes n) node other there (ap (slice_get nodes) here ∙ other_at) in
-      differ (kinds node.kind) fails (ap (λ (x : Node). kinds x.kind) same ∙ is)
-]
-
-pub none_all : (kinds : NodeKind → Bool) (nodes : List Node) (k : ℕ) → length nodes ≤ k → ((m : ℕ) → m < k → IsOfKind kinds nodes m → ⊥) → (n : ℕ) → IsOfKind kinds nodes n → ⊥
-none_all kinds nodes k past before n is = before n (let low = slice_get_within nodes n is.0 is.1 in omega arith) is
 
 pub goto_there : (f : Given) (n l : ℕ) → goto_label f n ≡ Some l → IsOfKind is_goto f.nodes n
 goto_there f n l is = by (slice_get f.nodes n) refl where

@@ -3,9 +3,10 @@ use Rattle.std.specs.Prelude.{ℕ, ◌||◌, Bool, false, slice_get}
 use Rattle.std.specs.Option.{option_map_or}
 use Rattle.go_tree.specs.declared.tree.Node.{Node}
 use Rattle.go_tree.specs.declared.tree.NodeKind.{NodeKind}
+use Rattle.go_tree.specs.Kinds.{is_function}
 use Rattle.body_rules.specs.Endings.{flag_of}
 use Rattle.body_rules.specs.Given.{Given}
-use Rattle.body_rules.specs.Kinds.{is_function, is_jump, is_fall}
+use Rattle.body_rules.specs.Kinds.{is_jump, is_fall}
 
 -- a function, a jump or a `fallthrough`
 abbrev pub acts : NodeKind → Bool

@@ -2,11 +2,12 @@
 use Rattle.std.specs.Prelude.{ℕ, ◌≡◌, ◌==◌, ◌&&◌, ◌||◌, cond, if◌then◌else◌, option_and_then, Bool, true, false, List, [], ◌∷◌, length, Option, Some, None, get_or, slice_get}
 use Rattle.go_tree.specs.declared.tree.Node.{Node}
 use Rattle.go_tree.specs.declared.tree.NodeKind.{NodeKind}
+use Rattle.go_tree.specs.Kinds.{is_function}
 use Rattle.node_values.specs.Flagged.{AreFlagged}
 use Rattle.node_values.specs.Trees.{Holds, IsOfKind, InnermostOf}
 use Rattle.body_rules.specs.declared.branches.Branch.{Branch}
 use Rattle.body_rules.specs.declared.branches.Branch.TheVariants as w
-use Rattle.body_rules.specs.Kinds.{is_function, is_loop, can_break, is_label, is_break, is_continue}
+use Rattle.body_rules.specs.Kinds.{is_loop, can_break, is_label, is_break, is_continue}
 
 -- a statement of this word
 abbrev pub is_of : Branch → NodeKind → Bool

@@ -5,6 +5,7 @@ use Rattle.gv_base.specs.declared.place.Place.{Place}
 use Rattle.go_tree.specs.declared.token.Token.{Token}
 use Rattle.go_tree.specs.declared.tree.Node.{Node}
 use Rattle.go_tree.specs.declared.tree.NodeKind.{NodeKind}
+use Rattle.go_tree.specs.Kinds.{is_function}
 use Rattle.node_values.specs.Flagged.{AreFlagged}
 use Rattle.node_values.specs.Parents.{AreParents}
 use Rattle.node_values.specs.Ranges.{starts, IsTiled}
@@ -20,7 +21,7 @@ use Rattle.body_rules.specs.Endings.{kind_of, flag_of, from_last, is_closed, end
 use Rattle.body_rules.specs.Given.{Given}
 use Rattle.body_rules.specs.Hands.{AreClauseEnds, AreAlone}
 use Rattle.body_rules.specs.Jumps.{label_of, JumpsOver, JumpsInto}
-use Rattle.body_rules.specs.Kinds.{is_function, is_declaration, is_method, is_body, is_params, is_goto, is_jump, is_fall}
+use Rattle.body_rules.specs.Kinds.{is_declaration, is_method, is_body, is_params, is_goto, is_jump, is_fall}
 
 -- ---- what is known of a file
 

@@ -3,12 +3,6 @@ use Rattle.std.specs.Prelude.{Bool, true, false, ◌||◌}
 use Rattle.go_tree.specs.declared.tree.NodeKind.{NodeKind}
 use Rattle.go_tree.specs.declared.tree.NodeKind.TheVariants as k
 
-abbrev pub is_function : NodeKind → Bool
-is_function k.FuncDecl = true
-is_function k.MethodDecl = true
-is_function k.FuncLit = true
-is_function _ = false
-
 -- fewer parts than these, a declaration or a literal has no results or no body
 abbrev pub is_declaration : NodeKind → Bool
 is_declaration k.FuncDecl = true

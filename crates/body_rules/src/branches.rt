@@ -14,10 +14,10 @@ ghost use Rattle.body_rules.specs.Jumping.{IsBareAt, AreNearest, IsKnown, Leaves
 
 use crate::endings::kind_of;
 use crate::jumps::{is_within, place_at};
-use crate::kinds::{can_break, is_break, is_continue, is_function, is_label, is_loop};
+use crate::kinds::{can_break, is_break, is_continue, is_label, is_loop};
 use crate::latest::number_at;
 use crate::nodes::is_nil;
-use go_tree::{Node, NodeKind};
+use go_tree::{Node, NodeKind, is_function};
 use gv_base::NoMemory;
 use node_values::{Stops, Targets, flag_targets, innermost};
 use std::alloc::Global;

@@ -1,19 +1,9 @@
 //! Kinds of nodes.
 ghost use Rattle.std.specs.Prelude.{◌≡◌};
-ghost use Rattle.body_rules.specs.Kinds.{is_function, is_declaration, is_method, is_loop, is_choice, is_clause, is_body, is_if, declares, is_default, is_condition, is_params, is_label, is_list, is_goto, is_break, is_continue, is_fall, is_return, is_call, is_paren, is_plain_for, is_clause_for, is_switch, is_type_switch, is_select, is_assigning, is_several, can_break, is_block, is_jump};
+ghost use Rattle.body_rules.specs.Kinds.{is_declaration, is_method, is_loop, is_choice, is_clause, is_body, is_if, declares, is_default, is_condition, is_params, is_label, is_list, is_goto, is_break, is_continue, is_fall, is_return, is_call, is_paren, is_plain_for, is_clause_for, is_switch, is_type_switch, is_select, is_assigning, is_several, can_break, is_block, is_jump};
 ghost use Rattle.body_rules.specs.Endings.{is_passed, is_final};
 
 use go_tree::NodeKind;
-
-/// A declaration of a function or of a method, or a literal.
-pub(crate) fn is_function(kind: NodeKind) -> bool
-    ensures { result ≡ is_function kind }
-{
-    matches!(
-        kind,
-        NodeKind::FuncDecl | NodeKind::MethodDecl | NodeKind::FuncLit
-    )
-}
 
 pub(crate) fn is_declaration(kind: NodeKind) -> bool
     ensures { result ≡ is_declaration kind }

@@ -13,11 +13,9 @@ ghost use Rattle.body_rules.specs.Kinds.{is_goto, is_params};
 use crate::branches::{Branch, branch_of};
 use crate::endings::{from_last, kind_of};
 use crate::file::{File, end_of};
-use crate::kinds::{
-    is_body, is_declaration, is_fall, is_function, is_goto, is_jump, is_method, is_params,
-};
+use crate::kinds::{is_body, is_declaration, is_fall, is_goto, is_jump, is_method, is_params};
 use crate::latest::number_at;
-use go_tree::{Node, NodeKind};
+use go_tree::{Node, NodeKind, is_function};
 use gv_base::Place;
 
 // ---- jumps

@@ -6,8 +6,9 @@ use Rattle.std.proofs.lemmas.Option.{slice_get-get_or, slice_get_within}
 use Rattle.std.proofs.lemmas.Bool.{cases_eq}
 use Rattle.go_tree.specs.declared.tree.FileTree.{FileTree}
 use Rattle.go_tree.specs.declared.tree.Node.{Node}
+use Rattle.go_tree.specs.Kinds.{is_function}
 use Rattle.flow.specs.declared.point.Around.{Around}
-use Rattle.flow.specs.Kinds.{is_function, is_loop, is_left, is_switch}
+use Rattle.flow.specs.Kinds.{is_loop, is_left, is_switch}
 use Rattle.flow.specs.Edges.{after, turn_point}
 use Rattle.flow.specs.Around.{nowhere, looped, chosen, next_part, inside, around_at, IsTree, IsAround, AreAround, AreGiven, AreFilled}
 use Rattle.flow.specs.Around.IsAround.{top, part}

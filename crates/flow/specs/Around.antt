@@ -4,8 +4,9 @@ use Rattle.go_tree.specs.declared.tree.FileTree.{FileTree}
 use Rattle.go_tree.specs.declared.tree.Node.{Node}
 use Rattle.go_tree.specs.declared.tree.NodeKind.{NodeKind}
 use Rattle.go_tree.specs.declared.tree.NodeKind.TheVariants as k
+use Rattle.go_tree.specs.Kinds.{is_function}
 use Rattle.flow.specs.declared.point.Around.{Around}
-use Rattle.flow.specs.Kinds.{is_function, is_loop, is_left, is_switch}
+use Rattle.flow.specs.Kinds.{is_loop, is_left, is_switch}
 use Rattle.flow.specs.Edges.{before, after, turn_point}
 
 abbrev pub nowhere : Around

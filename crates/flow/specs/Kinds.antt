@@ -5,13 +5,6 @@ use Rattle.go_tree.specs.declared.tree.NodeKind.TheVariants as k
 use Rattle.flow.specs.declared.point.Role.{Role}
 use Rattle.flow.specs.declared.point.Role.TheVariants as r
 
--- a declaration of a function or of a method, or a literal
-abbrev pub is_function : NodeKind → Bool
-is_function k.FuncDecl = true
-is_function k.MethodDecl = true
-is_function k.FuncLit = true
-is_function _ = false
-
 -- statements in turn
 abbrev pub is_sequence : NodeKind → Bool
 is_sequence k.Block = true

@@ -4,9 +4,9 @@ ghost use Rattle.flow.specs.Kinds.{is_switch, is_loop, is_left};
 ghost use Rattle.flow.specs.Around.{nowhere, looped, chosen, next_part, inside, around_at, IsTree, AreAround, AreGiven, AreFilled};
 
 use crate::edges::{after, before, turn_point};
-use crate::kinds::{is_function, is_left, is_loop, is_switch};
+use crate::kinds::{is_left, is_loop, is_switch};
 use crate::point::Around;
-use go_tree::{FileTree, Node, NodeKind};
+use go_tree::{FileTree, Node, NodeKind, is_function};
 use gv_base::NoMemory;
 use std::alloc::Global;
 

@@ -1,18 +1,9 @@
 //! What a node is for control.
 ghost use Rattle.std.specs.Prelude.{◌≡◌, drop};
-ghost use Rattle.flow.specs.Kinds.{is_sequence, is_branching, is_loop, is_ending, is_inner, is_arm, is_list, is_block, is_post, is_default, is_condition, is_left, is_switch, is_function, step_role, steps_of};
+ghost use Rattle.flow.specs.Kinds.{is_sequence, is_branching, is_loop, is_ending, is_inner, is_arm, is_list, is_block, is_post, is_default, is_condition, is_left, is_switch, step_role, steps_of};
 
 use crate::point::Role;
 use go_tree::NodeKind;
-
-pub(crate) fn is_function(kind: NodeKind) -> bool
-    ensures { result ≡ is_function kind }
-{
-    matches!(
-        kind,
-        NodeKind::FuncDecl | NodeKind::MethodDecl | NodeKind::FuncLit
-    )
-}
 
 /// A node that holds statements in turn.
 pub(crate) fn is_sequence(kind: NodeKind) -> bool

@@ -5,6 +5,7 @@ pub mod Escapes
 pub mod Numbers
 pub mod Values
 pub mod Parts
+pub mod Kinds
 pub mod Forest
 pub mod Arena
 pub mod Shape

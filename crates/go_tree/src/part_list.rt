@@ -1,5 +1,5 @@
 //! The numbers of a node's parts. A few stand in the node itself.
-ghost use Rattle.std.specs.Prelude.{◌≡◌, IfSome};
+ghost use Rattle.std.specs.Prelude.{◌≡◌, ◌<◌, ◌↔◌, None, IfSome, length};
 ghost use Rattle.go_tree.specs.Parts.{listed};
 
 use std::marker::Model;
@@ -48,7 +48,8 @@ impl Model for Parts {
 }
 
 fn few(items: &[u32]) -> Option<Listed>
-    ensures { IfSome result (λ list. listed list ≡ items.now) }
+    ensures list { IfSome result (λ list. listed list ≡ items.now) }
+    ensures none { (result ≡ None) ↔ (6 < length items.now) }
 {
     match items {
         [] => Some(Listed::Nothing),
@@ -87,9 +88,10 @@ impl Parts {
         }
     }
 
-    /// These numbers, where they are so few that they need no list.
+    /// These numbers, where they are so few that they need no list: six at most.
     pub fn few(items: &[u32]) -> Option<Parts>
-        ensures { IfSome result (λ parts. parts ≡ items.now) }
+        ensures parts { IfSome result (λ parts. parts ≡ items.now) }
+        ensures none { (result ≡ None) ↔ (6 < length items.now) }
     {
         match few(items) {
             Some(list) => Some(Parts { list }),

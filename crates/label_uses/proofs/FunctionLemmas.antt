@@ -7,9 +7,10 @@ use Rattle.std.proofs.lemmas.List.Elements.{Contains-push, Contains-push_cases, 
 use Rattle.std.proofs.lemmas.Option.{slice_get_within}
 use Rattle.go_tree.specs.declared.tree.Node.{Node}
 use Rattle.label_uses.proofs.CaseLemmas.{nat_cases}
-use Rattle.label_uses.specs.Functions.{is_function, IsFunction, IsPart, Holds, part, deep, FunctionOf, SameFunction}
+use Rattle.label_uses.specs.Functions.{IsFunction, IsPart, Holds, part, deep, FunctionOf, SameFunction}
 use Rattle.label_uses.specs.Parents.{at, AreGiven, IsTree, inside, Innermost, AreFilled, AreFunctions}
 use Rattle.gv_base.proofs.Lists.{same_some}
+use Rattle.go_tree.specs.Kinds.{is_function}
 
 none_in : (n : ℕ) → Contains [] n → ⊥
 none_in n (i, h, e) = absurd (omega arith)

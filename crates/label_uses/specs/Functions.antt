@@ -2,15 +2,7 @@
 use Rattle.std.specs.Prelude.{ℕ, ◌≡◌, ◌⊎◌, ◌↔◌, Bool, true, false, List, Some, slice_get}
 use Rattle.std.specs.List.{Contains}
 use Rattle.go_tree.specs.declared.tree.Node.{Node}
-use Rattle.go_tree.specs.declared.tree.NodeKind.{NodeKind}
-use Rattle.go_tree.specs.declared.tree.NodeKind.TheVariants as k
-
--- a declaration of a function or of a method, or a literal
-abbrev pub is_function : NodeKind → Bool
-is_function k.FuncDecl = true
-is_function k.MethodDecl = true
-is_function k.FuncLit = true
-is_function _ = false
+use Rattle.go_tree.specs.Kinds.{is_function}
 
 abbrev pub IsFunction : List Node → ℕ → Type 0
 IsFunction nodes f = (node : Node) × (slice_get nodes f ≡ Some node) × (is_function node.kind ≡ true)

@@ -2,7 +2,8 @@
 use Rattle.std.specs.Prelude.{ℕ, ◌<◌, ◌≤◌, ◌≡◌, ◌⊎◌, ◌↔◌, cond, List, length, get_or}
 use Rattle.std.specs.List.{Contains}
 use Rattle.go_tree.specs.declared.tree.Node.{Node}
-use Rattle.label_uses.specs.Functions.{is_function, IsFunction, IsPart, Holds, FunctionOf, SameFunction}
+use Rattle.go_tree.specs.Kinds.{is_function}
+use Rattle.label_uses.specs.Functions.{IsFunction, IsPart, Holds, FunctionOf, SameFunction}
 
 -- the number of a node: 0 where there is none
 abbrev pub at : List ℕ → ℕ → ℕ

@@ -1,21 +1,11 @@
 //! The innermost function that holds each node.
 ghost use Rattle.std.specs.Prelude.{◌≡◌, IfOk};
-ghost use Rattle.label_uses.specs.Functions.{is_function};
 ghost use Rattle.label_uses.specs.Parents.{at, inside, IsTree, AreFunctions};
 
 use crate::parts::{all_same, give};
-use go_tree::{Node, NodeKind};
+use go_tree::{Node, is_function};
 use gv_base::NoMemory;
 use std::alloc::Global;
-
-fn is_function(kind: NodeKind) -> bool
-    ensures { result ≡ is_function kind }
-{
-    matches!(
-        kind,
-        NodeKind::FuncDecl | NodeKind::MethodDecl | NodeKind::FuncLit
-    )
-}
 
 /// The number of a node, 0 past the nodes.
 pub(crate) fn at(numbers: &[usize], n: usize) -> usize

@@ -1,11 +1,9 @@
 -- The flags of what nodes lead to.
 use Rattle.std.proofs.Common.{◌≡◌, ℕ, suc, ◌<◌, ◌+◌, Bool, true, false, List, [], ◌∷◌, length, get_or, Option, Some, None, refl, sym, ap, ◌∙◌, subst, inl, inr, arith}
+use Rattle.go_tree.proofs.NodeLemmas.{differ}
 use Rattle.node_values.specs.Handed.{AreTops}
 use Rattle.node_values.specs.Flagged.{IsOnly, AreFlagged, Marks}
 use Rattle.node_values.proofs.CaseLemmas.{before_or_at}
-
-pub differ : (b : Bool) → b ≡ false → b ≡ true → ⊥
-differ b p q = cc
 
 pub only_is : (P : ℕ → Type 0) (o : Option ℕ) (t : ℕ) → IsOnly P o → P t → o ≡ Some t
 only_is P None t none holds = absurd (none t holds)

@@ -7,14 +7,15 @@ use Rattle.std.proofs.lemmas.Grind.{get_or_default_zero}
 use Rattle.go_tree.specs.declared.tree.FileTree.{FileTree}
 use Rattle.go_tree.specs.declared.tree.Node.{Node}
 use Rattle.gv_base.proofs.Lists.{same_some}
+use Rattle.go_tree.specs.Kinds.{is_function}
 use Rattle.node_values.specs.Trees.{IsPart, IsTree, Holds, part, deep, IsOfKind, InnermostOf}
 use Rattle.node_values.proofs.CaseLemmas.{before_or_at}
-use Rattle.node_values.proofs.FlagLemmas.{differ}
+use Rattle.go_tree.proofs.NodeLemmas.{differ}
 use Rattle.node_values.proofs.InnerLemmas.{holds_after}
 use Rattle.scopes.specs.Regions.{form_of, is_names, is_params, is_param}
 use Rattle.shadowed_results.specs.declared.results.Stage.{Stage}
 use Rattle.shadowed_results.specs.declared.results.Stage.TheVariants as s
-use Rattle.shadowed_results.specs.Kinds.{is_function, bare_parts, from_last, is_bare, is_bare_at}
+use Rattle.shadowed_results.specs.Kinds.{bare_parts, from_last, is_bare, is_bare_at}
 use Rattle.shadowed_results.specs.Stages.{lists_results, is_first, stage_if, passed, stage_by, AreStages, is_named}
 use Rattle.shadowed_results.specs.Shadows.{IsShadowed, AreShadowed}
 use Rattle.shadowed_results.specs.Early.{is_param_at, any_param, lists_param, names_results, names_results_at, IsIn, IsQuiet, AreQuiet, IsPlain, ArePlain}

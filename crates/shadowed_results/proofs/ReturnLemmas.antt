@@ -6,6 +6,7 @@ use Rattle.gv_base.proofs.Lists.{get_map, map_get, got}
 use Rattle.go_tree.specs.Arena.{arena_of}
 use Rattle.go_tree.specs.Forest.{Forest}
 use Rattle.go_tree.specs.declared.tree.FileTree.{FileTree}
+use Rattle.go_tree.specs.Kinds.{is_function}
 use Rattle.scopes.specs.Regions.{file_names}
 use Rattle.scopes.specs.declared.scope.Named.{Named}
 use Rattle.scopes.specs.declared.visible.Declaration.{Declaration}
@@ -17,7 +18,7 @@ use Rattle.file_uses.specs.Numbers.{name_in, number}
 use Rattle.node_values.specs.Trees.{IsTree, InnermostOf, AreInnermost}
 use Rattle.node_values.proofs.HandLemmas.{below_or_not, default_past}
 use Rattle.shadowed_results.specs.declared.results.Stage.{Stage}
-use Rattle.shadowed_results.specs.Kinds.{is_function, is_body_of, is_bare_at}
+use Rattle.shadowed_results.specs.Kinds.{is_body_of, is_bare_at}
 use Rattle.shadowed_results.specs.Stages.{AreStages}
 use Rattle.shadowed_results.specs.Shadows.{IsShadowed, AreShadowed}
 use Rattle.shadowed_results.specs.Tables.{result_name, AreKept, of_nodes}

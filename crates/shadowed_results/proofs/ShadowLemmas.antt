@@ -7,6 +7,7 @@ use Rattle.go_tree.specs.Arena.{arena_of}
 use Rattle.go_tree.specs.Forest.{Forest}
 use Rattle.go_tree.specs.declared.tree.FileTree.{FileTree}
 use Rattle.go_tree.specs.declared.tree.Node.{Node}
+use Rattle.go_tree.specs.Kinds.{is_function}
 use Rattle.scopes.specs.Regions.{file_names}
 use Rattle.scopes.specs.declared.scope.Named.{Named}
 use Rattle.scopes.specs.declared.visible.Declaration.{Declaration}
@@ -20,7 +21,7 @@ use Rattle.node_values.proofs.HandLemmas.{below_or_not, default_past, one_value}
 use Rattle.node_values.proofs.InnerLemmas.{holds_after, one_innermost}
 use Rattle.shadowed_results.specs.declared.results.Stage.{Stage}
 use Rattle.shadowed_results.specs.declared.results.Stage.TheVariants as s
-use Rattle.shadowed_results.specs.Kinds.{is_function, is_body_of, is_bare_at}
+use Rattle.shadowed_results.specs.Kinds.{is_body_of, is_bare_at}
 use Rattle.shadowed_results.specs.Stages.{AreStages, stage_rule, is_named}
 use Rattle.shadowed_results.specs.Shadows.{IsResult, DeclaresWithin, IsShadowed, AreShadowed}
 use Rattle.shadowed_results.specs.Tables.{unless_blank, result_name, IsOf, KeptBelow, AreKept, of_nodes}

@@ -3,9 +3,10 @@ use Rattle.std.specs.Prelude.{ℕ, ◌<◌, ◌≡◌, ◌⊎◌, ◌&&◌, ◌|
 use Rattle.std.specs.Option.{option_map_or}
 use Rattle.go_tree.specs.declared.tree.Node.{Node}
 use Rattle.go_tree.specs.declared.tree.NodeKind.{NodeKind}
+use Rattle.go_tree.specs.Kinds.{is_function}
 use Rattle.node_values.specs.Trees.{Holds, InnermostOf}
 use Rattle.scopes.specs.Regions.{form_of, is_param}
-use Rattle.shadowed_results.specs.Kinds.{is_function, bare_parts, from_last, is_bare_at}
+use Rattle.shadowed_results.specs.Kinds.{bare_parts, from_last, is_bare_at}
 
 -- n is a parameter with names
 abbrev pub is_param_at : List Node → ℕ → Bool

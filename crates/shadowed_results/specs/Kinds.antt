@@ -5,12 +5,6 @@ use Rattle.go_tree.specs.declared.tree.Node.{Node}
 use Rattle.go_tree.specs.declared.tree.NodeKind.{NodeKind}
 use Rattle.go_tree.specs.declared.tree.NodeKind.TheVariants as k
 
-abbrev pub is_function : NodeKind → Bool
-is_function k.FuncDecl = true
-is_function k.MethodDecl = true
-is_function k.FuncLit = true
-is_function _ = false
-
 -- With so many parts or fewer a function has no results, or no body.
 abbrev pub bare_parts : NodeKind → ℕ
 bare_parts k.FuncDecl = 3

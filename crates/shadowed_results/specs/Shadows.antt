@@ -6,6 +6,7 @@ use Rattle.std.specs.Str.{bytes_eq}
 use Rattle.go_tree.specs.Arena.{arena_of}
 use Rattle.go_tree.specs.Forest.{Forest}
 use Rattle.go_tree.specs.declared.tree.FileTree.{FileTree}
+use Rattle.go_tree.specs.Kinds.{is_function}
 use Rattle.scopes.specs.Regions.{file_names}
 use Rattle.scopes.specs.declared.scope.Named.{Named}
 use Rattle.file_uses.specs.Locals.{IsLocal, HoldsNode}
@@ -13,7 +14,7 @@ use Rattle.file_uses.specs.Numbers.{name_in}
 use Rattle.node_values.specs.Trees.{InnermostOf}
 use Rattle.shadowed_results.specs.declared.results.Stage.{Stage}
 use Rattle.shadowed_results.specs.declared.results.Stage.TheVariants as s
-use Rattle.shadowed_results.specs.Kinds.{is_function, is_body_of, is_bare_at}
+use Rattle.shadowed_results.specs.Kinds.{is_body_of, is_bare_at}
 use Rattle.shadowed_results.specs.Stages.{AreStages, is_named}
 
 -- a result of the function f has the name q at the node r; `_` names none

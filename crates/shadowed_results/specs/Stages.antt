@@ -3,11 +3,12 @@ use Rattle.std.specs.Prelude.{ℕ, ◌==◌, ◌&&◌, nat_lt, cond, if◌then�
 use Rattle.std.specs.Option.{option_map_or}
 use Rattle.go_tree.specs.declared.tree.Node.{Node}
 use Rattle.go_tree.specs.declared.tree.NodeKind.{NodeKind}
+use Rattle.go_tree.specs.Kinds.{is_function}
 use Rattle.node_values.specs.Handed.{IsHandedDown}
 use Rattle.scopes.specs.Regions.{form_of, is_names, is_params, is_param}
 use Rattle.shadowed_results.specs.declared.results.Stage.{Stage}
 use Rattle.shadowed_results.specs.declared.results.Stage.TheVariants as s
-use Rattle.shadowed_results.specs.Kinds.{is_function, bare_parts, from_last}
+use Rattle.shadowed_results.specs.Kinds.{bare_parts, from_last}
 
 -- the part of a function that lists its results, where it has results and a body
 abbrev pub lists_results : NodeKind → List ℕ → ℕ → Bool

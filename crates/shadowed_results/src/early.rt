@@ -1,14 +1,14 @@
 //! Whether a `return` without values stands in a function whose results have names. Where none does, no result is shadowed, and no more is looked at.
 ghost use Rattle.std.specs.Prelude.{◌≡◌, ◌<◌, ◌==◌, ◌&&◌, not, ℕ, false, length};
+ghost use Rattle.go_tree.specs.Kinds.{is_function};
 ghost use Rattle.node_values.specs.Trees.{IsTree};
 ghost use Rattle.scopes.specs.Regions.{form_of, is_param};
-ghost use Rattle.shadowed_results.specs.Kinds.{is_function};
 ghost use Rattle.shadowed_results.specs.Early.{is_param_at, any_param, lists_param, names_results, IsQuiet, IsPlain, ArePlain};
 
 use crate::bare::is_bare;
-use crate::functions::{from_last, is_function};
+use crate::functions::from_last;
 use crate::results::{bare_parts, is_param};
-use go_tree::{Node, NodeKind};
+use go_tree::{Node, NodeKind, is_function};
 use scopes::role;
 
 fn is_param_at(nodes: &[Node], n: u32) -> bool

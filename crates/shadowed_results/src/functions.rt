@@ -1,22 +1,14 @@
 //! The innermost function that holds each node, and its body.
 ghost use Rattle.std.specs.Prelude.{◌≡◌, ◌==◌, ◌≤◌, ◌<◌, ℕ, Option, None, IfOk, length, get_or};
+ghost use Rattle.go_tree.specs.Kinds.{is_function};
 ghost use Rattle.node_values.specs.Parents.{AreParents};
 ghost use Rattle.node_values.specs.Trees.{IsTree, AreInnermost};
-ghost use Rattle.shadowed_results.specs.Kinds.{is_function, from_last, is_body_of};
+ghost use Rattle.shadowed_results.specs.Kinds.{from_last, is_body_of};
 
-use go_tree::{Node, NodeKind};
+use go_tree::{Node, NodeKind, is_function};
 use gv_base::NoMemory;
 use node_values::{Stops, innermost};
 use std::alloc::Global;
-
-pub(crate) fn is_function(kind: NodeKind) -> bool
-    ensures { result ≡ is_function kind }
-{
-    matches!(
-        kind,
-        NodeKind::FuncDecl | NodeKind::MethodDecl | NodeKind::FuncLit
-    )
-}
 
 struct Functions;
 

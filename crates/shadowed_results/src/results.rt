@@ -8,8 +8,8 @@ ghost use Rattle.shadowed_results.specs.declared.results.Stage.TheVariants as s;
 ghost use Rattle.shadowed_results.specs.Kinds.{bare_parts, from_last};
 ghost use Rattle.shadowed_results.specs.Stages.{lists_results, is_first, stage_if, passed, stage_by, stage_rule, AreStages, is_named};
 
-use crate::functions::{from_last, is_function};
-use go_tree::{Node, NodeKind};
+use crate::functions::from_last;
+use go_tree::{Node, NodeKind, is_function};
 use gv_base::NoMemory;
 use node_values::{Hands, hand_down};
 use scopes::{Form, role};

@@ -1,7 +1,7 @@
 use Rattle.std.proofs.Common.{◌≡◌, true, false, Some, refl, sym, ap, ◌∙◌, arith}
 use Rattle.std.proofs.lemmas.Option.{slice_get-get_or}
 use Rattle.go_tree.specs.declared.tree.Node.{Node}
-use Rattle.node_values.proofs.FlagLemmas.{differ}
+use Rattle.go_tree.proofs.NodeLemmas.{differ}
 use Rattle.body_rules.proofs.BareLemmas.{none_bare, all_bare, bare_here}
 use Rattle.body_rules.proofs.branches.has_bare.Goals as goal
 

@@ -1,4 +1,4 @@
-use Rattle.node_values.proofs.FlagLemmas.{differ}
+use Rattle.go_tree.proofs.NodeLemmas.{differ}
 use Rattle.body_rules.proofs.branches.nearest_in.Goals as goal
 
 pub returns-then-not-has_bare : goal.returns-then-not-has_bare

@@ -1,4 +1,4 @@
-use Rattle.node_values.proofs.FlagLemmas.{differ}
+use Rattle.go_tree.proofs.NodeLemmas.{differ}
 use Rattle.std.proofs.Common.{sym, ◌∙◌}
 use Rattle.body_rules.proofs.view.blocks_in.Goals as goal
 

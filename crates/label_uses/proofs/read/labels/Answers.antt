@@ -1,7 +1,8 @@
 use Rattle.std.proofs.Common.{◌≡◌, ℕ, true, false, List, sym, subst}
 use Rattle.go_tree.specs.declared.tree.Node.{Node}
 use Rattle.label_uses.specs.Plain.{NamesAt}
-use Rattle.label_uses.proofs.PlainLemmas.{differ, unlabeled, unjumped}
+use Rattle.go_tree.proofs.NodeLemmas.{differ}
+use Rattle.label_uses.proofs.PlainLemmas.{unlabeled, unjumped}
 use Rattle.label_uses.proofs.ReadLemmas.{none_read}
 use Rattle.label_uses.proofs.read.labels.Goals as goal
 

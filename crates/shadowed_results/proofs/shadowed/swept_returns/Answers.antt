@@ -1,5 +1,6 @@
 use Rattle.std.proofs.Common.{◌≡◌, ◌+◌, ◌<◌, ℕ, Bool, List, Option, length, map, sym, ap, ◌∙◌, subst}
 use Rattle.go_tree.specs.declared.tree.Node.{Node}
+use Rattle.go_tree.specs.Kinds.{is_function}
 use Rattle.node_values.specs.Parents.{AreParents}
 use Rattle.node_values.specs.Trees.{IsTree, AreInnermost}
 use Rattle.scopes.specs.declared.scope.Named.{Named}
@@ -9,7 +10,6 @@ use Rattle.file_uses.specs.Locals.{AreAnsweredBy}
 use Rattle.file_uses.specs.Numbers.{number}
 use Rattle.file_uses.proofs.FileLemmas.{spelled_formed, spelled_tops, spelled_laid, names_are}
 use Rattle.shadowed_results.specs.declared.results.Stage.{Stage}
-use Rattle.shadowed_results.specs.Kinds.{is_function}
 use Rattle.shadowed_results.specs.Stages.{AreStages}
 use Rattle.shadowed_results.specs.Tables.{found, result_name, AreKept, of_nodes}
 use Rattle.shadowed_results.specs.InCode.{turned, or_total, is_flagged, AreValues}
