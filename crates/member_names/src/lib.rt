@@ -4,7 +4,6 @@
 mod named;
 mod naming;
 mod selecting;
-mod ways;
 
 pub use named::{Named, dotted};
 pub use naming::named_at;

@@ -7,8 +7,8 @@ ghost use Rattle.selected_methods.specs.Selected.{is_interface};
 ghost use Rattle.member_names.specs.Named.{dotted, method_named, named_of, method_of, method_led};
 ghost use Rattle.member_names.specs.InCode.{named_in, found_named};
 
-use crate::ways::{base_of, led};
 use gv_base::{NoMemory, Text};
+use selected_methods::{base_of, led};
 use std::alloc::Global;
 use type_model::{Term, TypeId, TypeName, TypeTable};
 

@@ -8,3 +8,4 @@ mod selecting;
 mod ways;
 
 pub use rows::selected_methods;
+pub use ways::{base_of, led};

@@ -9,7 +9,7 @@ ghost use Rattle.selected_methods.specs.Ways.{embedded_of, embedded, led};
 use type_model::{Field, Term, TypeId, TypeTable};
 
 /// A type, or that to which it points.
-pub(crate) fn base_of(t: &TypeTable, of: TypeId) -> TypeId
+pub fn base_of(t: &TypeTable, of: TypeId) -> TypeId
     requires table { IsTable t.now }
     requires within { of.0 < count t.now }
     ensures is { type_at (types_in t.now) result ≡ base (type_at (types_in t.now) of) }
@@ -98,7 +98,7 @@ fn number_at(path: &[u32], i: usize) -> u32
 }
 
 /// To which type the fields of these numbers lead, one after the other.
-pub(crate) fn led(t: &TypeTable, a: TypeId, path: &[u32]) -> Option<TypeId>
+pub fn led(t: &TypeTable, a: TypeId, path: &[u32]) -> Option<TypeId>
     requires table { IsTable t.now }
     requires within { a.0 < count t.now }
     ensures is { option_map (type_at (types_in t.now)) result ≡ led (declarations_in t.now) (type_at (types_in t.now) a) path.now }
