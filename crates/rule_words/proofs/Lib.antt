@@ -1,4 +1,5 @@
 pub mod DeclareLemmas
 mod KeepLemmas
+pub mod ListLemmas
 pub mod PartLemmas
 pub mod SceneLemmas

@@ -1,10 +1,15 @@
 pub mod Answers
 pub mod Asking
 pub mod Declaring
+pub mod Files
 pub mod Good
 pub mod Parts
 pub mod Putting
 pub mod Scenes
 pub mod Steps
+pub mod Told
+pub mod Types
+pub mod Values
 pub mod Wanting
+pub mod Wishes
 pub mod Words
