@@ -1,8 +1,11 @@
+pub mod Again
 pub mod Answers
 pub mod Asking
 pub mod Declaring
 pub mod Files
 pub mod Good
+pub mod Met
+pub mod Nodes
 pub mod Parts
 pub mod Putting
 pub mod Scenes

@@ -15,5 +15,5 @@ unfoldable pub is_shifted : Known → Bool
 is_shifted x = is_of (λ kind. is_untyped kind && is_integer kind) x.of && not (has_value x.value)
 
 -- A shift that isn't constant is assigned with the type that its operand took.
-unfoldable pub assigned_type : Known → GoType
+abbrev pub assigned_type : Known → GoType
 assigned_type x = if is_shifted x then x.last else x.of

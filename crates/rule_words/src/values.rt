@@ -74,7 +74,6 @@ pub fn is_shifted(s: &State, x: Facts) -> bool
 }
 
 /// The type with which an operand is assigned.
-#[tactic(auto, unfolding(crate::specs::Values::assigned_type))]
 pub fn assigned_type(s: &State, x: Facts) -> TypeId
     requires basics { HasBasics s.now.table }
     requires facts { AreFactsOf s.now x }
