@@ -6,19 +6,21 @@ use Rattle.std.proofs.lemmas.Option.{slice_get_within}
 use Rattle.std.proofs.lemmas.Grind.{get_or_default_zero}
 use Rattle.go_tree.specs.declared.tree.FileTree.{FileTree}
 use Rattle.go_tree.specs.declared.tree.Node.{Node}
+use Rattle.go_tree.specs.declared.tree.NodeKind.{NodeKind}
+use Rattle.go_tree.specs.declared.tree.NodeKind.TheVariants as k
 use Rattle.gv_base.proofs.Lists.{same_some}
 use Rattle.go_tree.specs.Kinds.{is_function}
 use Rattle.node_values.specs.Trees.{IsPart, IsTree, Holds, part, deep, IsOfKind, InnermostOf}
 use Rattle.node_values.proofs.CaseLemmas.{before_or_at}
 use Rattle.go_tree.proofs.NodeLemmas.{differ}
-use Rattle.node_values.proofs.InnerLemmas.{holds_after}
+use Rattle.node_values.proofs.InnerLemmas.{holds_after, holds_by}
 use Rattle.scopes.specs.Regions.{form_of, is_names, is_params, is_param}
 use Rattle.shadowed_results.specs.declared.results.Stage.{Stage}
 use Rattle.shadowed_results.specs.declared.results.Stage.TheVariants as s
-use Rattle.shadowed_results.specs.Kinds.{bare_parts, from_last, is_bare, is_bare_at}
+use Rattle.shadowed_results.specs.Kinds.{bare_parts, from_last, is_return, is_nil, is_bare, is_bare_at}
 use Rattle.shadowed_results.specs.Stages.{lists_results, is_first, stage_if, passed, stage_by, AreStages, is_named}
 use Rattle.shadowed_results.specs.Shadows.{IsShadowed, AreShadowed}
-use Rattle.shadowed_results.specs.Early.{is_param_at, any_param, lists_param, names_results, names_results_at, IsIn, IsQuiet, AreQuiet, IsPlain, ArePlain}
+use Rattle.shadowed_results.specs.Early.{is_param_at, any_param, lists_param, names_results, names_results_at, IsIn, ReturnsBare, MayShadow}
 use Rattle.shadowed_results.proofs.ShadowLemmas.{and_split, and_join}
 
 -- ---- results with names
@@ -126,19 +128,11 @@ module _ (nodes : List Node) (is_tree : IsTree nodes) where
 
   -- ---- `return`s without values
 
+  is_bare_is : (m : ℕ) (node : Node) → slice_get nodes m ≡ Some node → is_bare_at nodes m ≡ is_bare node
+  is_bare_is m node there = ap (λ o. option_map_or (λ (x : Node). is_bare x) o false) there
+
   not_bare : (m : ℕ) (node : Node) → slice_get nodes m ≡ Some node → is_bare node ≡ false → is_bare_at nodes m ≡ false
-  not_bare m node there none = ap (λ o. option_map_or (λ (x : Node). is_bare x) o false) there ∙ none
-
-  -- in another function nothing is of this one
-  pub other_quiet : (f m : ℕ) (node : Node) → slice_get nodes m ≡ Some node → is_bare node ≡ false → (not (m == f) && is_function node.kind) ≡ true → IsQuiet nodes f m
-  other_quiet f m node there none is within n inner (inl same) = ap (is_bare_at nodes) same ∙ not_bare m node there none
-  other_quiet f m node there none is within n inner (inr held) = absurd (by within) where
-    split : (not (m == f) ≡ true) × (is_function node.kind ≡ true)
-    split = and_split (not (m == f)) (is_function node.kind) is
-
-    by : IsIn nodes f m → ⊥
-    by (inl same) = differ (not (m == f)) (ap not (eq-eqb m f same)) split.0
-    by (inr below) = no_loop f m below (inner.innermost m (node, there, split.1) held)
+  not_bare m node there none = is_bare_is m node there ∙ none
 
   -- what a node holds is one of its parts, or stands in one
   by_part : (m n : ℕ) → Holds nodes m n → (p : ℕ) × IsPart nodes m p × IsIn nodes p n
@@ -148,39 +142,179 @@ module _ (nodes : List Node) (is_tree : IsTree nodes) where
     from (p, first, inl same) = (p, first, inr (part (subst (λ (x : ℕ). IsPart nodes x n) same has)))
     from (p, first, inr deeper) = (p, first, inr (deep deeper has))
 
-  pub all_quiet : (f m few : ℕ) (node : Node) → slice_get nodes m ≡ Some node → is_bare node ≡ false → length node.parts ≤ few → AreQuiet nodes f node.parts few → IsQuiet nodes f m
-  all_quiet f m few node there none enough quiet within n inner (inl same) = ap (is_bare_at nodes) same ∙ not_bare m node there none
-  all_quiet f m few node there none enough quiet within n inner (inr held) = from (by_part m n held) where
-    below : (p : ℕ) → IsPart nodes m p → IsIn nodes f m → IsIn nodes f p
-    below p has (inl same) = inr (part (subst (λ (x : ℕ). IsPart nodes x p) same has))
-    below p has (inr above) = inr (deep above has)
+  -- what stands in a part stands in the node
+  under : (m p n : ℕ) → IsPart nodes m p → Holds nodes p n → Holds nodes m n
+  under m p n has (part is) = deep (part has) is
+  under m p n has (deep {q = q} held is) = deep (under m p q has held) is
 
-    from : (p : ℕ) × IsPart nodes m p × IsIn nodes p n → is_bare_at nodes n ≡ false
+  in_part : (m p n : ℕ) → IsPart nodes m p → IsIn nodes p n → Holds nodes m n
+  in_part m p n has (inl same) = part (subst (λ (x : ℕ). IsPart nodes m x) (sym same) has)
+  in_part m p n has (inr held) = under m p n has held
+
+  -- of two nodes that hold a third one holds the other
+  chained : (a b n : ℕ) → Holds nodes a n → Holds nodes b n → (a ≡ b) ⊎ (Holds nodes a b ⊎ Holds nodes b a)
+  chained a b n held (part is) = elim (holds_by nodes is_tree a b n is held) [
+    | inl same ↦ inl same
+    | inr above ↦ inr (inl above)
+  ]
+  chained a b n held (deep {q = q} below is) = elim (holds_by nodes is_tree a q n is held) [
+    | inl same ↦ inr (inr (subst (λ (x : ℕ). Holds nodes b x) (sym same) below))
+    | inr above ↦ chained a b q above below
+  ]
+
+  -- a part of m isn't held by what m holds
+  apart_from : (m p g : ℕ) → IsPart nodes m p → Holds nodes m g → Holds nodes g p → ⊥
+  apart_from m p g has below above = no_loop m g below (holds_by nodes is_tree g m p has above)
+
+  -- what m holds and what holds something of a part p of it stands in p
+  between : (m p g n : ℕ) → IsPart nodes m p → IsIn nodes p n → Holds nodes m g → Holds nodes g n → IsIn nodes p g
+  between m p g n has (inl same) below held = absurd (apart_from m p g has below (subst (λ (x : ℕ). Holds nodes g x) same held))
+  between m p g n has (inr inside) below held = elim (chained g p n held inside) [
+    | inl same ↦ inl same
+    | inr (inl above) ↦ absurd (apart_from m p g has below above)
+    | inr (inr under) ↦ inr under
+  ]
+
+  -- ---- in a node
+
+  pub bare_here : (f m : ℕ) (node : Node) → slice_get nodes m ≡ Some node → is_bare node ≡ true → ReturnsBare nodes f m m
+  bare_here f m node there is = record {
+    bare = is_bare_is m node there ∙ is;
+    within = inl refl;
+    own = λ g kind inside held. absurd (elim inside [
+      | inl same ↦ no_loop g m held (inl (sym same))
+      | inr below ↦ no_loop g m held (inr below)
+    ]);
+  }
+
+  -- in another function nothing is of this one
+  pub other_none : (f m : ℕ) (node : Node) → slice_get nodes m ≡ Some node → is_bare node ≡ false → (not (m == f) && is_function node.kind) ≡ true → (n : ℕ) → ReturnsBare nodes f m n → ⊥
+  other_none f m node there none is n r = by r.within where
+    split : (not (m == f) ≡ true) × (is_function node.kind ≡ true)
+    split = and_split (not (m == f)) (is_function node.kind) is
+
+    by : IsIn nodes m n → ⊥
+    by (inl same) = differ (is_bare_at nodes n) (ap (is_bare_at nodes) same ∙ not_bare m node there none) r.bare
+    by (inr held) = differ (not (m == f)) (ap not (eq-eqb m f (r.own m (node, there, split.1) (inl refl) held))) split.0
+
+  -- a function that is no other is this one
+  this_one : (m f : ℕ) (is : Bool) → (not (m == f) && is) ≡ false → is ≡ true → m ≡ f
+  this_one m f is none e = by (m == f) refl none where
+    by : (same : Bool) → (m == f) ≡ same → (not same && is) ≡ false → m ≡ f
+    by true q none = eqb→eq m f (subst (λ (x : Bool). T x) (sym q) tt)
+    by false q none = absurd (differ is none e)
+
+  pub bare_part : (f m p n : ℕ) (node : Node) → slice_get nodes m ≡ Some node → (not (m == f) && is_function node.kind) ≡ false → IsPart nodes m p → ReturnsBare nodes f p n
+      → ReturnsBare nodes f m n
+  bare_part f m p n node there none has r = record {
+    bare = r.bare;
+    within = inr (in_part m p n has r.within);
+    own = λ g kind inside held. elim inside [
+      | inl same ↦ same ∙ this_one m f (is_function node.kind) none
+          (ap (λ (x : Node). is_function x.kind) (same_some (slice_get nodes m) node kind.0 there (ap (slice_get nodes) (sym same) ∙ kind.1)) ∙ kind.2)
+      | inr below ↦ r.own g kind (between m p g n has r.within below held) held
+    ];
+  }
+
+  -- in the first few parts there is none
+  abbrev pub NoneBare : ℕ → List ℕ → ℕ → Type 0
+  NoneBare f parts few = (j n : ℕ) → j < few → ReturnsBare nodes f (get_or parts j 0) n → ⊥
+
+  pub none_bare_more : (f i : ℕ) (parts : List ℕ) → ((n : ℕ) → ReturnsBare nodes f (get_or parts i 0) n → ⊥) → NoneBare f parts i → NoneBare f parts (i + 1)
+  none_bare_more f i parts one before j n low = elim (before_or_at j i low) [
+    | inl less ↦ before j n less
+    | inr same ↦ subst (λ (x : ℕ). ReturnsBare nodes f (get_or parts x 0) n → ⊥) (sym same) (one n)
+  ]
+
+  pub none_bare : (f m few : ℕ) (node : Node) → slice_get nodes m ≡ Some node → is_bare node ≡ false → length node.parts ≤ few → NoneBare f node.parts few → (n : ℕ) → ReturnsBare nodes f m n → ⊥
+  none_bare f m few node there none enough before n r = by r.within where
+    from : (p : ℕ) × IsPart nodes m p × IsIn nodes p n → ⊥
     from (p, (other, other_there, (k, low, at)), inside) =
         let alike : other.parts ≡ node.parts = ap (λ (x : Node). x.parts) (same_some (slice_get nodes m) other node other_there there) in
         let short : k < length node.parts = subst (λ (l : List ℕ). k < length l) alike low in
         let at_k : get_or node.parts k 0 ≡ p = ap (λ (l : List ℕ). get_or l k 0) (sym alike) ∙ (sym (get_or_default_zero other.parts k p low) ∙ at) in
-        subst (λ (x : ℕ). IsQuiet nodes f x) at_k (quiet k (omega arith)) (below p (other, other_there, (k, low, at)) within) n inner inside
+        before k n (omega arith)
+        (subst (λ (x : ℕ). ReturnsBare nodes f x n) (sym at_k) (record {
+          bare = r.bare;
+          within = inside;
+          own = λ g kind in_p held. r.own g kind (inr (in_part m p g (other, other_there, (k, low, at)) in_p)) held;
+        }))
 
-  pub quiet_more : (f i : ℕ) (parts : List ℕ) → IsQuiet nodes f (get_or parts i 0) → AreQuiet nodes f parts i → AreQuiet nodes f parts (i + 1)
-  quiet_more f i parts one before j low = elim (before_or_at j i low) [
-    | inl less ↦ before j less
-    | inr same ↦ subst (λ (x : ℕ). IsQuiet nodes f (get_or parts x 0)) (sym same) one
+    by : IsIn nodes m n → ⊥
+    by (inl same) = differ (is_bare_at nodes n) (ap (is_bare_at nodes) same ∙ not_bare m node there none) r.bare
+    by (inr held) = from (by_part m n held)
+
+  -- ---- in a function
+
+  bare_kind : (node : Node) → is_bare node ≡ true → is_return node.kind ≡ true
+  bare_kind node is = (and_split (is_return node.kind) (is_nil node.parts) is).0
+
+  no_function : (kind : NodeKind) → is_return kind ≡ true → is_function kind ≡ true → ⊥
+  no_function k.Return is function = cc
+  no_function _ is function = cc
+
+  pub may_shadow : (f n : ℕ) (node : Node) → slice_get nodes f ≡ Some node → (is_function node.kind && names_results nodes node.kind node.parts) ≡ true → ReturnsBare nodes f f n
+      → MayShadow nodes f n
+  may_shadow f n node there is r = record {
+    named = ap (λ o. option_map_or (λ (x : Node). names_results nodes x.kind x.parts) o false) there ∙ split.1;
+    function = record {
+      kind = (node, there, split.0);
+      holds = held;
+      innermost = λ g kind above. elim (chained g f n above held) [
+        | inl same ↦ inl same
+        | inr (inl over) ↦ inr over
+        | inr (inr below) ↦ inl (r.own g kind (inr below) above)
+      ];
+    };
+    bare = r.bare;
+  } where
+    split : (is_function node.kind ≡ true) × (names_results nodes node.kind node.parts ≡ true)
+    split = and_split (is_function node.kind) (names_results nodes node.kind node.parts) is
+
+    held_by : IsIn nodes f n → Holds nodes f n
+    held_by (inl same) = absurd (no_function node.kind (bare_kind node (sym (is_bare_is f node there) ∙ (ap (is_bare_at nodes) (sym same) ∙ r.bare))) split.0)
+    held_by (inr held) = held
+
+    held : Holds nodes f n
+    held = held_by r.within
+
+  pub shadow_bare : (f n : ℕ) → MayShadow nodes f n → ReturnsBare nodes f f n
+  shadow_bare f n may = record {
+    bare = may.bare;
+    within = inr may.function.holds;
+    own = λ g kind inside held. elim (may.function.innermost g kind held) [
+      | inl same ↦ same
+      | inr above ↦ elim inside [
+        | inl same ↦ same
+        | inr below ↦ absurd (no_loop f g below (inr above))
+      ]
+    ];
+  }
+
+  pub no_shadow : (f n : ℕ) (node : Node) → slice_get nodes f ≡ Some node → (is_function node.kind && names_results nodes node.kind node.parts) ≡ false → MayShadow nodes f n → ⊥
+  no_shadow f n node there none may = differ (is_function node.kind && names_results nodes node.kind node.parts) none
+      (and_join (is_function node.kind) (names_results nodes node.kind node.parts)
+      (ap (λ (x : Node). is_function x.kind) (same_some (slice_get nodes f) node may.function.kind.0 there may.function.kind.1) ∙ may.function.kind.2)
+      (ap (λ o. option_map_or (λ (x : Node). names_results nodes x.kind x.parts) o false) (sym there) ∙ may.named))
+
+  -- ---- in the first few functions
+
+  abbrev pub NoneMay : ℕ → Type 0
+  NoneMay few = (f n : ℕ) → f < few → MayShadow nodes f n → ⊥
+
+  pub none_may_more : (f : ℕ) → ((n : ℕ) → MayShadow nodes f n → ⊥) → NoneMay f → NoneMay (f + 1)
+  none_may_more f one before g n low = elim (before_or_at g f low) [
+    | inl less ↦ before g n less
+    | inr same ↦ subst (λ (x : ℕ). MayShadow nodes x n → ⊥) (sym same) (one n)
   ]
 
-  pub plain_quiet : (f : ℕ) → IsQuiet nodes f f → IsPlain nodes f
-  plain_quiet f quiet named n inner = quiet (inl refl) n inner (inr inner.holds)
-
-  pub plain_other : (f : ℕ) (node : Node) → slice_get nodes f ≡ Some node → (is_function node.kind && names_results nodes node.kind node.parts) ≡ false → IsPlain nodes f
-  plain_other f node there none named n inner = absurd (differ (is_function node.kind && names_results nodes node.kind node.parts) none
-      (and_join (is_function node.kind) (names_results nodes node.kind node.parts)
-      (ap (λ (x : Node). is_function x.kind) (same_some (slice_get nodes f) node inner.kind.0 there inner.kind.1) ∙ inner.kind.2)
-      (ap (λ o. option_map_or (λ (x : Node). names_results nodes x.kind x.parts) o false) (sym there) ∙ named)))
+  pub none_may : (few : ℕ) → length nodes ≤ few → NoneMay few → (f n : ℕ) → MayShadow nodes f n → ⊥
+  none_may few past before f n may = before f n (let low = slice_get_within nodes f may.function.kind.0 may.function.kind.1 in omega arith) may
 
 -- where nothing may be shadowed, nothing is
-pub none_shadowed : (bytes : List ℕ) (tree : FileTree) → IsTree tree.nodes → ArePlain tree.nodes (length tree.nodes) → (flags : List Bool) → flags ≡ replicate (length tree.nodes) false
+pub none_shadowed : (bytes : List ℕ) (tree : FileTree) → IsTree tree.nodes → ((f n : ℕ) → MayShadow tree.nodes f n → ⊥) → (flags : List Bool) → flags ≡ replicate (length tree.nodes) false
     → AreShadowed bytes tree flags
-none_shadowed bytes tree is_tree plain flags is = subst (λ (l : List Bool). AreShadowed bytes tree l) (sym is) record {
+none_shadowed bytes tree is_tree none flags is = subst (λ (l : List Bool). AreShadowed bytes tree l) (sym is) record {
   size = length-replicate (length tree.nodes) false;
   each = λ n low. (
     λ e. absurd (differ (get_or (replicate (length tree.nodes) false) n false) (get_or-replicate (length tree.nodes) n false false low) e),
@@ -188,6 +322,8 @@ none_shadowed bytes tree is_tree plain flags is = subst (λ (l : List Bool). Are
   );
 } where
   refuted : (n : ℕ) → IsShadowed bytes tree n → ⊥
-  refuted n sh =
-      differ (is_bare_at tree.nodes n) (plain sh.f (slice_get_within tree.nodes sh.f sh.function.kind.0 sh.function.kind.1)
-      (results_named tree.nodes is_tree sh.result.stages sh.result.are sh.f sh.r sh.result.function sh.result.stands) n sh.function) sh.bare
+  refuted n sh = none sh.f n record {
+    named = results_named tree.nodes is_tree sh.result.stages sh.result.are sh.f sh.r sh.result.function sh.result.stands;
+    function = sh.function;
+    bare = sh.bare;
+  }

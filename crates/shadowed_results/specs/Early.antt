@@ -1,10 +1,10 @@
 -- Functions whose results have names, and the `return`s without values in them.
-use Rattle.std.specs.Prelude.{ℕ, ◌<◌, ◌≡◌, ◌⊎◌, ◌&&◌, ◌||◌, nat_lt, Bool, true, false, List, [], ◌∷◌, length, get_or, slice_get}
+use Rattle.std.specs.Prelude.{ℕ, ◌≡◌, ◌⊎◌, ◌&&◌, ◌||◌, nat_lt, Bool, true, false, List, [], ◌∷◌, length, slice_get}
 use Rattle.std.specs.Option.{option_map_or}
 use Rattle.go_tree.specs.declared.tree.Node.{Node}
 use Rattle.go_tree.specs.declared.tree.NodeKind.{NodeKind}
 use Rattle.go_tree.specs.Kinds.{is_function}
-use Rattle.node_values.specs.Trees.{Holds, InnermostOf}
+use Rattle.node_values.specs.Trees.{Holds, IsOfKind, InnermostOf}
 use Rattle.scopes.specs.Regions.{form_of, is_param}
 use Rattle.shadowed_results.specs.Kinds.{bare_parts, from_last, is_bare_at}
 
@@ -31,18 +31,14 @@ names_results_at nodes f = option_map_or (λ (node : Node). names_results nodes 
 abbrev pub IsIn : List Node → ℕ → ℕ → Type 0
 IsIn nodes b m = (m ≡ b) ⊎ Holds nodes b m
 
--- In the node m of the function f nothing of this function is a `return` without values.
-abbrev pub IsQuiet : List Node → ℕ → ℕ → Type 0
-IsQuiet nodes f m = IsIn nodes f m → (n : ℕ) → InnermostOf is_function nodes n f → IsIn nodes m n → is_bare_at nodes n ≡ false
+-- n is a `return` without values in the node m, and what functions there are in m round it are no others than f.
+pub record ReturnsBare (nodes : List Node) (f m n : ℕ) : Type 0 where
+  pub bare : is_bare_at nodes n ≡ true
+  pub within : IsIn nodes m n
+  pub own : (g : ℕ) → IsOfKind is_function nodes g → IsIn nodes m g → Holds nodes g n → g ≡ f
 
--- nor in the first few of some parts
-abbrev pub AreQuiet : List Node → ℕ → List ℕ → ℕ → Type 0
-AreQuiet nodes f parts few = (j : ℕ) → j < few → IsQuiet nodes f (get_or parts j 0)
-
--- If the results of the function f have names, nothing of it is a `return` without values.
-abbrev pub IsPlain : List Node → ℕ → Type 0
-IsPlain nodes f = names_results_at nodes f ≡ true → (n : ℕ) → InnermostOf is_function nodes n f → is_bare_at nodes n ≡ false
-
--- so is each of the first few nodes
-abbrev pub ArePlain : List Node → ℕ → Type 0
-ArePlain nodes few = (f : ℕ) → f < few → IsPlain nodes f
+-- The results of the function f have names, and n is a `return` without values of it.
+pub record MayShadow (nodes : List Node) (f n : ℕ) : Type 0 where
+  pub named : names_results_at nodes f ≡ true
+  pub function : InnermostOf is_function nodes n f
+  pub bare : is_bare_at nodes n ≡ true

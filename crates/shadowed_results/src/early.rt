@@ -1,9 +1,9 @@
 //! Whether a `return` without values stands in a function whose results have names. Where none does, no result is shadowed, and no more is looked at.
-ghost use Rattle.std.specs.Prelude.{◌≡◌, ◌<◌, ◌==◌, ◌&&◌, not, ℕ, false, length};
+ghost use Rattle.std.specs.Prelude.{◌≡◌, ◌<◌, ◌==◌, ◌&&◌, ◌↔◌, not, ℕ, true, length};
 ghost use Rattle.go_tree.specs.Kinds.{is_function};
 ghost use Rattle.node_values.specs.Trees.{IsTree};
 ghost use Rattle.scopes.specs.Regions.{form_of, is_param};
-ghost use Rattle.shadowed_results.specs.Early.{is_param_at, any_param, lists_param, names_results, IsQuiet, IsPlain, ArePlain};
+ghost use Rattle.shadowed_results.specs.Early.{is_param_at, any_param, lists_param, names_results, ReturnsBare, MayShadow};
 
 use crate::bare::is_bare;
 use crate::functions::from_last;
@@ -66,7 +66,7 @@ fn is_other(kind: NodeKind, f: usize, n: usize) -> bool
 fn returns_bare(nodes: &[Node], f: usize, n: usize) -> bool
     requires tree { IsTree nodes.now }
     requires node { n < length nodes.now }
-    ensures { result ≡ false → IsQuiet nodes.now f n }
+    ensures { (result ≡ true) ↔ ((r : ℕ) × ReturnsBare nodes.now f n r) }
 {
     let node = &nodes[n];
     if is_bare(node) {
@@ -97,7 +97,7 @@ fn is_named(nodes: &[Node], node: &Node) -> bool
 fn may_shadow(nodes: &[Node], f: usize) -> bool
     requires tree { IsTree nodes.now }
     requires node { f < length nodes.now }
-    ensures { result ≡ false → IsPlain nodes.now f }
+    ensures { (result ≡ true) ↔ ((n : ℕ) × MayShadow nodes.now f n) }
 {
     if is_named(nodes, &nodes[f]) {
         return returns_bare(nodes, f, f);
@@ -108,7 +108,7 @@ fn may_shadow(nodes: &[Node], f: usize) -> bool
 /// Whether one of the nodes is such a function.
 pub(crate) fn any_may_shadow(nodes: &[Node]) -> bool
     requires tree { IsTree nodes.now }
-    ensures { result ≡ false → ArePlain nodes.now (length nodes.now) }
+    ensures { (result ≡ true) ↔ ((f : ℕ) × (n : ℕ) × MayShadow nodes.now f n) }
 {
     for f in 0..nodes.len() {
         if may_shadow(nodes, f) {
