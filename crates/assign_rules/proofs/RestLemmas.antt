@@ -1,8 +1,5 @@
 -- Values that are assigned one after the other, until one isn't.
-use Rattle.std.proofs.Common.{◌≡◌, ℕ, ◌+◌, ◌<◌, ◌≤◌, zero, suc, Bool, true, false, List, [], ◌∷◌, drop, length, map, slice_get, Some, None, refl, sym, ap, subst, arith}
-use Rattle.std.proofs.lemmas.List.Elements.{All-tail}
-use Rattle.type_model.specs.declared.term.TypeId.{TypeId}
-use Rattle.type_model.specs.GoTypes.{AreBelow}
+use Rattle.std.proofs.Common.{◌≡◌, ℕ, ◌+◌, ◌≤◌, zero, suc, Bool, true, false, List, [], ◌∷◌, drop, length, map, slice_get, Some, None, refl, sym, ap, subst, arith}
 use Rattle.type_questions.specs.declared.reached.Found.{Found}
 use Rattle.type_questions.specs.declared.reached.Found.TheVariants as f
 use Rattle.type_questions.specs.declared.reached.Reached.{Reached}
@@ -13,7 +10,7 @@ use Rattle.typed_marks.specs.declared.item.Item.{Item}
 use Rattle.typed_marks.specs.declared.state.State.{State}
 use Rattle.unit_read.specs.declared.subject.Subject.{Subject}
 use Rattle.rule_words.specs.Asking.{Asks}
-use Rattle.assign_rules.specs.InCode.{ends}
+use Rattle.rule_words.specs.Told.{ends}
 use Rattle.assign_rules.specs.Sharing.{then_others, all_from}
 
 -- ---- lists
@@ -33,12 +30,6 @@ pub none_past : {X : Type 0} (xs : List X) (i : ℕ) → slice_get xs i ≡ None
 none_past [] i is = omega arith
 none_past (x ∷ xs) zero is = absurd cc
 none_past (x ∷ xs) (suc i) is = let low : length xs ≤ i = none_past xs i is in omega arith
-
--- what holds of all holds of each
-pub below_at : (n : ℕ) (ids : List TypeId) (i : ℕ) (id : TypeId) → slice_get ids i ≡ Some id → AreBelow n ids → id.0 < n
-below_at n [] i id is below = absurd cc
-below_at n (x ∷ ids) zero id is below = let same : x ≡ id = cc in subst (λ (y : TypeId). y.0 < n) same (below 0 x (omega arith))
-below_at n (x ∷ ids) (suc i) id is below = below_at n ids i id is (All-tail (λ (y : TypeId). y.0 < n) x ids below)
 
 pub mapped_at : {X Y : Type 0} (g : X → Y) (xs : List X) (i : ℕ) (x : X) → slice_get xs i ≡ Some x → slice_get (map g xs) i ≡ Some (g x)
 mapped_at g [] i x is = absurd cc

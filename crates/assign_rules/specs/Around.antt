@@ -8,15 +8,11 @@ use Rattle.go_tree.specs.declared.tree.NodeRef.{NodeRef}
 use Rattle.go_tree.specs.Kinds.{is_function}
 use Rattle.object_order.specs.Spots.{place}
 use Rattle.package_objects.specs.Declares.{kind_at}
-use Rattle.unit_read.specs.declared.passage.Passage.{Passage}
 use Rattle.unit_read.specs.declared.place.Place.{Place}
-use Rattle.unit_read.specs.Units.{Unit, nodes_at, name_at, place_at, object_at, passage_at, is_blank}
-use Rattle.variable_rules.specs.Forms.{is_paren, bare}
+use Rattle.unit_read.specs.Units.{Unit, nodes_at, name_at, place_at, object_at, is_blank}
+use Rattle.variable_rules.specs.Forms.{bare}
 use Rattle.assign_rules.specs.Kinds.{is_name, is_bind}
-
--- the file of a block
-abbrev pub file_of : Unit → ℕ → ℕ
-file_of u block = option_map_or (λ (p : Passage). p.file) (passage_at u block) 0
+use Rattle.rule_words.specs.Nodes.{deepest, is_paren}
 
 -- ---- blanks
 
@@ -26,10 +22,6 @@ is_blank_name u file nodes n = is_name (kind_at nodes n) && is_blank (name_at u 
 -- `_`, parentheses aside
 abbrev pub is_ignored : Unit → ℕ → List Node → ℕ → Bool
 is_ignored u file nodes n = is_blank_name u file nodes (bare nodes n)
-
--- nodes nest no deeper
-unfoldable pub deepest : ℕ
-deepest = 256
 
 -- ---- parentheses around a node
 

@@ -21,11 +21,13 @@ use Rattle.unit_read.specs.Units.{Unit, nodes_at, name_at, object_at, is_blank}
 use Rattle.rule_words.specs.Asking.{Rule, mark_ask, under_ask}
 use Rattle.rule_words.specs.Good.{known_told, given}
 use Rattle.rule_words.specs.Words.{need_type}
+use Rattle.rule_words.specs.Types.{is_of}
+use Rattle.rule_words.specs.Wishes.{free_operand, nothing_wanted, wants}
 use Rattle.variable_rules.specs.Forms.{name_count, value_count, shared_value}
 use Rattle.variable_rules.specs.Several.{given_to}
 use Rattle.assign_rules.specs.Around.{is_ignored}
 use Rattle.assign_rules.specs.Selecting.{is_bad_case}
-use Rattle.assign_rules.specs.Words.{holds, settled_if, placed_good, is_of, wants, nothing_wanted, free_operand, loose_operand}
+use Rattle.assign_rules.specs.Words.{holds, settled_if, placed_good, loose_operand}
 
 -- ---- E72: "each left-hand side operand must be addressable, a map index expression, or (for = assignments only) the blank identifier"
 

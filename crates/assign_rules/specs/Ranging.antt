@@ -20,11 +20,12 @@ use Rattle.unit_read.specs.declared.place.Place.{Place}
 use Rattle.unit_read.specs.Units.{Unit, nodes_at}
 use Rattle.rule_words.specs.Asking.{Asks, Rule, mark_ask, under_ask}
 use Rattle.rule_words.specs.Good.{given}
+use Rattle.rule_words.specs.Wishes.{free_operand, nothing_wanted}
 use Rattle.typed_tree.specs.declared.rule.TheConstants.{NO_NEW_VARIABLE, CANNOT_RANGE, TOO_MANY_RANGE_VARIABLES}
 use Rattle.assign_rules.specs.Assigning.{has_new}
 use Rattle.assign_rules.specs.Single.{typed_fault, unless, fitting}
 use Rattle.assign_rules.specs.Sharing.{one_assigned, then_others, shared_told}
-use Rattle.assign_rules.specs.Words.{held_if, placed_good, variable, nothing_wanted, free_operand}
+use Rattle.assign_rules.specs.Words.{held_if, placed_good, variable}
 
 -- ---- the table of the section
 

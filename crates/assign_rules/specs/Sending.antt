@@ -15,8 +15,9 @@ use Rattle.unit_read.specs.Units.{Unit}
 use Rattle.rule_words.specs.Asking.{Rule, mark_ask, mark_under, under_ask}
 use Rattle.rule_words.specs.Good.{given}
 use Rattle.rule_words.specs.Words.{need_type}
+use Rattle.rule_words.specs.Wishes.{free_operand, nothing_wanted, wants}
 use Rattle.typed_tree.specs.declared.rule.TheConstants.{CANNOT_SEND}
-use Rattle.assign_rules.specs.Words.{holds, wants, nothing_wanted, free_operand, loose_operand}
+use Rattle.assign_rules.specs.Words.{holds, loose_operand}
 
 -- "the channel direction must permit send operations"
 abbrev pub sent_along : Dir → GoType → Option GoType

@@ -19,10 +19,11 @@ use Rattle.type_answers.specs.Asked.{assignable_ask, need_told}
 use Rattle.unit_read.specs.Units.{Unit}
 use Rattle.rule_words.specs.Asking.{Asks, Rule, mark_ask, under_ask}
 use Rattle.rule_words.specs.Good.{known_told}
+use Rattle.rule_words.specs.Types.{takes_default}
 use Rattle.variable_rules.specs.Forms.{name_count}
 use Rattle.variable_rules.specs.Several.{given_to}
 use Rattle.assign_rules.specs.Assigning.{takes_any}
-use Rattle.assign_rules.specs.Words.{placed_good, takes_default}
+use Rattle.assign_rules.specs.Words.{placed_good}
 
 -- ---- what is given
 

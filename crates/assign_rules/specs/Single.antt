@@ -12,7 +12,7 @@ use Rattle.type_questions.specs.declared.reached.Reached.{Reached}
 use Rattle.type_questions.specs.declared.reached.Reached.TheVariants.{Got, Lost}
 use Rattle.type_answers.specs.Asked.{assignable_ask, need_told}
 use Rattle.rule_words.specs.Asking.{Asks, Rule}
-use Rattle.assign_rules.specs.Words.{is_of}
+use Rattle.rule_words.specs.Types.{is_of}
 
 -- E24 where no value stands, E25 where several do; nil is one
 abbrev pub value_fault : Mode → Option RuleNumber

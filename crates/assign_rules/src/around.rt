@@ -1,34 +1,16 @@
 //! What is around a node.
-ghost use Rattle.unit_read.specs.Units.{is_blank};
 ghost use Rattle.std.specs.Prelude.{◌≡◌, option_and_then};
 ghost use Rattle.unit_read.specs.Subjects.{unit_of, IsRead};
-ghost use Rattle.assign_rules.specs.Around.{file_of, deepest, is_blank_name, is_ignored, outside_by, outside, outermost, is_function_at, nearest, function_of, branch, around_of, bound_in, switch_of, clause_in, switched_by, clause_of};
+ghost use Rattle.assign_rules.specs.Around.{is_blank_name, is_ignored, outside_by, outside, outermost, is_function_at, nearest, function_of, branch, around_of, bound_in, switch_of, clause_in, switched_by, clause_of};
 
 use crate::kinds::{is_bind, is_name};
 use go_tree::{Node, NodeRef, Object, is_function};
 use package_objects::kind_of;
+use rule_words::{deepest, is_blank, is_paren};
 use unit_read::{Place, Subject};
-use variable_rules::{bare, is_paren};
-
-/// The file of a block.
-pub fn file_of(u: &Subject, block: usize) -> u32
-    requires { IsRead u.now }
-    ensures { result ≡ file_of (unit_of u.now) block }
-{
-    match u.passage_at(block) {
-        Some(passage) => passage.file,
-        None => 0,
-    }
-}
+use variable_rules::bare;
 
 // ---- blanks
-
-/// A blank.
-pub fn is_blank(name: &[u8]) -> bool
-    ensures { result ≡ is_blank name.now }
-{
-    name == b"_".as_slice()
-}
 
 fn is_blank_name(u: &Subject, file: u32, nodes: &[Node], n: u32) -> bool
     ensures { result ≡ is_blank_name (unit_of u.now) file nodes.now n }
@@ -41,14 +23,6 @@ pub fn is_ignored(u: &Subject, file: u32, nodes: &[Node], n: u32) -> bool
     ensures { result ≡ is_ignored (unit_of u.now) file nodes.now n }
 {
     is_blank_name(u, file, nodes, bare(nodes, n))
-}
-
-/// Nodes nest no deeper.
-#[tactic(auto, unfolding(crate::specs::Around::deepest))]
-fn deepest() -> usize
-    ensures { result ≡ deepest }
-{
-    256
 }
 
 // ---- functions

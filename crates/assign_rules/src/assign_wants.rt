@@ -9,11 +9,12 @@ ghost use Rattle.assign_rules.specs.Assigning.{takes_any, target_wants, target_t
 
 use crate::around::is_ignored;
 use crate::assigning::is_used;
-use crate::words::{loose_operand, nothing_wanted, operand};
+use crate::words::loose_operand;
 use go_tree::{Node, NodeKind};
 use package_objects::{item, part_of};
 use rule_words::good::known;
 use rule_words::look;
+use rule_words::wishes::{nothing_wanted, operand};
 use type_questions::Found;
 use typed_marks::{Facts, Item, Mark, Stage, State, Want};
 use unit_read::{Place, Subject};

@@ -11,14 +11,15 @@ ghost use Rattle.rule_words.specs.Steps.{step_in, IsStepOf};
 ghost use Rattle.assign_rules.specs.Assigning.{is_target_mode, target_known, target_rule, is_used, is_new, is_new_at, any_new, has_new, shared_mark, shared_told, shared_rule, equal_rule, counted_rule, assign_rule, define_rule, counts_under, counts_told, counts_known, counts_placed, counts_part, step_rule};
 ghost use Rattle.assign_rules.specs.Words.{placed_good};
 
-use crate::around::{is_blank, is_ignored};
+use crate::around::is_ignored;
 use crate::selecting::is_bad_case;
 use crate::sharing::gives;
-use crate::words::{holds, is_integer, settled_if};
+use crate::words::{holds, settled_if};
 use go_tree::{Node, NodeRef};
 use package_objects::{count, item, part_of};
 use rule_words::good::{broken, good, known, silent};
-use rule_words::{Answer, Step, look, under_of};
+use rule_words::types::is_integer;
+use rule_words::{Answer, Step, is_blank, look, under_of};
 use type_model::TypeId;
 use type_questions::Found;
 use typed_marks::{Facts, Mark, Stage, State};

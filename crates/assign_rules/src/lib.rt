@@ -11,7 +11,6 @@ mod range_names;
 pub mod range_operand;
 pub mod range_rules;
 mod ranging;
-mod refused;
 pub mod selecting;
 pub mod sending;
 pub mod several;

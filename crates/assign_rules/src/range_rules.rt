@@ -12,10 +12,11 @@ ghost use Rattle.assign_rules.specs.Ranging.{left_count, operand_slot, permitted
 
 use crate::assigning::has_new;
 use crate::ranging::{Ranged, Ranging, ranging_of};
-use crate::words::{held_if, nothing_wanted, operand};
+use crate::words::held_if;
 use go_tree::{Node, NodeKind};
 use package_objects::{count, part_of};
 use rule_words::good::{broken, known, silent};
+use rule_words::wishes::{nothing_wanted, operand};
 use rule_words::{Step, look};
 use type_questions::Found;
 use typed_marks::{Facts, Mark, Stage, State, Want};

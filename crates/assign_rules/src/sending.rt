@@ -9,10 +9,11 @@ ghost use Rattle.rule_words.specs.Scenes.{IsScene, told_by, IfFound, said, IsMar
 ghost use Rattle.rule_words.specs.Steps.{step_in, IsStepOf};
 ghost use Rattle.assign_rules.specs.Sending.{sent_along, element_of, send_under, send_told, send_known, send_placed, send_part, send_rule, element_wants, sent_told, sent_by, sent_wants, sent_beside, value_wants, send_wants};
 
-use crate::words::{holds, loose_operand, nothing_wanted, operand};
+use crate::words::{holds, loose_operand};
 use go_tree::Node;
 use package_objects::part_of;
 use rule_words::good::{broken, known, silent};
+use rule_words::wishes::{nothing_wanted, operand};
 use rule_words::{Step, look, mark_under, under_of};
 use type_model::{Dir, Term, TypeId};
 use type_questions::Found;

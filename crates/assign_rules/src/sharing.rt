@@ -15,13 +15,12 @@ ghost use Rattle.variable_rules.specs.InCode.{types_of};
 ghost use Rattle.assign_rules.specs.Sharing.{given_as, given_type, assigned_in, type_assigned, target_assigned, aimed_assigned, one_assigned, nth_assigned, all_assigned, nth_returned, all_returned};
 
 use crate::assign_wants::takes_any;
-use crate::refused::ends;
-use crate::words::takes_default;
 use go_tree::{Node, NodeKind};
 use gv_base::{Kind, NoMemory};
 use package_objects::{count, item, part_of};
 use rule_words::good::{basic_type, known};
-use rule_words::{look, under_of};
+use rule_words::types::{nth, takes_default};
+use rule_words::{ends, look, under_of};
 use std::alloc::Global;
 use type_answers::{Relation, ask_operand};
 use type_model::TypeId;
@@ -322,23 +321,6 @@ fn nth_returned(
         }
         None => Ok(Found::Is(Reached::Got(true))),
     }
-}
-
-fn id_nth(types: &[TypeId], i: usize) -> TypeId
-    requires { i < length types.now }
-    ensures { slice_get types.now i ≡ Some result }
-{
-    types[i]
-}
-
-fn nth(s: &State, types: &[TypeId], i: usize) -> TypeId
-    requires low { i < length types.now }
-    requires below { AreBelow (type_count s.now.table) types.now }
-    ensures is { slice_get types.now i ≡ Some result }
-    ensures within { IsTypeOf s.now result }
-{
-    let _ = s;
-    id_nth(types, i)
 }
 
 fn each_returned(

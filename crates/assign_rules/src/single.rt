@@ -1,18 +1,17 @@
 //! A single value in a place that makes more of it.
 ghost use Rattle.std.specs.Prelude.{◌≡◌, IfOk};
-ghost use Rattle.typed_marks.specs.Meanings.{constant_at};
 ghost use Rattle.type_answers.specs.Coming.{FoundBy};
 ghost use Rattle.rule_words.specs.Good.{known_of, AreFactsOf};
 ghost use Rattle.rule_words.specs.Scenes.{IsScene};
 ghost use Rattle.assign_rules.specs.Single.{value_fault, typed_fault, fits_by, fits_ask};
-ghost use Rattle.std.specs.Option.{option_copied};
 
-use crate::words::is_untyped;
-use gv_base::{Const, NoMemory};
+use gv_base::NoMemory;
+use rule_words::types::is_untyped;
+use rule_words::values::value_at;
 use std::alloc::Global;
 use type_answers::{Relation, ask_operand};
 use type_questions::{Found, Reached};
-use typed_marks::{ConstId, Facts, Item, State};
+use typed_marks::{Facts, Item, State};
 use typed_tree::{Mode, NIL_WITHOUT_A_TYPE, NOT_A_VALUE, Rule, SEVERAL_VALUES};
 use unit_read::Subject;
 
@@ -51,15 +50,6 @@ pub fn typed_fault(mode: Mode) -> Option<Rule>
         Mode::Builtin => Some(NOT_A_VALUE),
         Mode::Package => Some(NOT_A_VALUE),
         Mode::Many => Some(SEVERAL_VALUES),
-    }
-}
-
-fn value_at(s: &State, value: Option<ConstId>) -> Option<&Const>
-    ensures { option_copied result ≡ constant_at s.now.constants.items value }
-{
-    match value {
-        Some(id) => s.constants.get(id.0 as usize),
-        None => None,
     }
 }
 

@@ -1,10 +1,6 @@
 //! Words of the rules of statements.
-ghost use Rattle.std.specs.Prelude.{◌≡◌, true, option_map};
+ghost use Rattle.std.specs.Prelude.{◌≡◌, true};
 ghost use Rattle.mark_walk.specs.Telling.{tell, Says};
-ghost use Rattle.type_model.specs.GoTypes.{type_of};
-ghost use Rattle.type_model.specs.Tables.{types_in};
-ghost use Rattle.type_rel.specs.Kinds.{is_integer, is_untyped};
-ghost use Rattle.type_rel.specs.Terms.{kind_of};
 ghost use Rattle.typed_tree.specs.Basics.{HasBasics};
 ghost use Rattle.typed_tree.specs.Operands.{is_boolean};
 ghost use Rattle.typed_marks.specs.States.{so_far};
@@ -13,19 +9,21 @@ ghost use Rattle.typed_marks.specs.Meanings.{Right};
 ghost use Rattle.rule_words.specs.Answers.{is_plain};
 ghost use Rattle.rule_words.specs.Good.{known_of, AreFactsOf};
 ghost use Rattle.rule_words.specs.Words.{nothing};
-ghost use Rattle.rule_words.specs.Scenes.{IsScene, told_by, IfFound, said, IsMarkOf, type_in, IsTypeOf, MayBeTypeOf};
+ghost use Rattle.rule_words.specs.Scenes.{IsScene, told_by, IfFound, said, IsMarkOf, type_in, IsTypeOf};
 ghost use Rattle.rule_words.specs.Steps.{step_in, IsStepOf};
-ghost use Rattle.assign_rules.specs.InCode.{wish_of, IsWishOf};
-ghost use Rattle.assign_rules.specs.Words.{holds, held_if, settled, settled_if, variable, is_nil_mode, is_type_mode, is_builtin_mode, is_of, is_interface, takes_default, default_of, own_default, loose_operand};
+ghost use Rattle.rule_words.specs.Types.{is_of};
+ghost use Rattle.rule_words.specs.Wishes.{IsWishOf, wish_of};
+ghost use Rattle.assign_rules.specs.Words.{holds, held_if, settled, settled_if, variable, is_builtin_mode, own_default, loose_operand};
 
 use gv_base::Kind;
 use rule_words::good::{basic_type, broken, good, known};
-use rule_words::{Step, default_kind, look};
-use type_model::{Term, TypeId};
+use rule_words::types::kind_of;
+use rule_words::wishes::{default_of, operand};
+use rule_words::{Step, look};
+use type_model::TypeId;
 use type_questions::Found;
-use type_rel::{has_integers, is_free};
 use typed_marks::{Facts, Item, Mark, Stage, State, Want};
-use typed_tree::{BAD_SELECT_CASE, Mode, Rule, Want as Demand};
+use typed_tree::{BAD_SELECT_CASE, Mode, Rule};
 use unit_read::Subject;
 
 fn nothing_facts(s: &State) -> Facts
@@ -104,18 +102,6 @@ pub fn variable(s: &State, of: TypeId) -> Step
 
 // ---- modes
 
-pub fn is_nil_mode(mode: Mode) -> bool
-    ensures { result ≡ is_nil_mode mode }
-{
-    matches!(mode, Mode::Nil)
-}
-
-pub fn is_type_mode(mode: Mode) -> bool
-    ensures { result ≡ is_type_mode mode }
-{
-    matches!(mode, Mode::TypeName)
-}
-
 pub fn is_builtin_mode(mode: Mode) -> bool
     ensures { result ≡ is_builtin_mode mode }
 {
@@ -124,59 +110,6 @@ pub fn is_builtin_mode(mode: Mode) -> bool
 
 // ---- types
 
-fn kind_in(s: &State, term: &Term) -> Option<Kind>
-    ensures { result ≡ kind_of (type_of (types_in s.now.table) term.now) }
-{
-    let _ = s;
-    match term {
-        Term::Basic(kind) => Some(*kind),
-        Term::Defined(_) => None,
-        Term::Pointer(_) => None,
-        Term::Slice(_) => None,
-        Term::Array(_, _) => None,
-        Term::Map(_, _) => None,
-        Term::Chan(_, _) => None,
-        Term::Func(_) => None,
-        Term::Struct(_) => None,
-        Term::Interface(_) => None,
-    }
-}
-
-/// The kind of a basic type.
-pub fn kind_of(s: &State, t: TypeId) -> Option<Kind>
-    requires basics { HasBasics s.now.table }
-    requires within { IsTypeOf s.now t }
-    ensures { result ≡ kind_of (type_in s.now t) }
-{
-    kind_in(s, s.table.term(t))
-}
-
-/// An integer type.
-#[tactic(auto, unfolding(crate::specs::Words::is_of))]
-pub fn is_integer(s: &State, t: TypeId) -> bool
-    requires basics { HasBasics s.now.table }
-    requires within { IsTypeOf s.now t }
-    ensures { result ≡ is_of is_integer (type_in s.now t) }
-{
-    match kind_of(s, t) {
-        Some(kind) => has_integers(kind),
-        None => false,
-    }
-}
-
-/// An untyped type.
-#[tactic(auto, unfolding(crate::specs::Words::is_of))]
-pub fn is_untyped(s: &State, t: TypeId) -> bool
-    requires basics { HasBasics s.now.table }
-    requires within { IsTypeOf s.now t }
-    ensures { result ≡ is_of is_untyped (type_in s.now t) }
-{
-    match kind_of(s, t) {
-        Some(kind) => is_free(kind),
-        None => false,
-    }
-}
-
 fn has_truths(kind: Kind) -> bool
     ensures { result ≡ is_boolean kind }
 {
@@ -184,7 +117,7 @@ fn has_truths(kind: Kind) -> bool
 }
 
 /// A boolean type.
-#[tactic(auto, unfolding(crate::specs::Words::is_of))]
+#[tactic(auto, unfolding(rule_words::specs::Types::is_of))]
 pub fn is_boolean(s: &State, t: TypeId) -> bool
     requires basics { HasBasics s.now.table }
     requires within { IsTypeOf s.now t }
@@ -196,66 +129,7 @@ pub fn is_boolean(s: &State, t: TypeId) -> bool
     }
 }
 
-/// An interface type.
-#[tactic(auto, unfolding(crate::specs::Words::is_interface))]
-pub fn is_interface(s: &State, t: TypeId) -> bool
-    requires basics { HasBasics s.now.table }
-    requires within { IsTypeOf s.now t }
-    ensures { result ≡ is_interface (type_in s.now t) }
-{
-    match s.table.term(t) {
-        Term::Basic(_) => false,
-        Term::Defined(_) => false,
-        Term::Pointer(_) => false,
-        Term::Slice(_) => false,
-        Term::Array(_, _) => false,
-        Term::Map(_, _) => false,
-        Term::Chan(_, _) => false,
-        Term::Func(_) => false,
-        Term::Struct(_) => false,
-        Term::Interface(_) => true,
-    }
-}
-
-/// An untyped operand takes its default type where this underlying type is wanted.
-#[tactic(auto, unfolding(crate::specs::Words::takes_default))]
-pub fn takes_default(s: &State, under: Option<TypeId>) -> bool
-    requires basics { HasBasics s.now.table }
-    requires under { MayBeTypeOf s.now under }
-    ensures { result ≡ takes_default (option_map (type_in s.now) under) }
-{
-    match under {
-        Some(under) => is_interface(s, under),
-        None => false,
-    }
-}
-
 // ---- wishes
-
-pub fn nothing_wanted() -> Mark
-    ensures { result ≡ Mark.Wants Demand.Nothing Want.Free }
-{
-    Mark::Wants(Demand::Nothing, Want::Free)
-}
-
-/// A single value.
-pub fn operand(want: Want) -> Mark
-    ensures { result ≡ Mark.Wants Demand.Operand want }
-{
-    Mark::Wants(Demand::Operand, want)
-}
-
-fn default_of(s: &State, of: TypeId) -> Want
-    requires basics { HasBasics s.now.table }
-    requires of { IsTypeOf s.now of }
-    ensures is { wish_of s.now result ≡ default_of (type_in s.now of) }
-    ensures within { IsWishOf s.now result }
-{
-    match kind_of(s, of) {
-        Some(kind) => Want::Takes(basic_type(s, default_kind(kind))),
-        None => Want::Free,
-    }
-}
 
 fn own_default(s: &State, own: Mark) -> Want
     requires basics { HasBasics s.now.table }

@@ -1,4 +1,3 @@
-pub mod BindLaws
 mod LevelLemmas
 pub mod ListLemmas
 mod QuietLemmas

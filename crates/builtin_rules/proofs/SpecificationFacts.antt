@@ -9,10 +9,10 @@ use Rattle.typed_tree.specs.declared.mark.Mode.TheVariants as mode
 use Rattle.typed_marks.specs.Meanings.{Meaning, Right}
 use Rattle.rule_words.specs.Parts.{Part, no_part}
 use Rattle.rule_words.specs.Answers.{constant}
+use Rattle.rule_words.specs.Types.{counted, is_of}
 use Rattle.builtin_rules.specs.declared.lines.Builtin.TheVariants as b
 use Rattle.builtin_rules.specs.Builtins.{line_of, takes_as_many, may_spread}
 use Rattle.builtin_rules.specs.Musts.{is_slice, is_map, is_chan, has_length, has_capacity, is_sender, copies, argument_at, one_size, two_sizes, is_made}
-use Rattle.builtin_rules.specs.Types.{is_of, counted}
 
 abbrev text : GoType
 text = BasicType kind.Text

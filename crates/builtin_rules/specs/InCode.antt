@@ -3,28 +3,14 @@ use Rattle.std.specs.Prelude.{Bool, true, not, length}
 use Rattle.type_questions.specs.declared.reached.Found.{Found}
 use Rattle.type_questions.specs.declared.reached.Found.TheVariants as f
 use Rattle.typed_marks.specs.declared.item.Item.{Item}
-use Rattle.typed_marks.specs.declared.mark.Facts.{Facts}
-use Rattle.typed_marks.specs.declared.mark.Want.{Want}
 use Rattle.typed_marks.specs.declared.state.State.{State}
-use Rattle.typed_marks.specs.Meanings.{Known, Wish, known_in, wish_in, constant_at, AreWithin, IsValueWithin, IsWantWithin}
+use Rattle.typed_marks.specs.Meanings.{constant_at, IsValueWithin}
 use Rattle.type_model.specs.declared.term.Signature.{Signature}
 use Rattle.type_model.specs.GoTypes.{GoSignature, signature_of, SignatureBelow}
 use Rattle.type_model.specs.Tables.{types_in, count}
 use Rattle.rule_words.specs.Scenes.{type_in, IsTypeOf}
 use Rattle.builtin_rules.specs.declared.arguments.Argument.{Argument as InCode}
 use Rattle.builtin_rules.specs.Musts.{Argument}
-
-abbrev pub wish_of : State → Want → Wish
-wish_of s want = wish_in (types_in s.table) want
-
-abbrev pub IsWishOf : State → Want → Type 0
-IsWishOf s want = IsWantWithin (count s.table) want
-
-abbrev pub facts_in : State → Facts → Known
-facts_in s x = known_in (types_in s.table) s.constants.items x
-
-abbrev pub AreFactsOf : State → Facts → Type 0
-AreFactsOf s x = AreWithin (count s.table) (length s.constants.items) x
 
 abbrev pub signature_by : State → Signature → GoSignature
 signature_by s sig = signature_of (types_in s.table) sig

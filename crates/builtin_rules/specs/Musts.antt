@@ -16,9 +16,10 @@ use Rattle.mark_walk.specs.Asks.{done, bind}
 use Rattle.unit_read.specs.Units.{Unit}
 use Rattle.rule_words.specs.Asking.{Asks, under_ask}
 use Rattle.rule_words.specs.Parts.{Part, part_at}
+use Rattle.rule_words.specs.Types.{counted, is_of}
 use Rattle.builtin_rules.specs.declared.lines.Must.{Must}
 use Rattle.builtin_rules.specs.declared.lines.Must.TheVariants as must
-use Rattle.builtin_rules.specs.Types.{is_of, is_byte_kind, counted}
+use Rattle.builtin_rules.specs.Types.{is_byte_kind}
 
 -- ---- the first argument
 

@@ -10,14 +10,11 @@ use Rattle.object_order.specs.Spots.{place}
 use Rattle.package_objects.specs.Declares.{part}
 use Rattle.unit_read.specs.Units.{Unit, nodes_at, object_at}
 use Rattle.rule_words.specs.Parts.{Part}
+use Rattle.rule_words.specs.Nodes.{is_paren}
 use Rattle.builtin_rules.specs.declared.lines.Builtin.{Builtin}
 use Rattle.builtin_rules.specs.Builtins.{builtin_of}
 
 -- ---- parentheses aside
-
-abbrev pub is_paren : NodeKind → Bool
-is_paren k.Paren = true
-is_paren _ = false
 
 -- what stands directly between parentheses
 abbrev pub between : Node → Option ℕ

@@ -1,35 +1,12 @@
 -- Types as calls look at them (Go 1.17, "Types").
-use Rattle.std.specs.Prelude.{ℕ, Bool, true, false, if◌then◌else◌, Option, Some, None}
-use Rattle.std.specs.Option.{option_map_or}
+use Rattle.std.specs.Prelude.{ℕ, Bool, true, false, Option, Some, None}
 use Rattle.gv_base.specs.declared.constant.Kind.{Kind}
 use Rattle.gv_base.specs.declared.constant.Kind.TheVariants as kind
 use Rattle.type_model.specs.GoTypes.{GoType, GoSignature, BasicType, DefinedType, PointerTo, SliceOf, ArrayOf, MapOf, ChanOf, FuncOf, StructOf, InterfaceOf}
-use Rattle.type_rel.specs.Kinds.{is_untyped}
-use Rattle.type_rel.specs.Terms.{kind_of}
-
--- a basic type whose kind passes a test
-unfoldable pub is_of : (Kind → Bool) → GoType → Bool
-is_of passes of = option_map_or passes (kind_of of) false
 
 abbrev pub is_byte_kind : Kind → Bool
 is_byte_kind kind.Uint8 = true
 is_byte_kind _ = false
-
-unfoldable pub is_interface : GoType → Bool
-is_interface (InterfaceOf methods) = true
-is_interface (BasicType kind) = false
-is_interface (DefinedType name) = false
-is_interface (PointerTo of) = false
-is_interface (SliceOf of) = false
-is_interface (ArrayOf size of) = false
-is_interface (MapOf key of) = false
-is_interface (ChanOf direction of) = false
-is_interface (FuncOf of) = false
-is_interface (StructOf fields) = false
-
--- an untyped operand takes its default type where this underlying type is wanted
-unfoldable pub takes_default : Option GoType → Bool
-takes_default under = option_map_or is_interface under false
 
 -- the signature of a function type
 abbrev pub signature_in : GoType → Option GoSignature
@@ -71,7 +48,3 @@ size_of (StructOf fields) = None
 size_of (InterfaceOf methods) = None
 
 -- ---- operands
-
--- the type at which an operand counts: an untyped one by its own, a typed one by its underlying type
-unfoldable pub counted : GoType → GoType → GoType
-counted of under = if is_of is_untyped of then of else under

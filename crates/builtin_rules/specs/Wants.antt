@@ -11,14 +11,16 @@ use Rattle.typed_tree.specs.declared.place.Want.TheVariants as demand
 use Rattle.typed_marks.specs.Meanings.{Wish, Free, Takes, Assigned, Meaning}
 use Rattle.unit_read.specs.Units.{Unit}
 use Rattle.rule_words.specs.Asking.{Rule, mark_under}
+use Rattle.rule_words.specs.Types.{is_of}
+use Rattle.rule_words.specs.Wishes.{before, by_type, fitting_default, free_operand, nothing_wanted, wants}
 use Rattle.builtin_rules.specs.declared.lines.Builtin.{Builtin}
 use Rattle.builtin_rules.specs.declared.lines.Taking.{Taking}
 use Rattle.builtin_rules.specs.declared.lines.Taking.TheVariants as takes
 use Rattle.builtin_rules.specs.Builtins.{line_of, taken_at}
 use Rattle.builtin_rules.specs.Musts.{is_byte}
 use Rattle.builtin_rules.specs.Named.{is_spread}
-use Rattle.builtin_rules.specs.Types.{is_of, key_of}
-use Rattle.builtin_rules.specs.Wishes.{wants, nothing_wanted, free_operand, fitting_default, by_type, assigned_to, before}
+use Rattle.builtin_rules.specs.Types.{key_of}
+use Rattle.builtin_rules.specs.Wishes.{assigned_to}
 
 -- `panic` takes a value of any type, also nil
 unfoldable pub any_wish : Meaning → Wish

@@ -1,12 +1,14 @@
 //! Good arguments of built-in functions.
 ghost use Rattle.std.specs.Prelude.{◌≡◌, ◌&&◌, length, nat_le, option_map, IfSome};
 ghost use Rattle.rule_words.specs.Scenes.{type_in, MayBeTypeOf, part_in, parts_in, IsSeenOf, AreSeenOf};
-ghost use Rattle.builtin_rules.specs.InCode.{facts_in, AreFactsOf, argument_in, IsArgumentOf};
+ghost use Rattle.rule_words.specs.Good.{AreFactsOf, known_of};
+ghost use Rattle.builtin_rules.specs.InCode.{argument_in, IsArgumentOf};
 ghost use Rattle.builtin_rules.specs.Musts.{known_argument, good_argument, argument_at, is_there, is_fine, are_known};
 
 use crate::lines::Must;
-use crate::parts::{part_at, part_count};
+use crate::parts::part_count;
 use rule_words::Seen;
+use rule_words::good::part_at;
 use type_model::TypeId;
 use typed_marks::{ConstId, Facts, Mark, State};
 
@@ -21,7 +23,7 @@ pub struct Argument {
 fn known_argument(s: &State, under: Option<TypeId>, x: Facts) -> Option<Argument>
     requires under { MayBeTypeOf s.now under }
     requires facts { AreFactsOf s.now x }
-    ensures is { option_map (argument_in s.now) result ≡ known_argument (option_map (type_in s.now) under) (facts_in s.now x) }
+    ensures is { option_map (argument_in s.now) result ≡ known_argument (option_map (type_in s.now) under) (known_of s.now x) }
     ensures within { IfSome result (IsArgumentOf s.now) }
 {
     let _ = s;

@@ -16,11 +16,11 @@ use crate::arguments::{are_known, argument_at};
 use crate::lengths::{int_value, judge_length};
 use crate::lines::{Builtin, Gives, Line, line_of, may_spread, takes_as_many};
 use crate::musts::{is_met, shape};
-use crate::parts::{argument_count, part_at, says, silent, wrong};
-use crate::types::basic_type;
+use crate::parts::{argument_count, says};
 use crate::values::{nothing, value_of};
 use go_tree::Node;
 use gv_base::{Kind, Row};
+use rule_words::good::{basic_type, broken, part_at, silent};
 use rule_words::{Answer, Seen, Step};
 use std::alloc::Global;
 use type_model::{Term, TypeId};
@@ -120,7 +120,7 @@ fn judge_met(
 {
     // E55
     if !is_met(s, l.must, parts, of) {
-        return wrong(BAD_BUILTIN_ARGUMENT);
+        return broken(BAD_BUILTIN_ARGUMENT);
     }
     judge_given(alloc, u, s, block, file, node, parts, of, l.gives)
 }
@@ -161,7 +161,7 @@ fn first_under(s: &State, parts: &[Seen]) -> TypeId
     }
 }
 
-#[tactic(auto, using(crate::proofs::BindLaws::says_bind, crate::proofs::BindLaws::waits_bind), unfolding(crate::specs::Builtin::known_rule))]
+#[tactic(auto, using(rule_words::proofs::BindLaws::says_bind, rule_words::proofs::BindLaws::waits_bind), unfolding(crate::specs::Builtin::known_rule))]
 fn judge_known(
     alloc: Global,
     u: &Subject,
@@ -226,7 +226,7 @@ fn judge_counted(
 {
     // E51
     if !takes_as_many(l, spread, argument_count(s, parts)) {
-        return wrong(WRONG_NUMBER_OF_ARGUMENTS);
+        return broken(WRONG_NUMBER_OF_ARGUMENTS);
     }
     judge_arguments(alloc, u, s, block, file, node, parts, l)
 }
@@ -250,7 +250,7 @@ fn judge_line(
 {
     // E52
     if !may_spread(l, spread) {
-        return wrong(BAD_DOTS);
+        return broken(BAD_DOTS);
     }
     judge_counted(alloc, u, s, block, file, node, parts, spread, l)
 }

@@ -11,13 +11,14 @@ ghost use Rattle.rule_words.specs.Steps.{step_in, IsStepOf};
 ghost use Rattle.builtin_rules.specs.Builtin.{int_value, int_constant, sized, array_count, count_of_type, text_count, constant_count, argument_text, count_rule};
 
 use crate::arguments::argument_at;
-use crate::parts::value_at;
 use crate::quiet::quiet;
-use crate::types::{basic_type, size_of};
+use crate::types::size_of;
 use crate::values::value_of;
 use go_tree::Node;
 use gv_base::{Const, Kind};
 use package_objects::part_of;
+use rule_words::good::basic_type;
+use rule_words::values::value_at;
 use rule_words::{Answer, Seen, Step};
 use type_model::TypeId;
 use type_questions::Found;
@@ -54,7 +55,7 @@ fn sized(s: &State, n: u64, quiet: bool) -> Answer
     }
 }
 
-#[tactic(auto, using(crate::proofs::BindLaws::says_bind, crate::proofs::BindLaws::waits_bind))]
+#[tactic(auto, using(rule_words::proofs::BindLaws::says_bind, rule_words::proofs::BindLaws::waits_bind))]
 fn array_quiet(u: &Subject, s: &State, block: usize, file: u32, at: u32, n: u64) -> Step
     requires scene { IsScene u.now s.now }
     ensures is { step_in s.now result ≡ tell (so_far s.now) (array_count (unit_of u.now) block file (Some at) n) }

@@ -57,7 +57,7 @@ fn pointed(s: &State, of: TypeId, under: Option<TypeId>) -> Option<TypeId>
     }
 }
 
-#[tactic(auto, using(crate::proofs::BindLaws::says_bind, crate::proofs::BindLaws::waits_bind))]
+#[tactic(auto, using(rule_words::proofs::BindLaws::says_bind, rule_words::proofs::BindLaws::waits_bind))]
 fn measured_base(u: &Subject, s: &State, of: TypeId, base: TypeId) -> Found<Option<TypeId>, Item>
     requires scene { IsScene u.now s.now }
     requires of { IsTypeOf s.now of }

@@ -1,23 +1,15 @@
 //! Which built-in function a call names (Go 1.17, "Calls", "Built-in functions").
 ghost use Rattle.std.specs.Prelude.{◌≡◌};
 ghost use Rattle.unit_read.specs.Subjects.{unit_of, IsRead};
-ghost use Rattle.builtin_rules.specs.Named.{is_paren, between, between_at, bare, inner, is_call, is_spread, builtin_object, builtin_named, builtin_in};
+ghost use Rattle.builtin_rules.specs.Named.{between, between_at, bare, inner, is_call, is_spread, builtin_object, builtin_named, builtin_in};
 
 use crate::lines::{Builtin, builtin_of};
 use go_tree::{Node, NodeKind, NodeRef, Object};
 use package_objects::{node_of, part_of};
+use rule_words::is_paren;
 use unit_read::Subject;
 
 // ---- parentheses aside
-
-fn is_paren(kind: NodeKind) -> bool
-    ensures { result ≡ is_paren kind }
-{
-    match kind {
-        NodeKind::Paren => true,
-        _ => false,
-    }
-}
 
 fn between(node: &Node) -> Option<u32>
     ensures { result ≡ between node.now }

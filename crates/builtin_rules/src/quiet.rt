@@ -13,9 +13,9 @@ use const_tree::unary_operator;
 use go_tree::{FileTree, Node, NodeKind, NodeRef};
 use package_objects::part_of;
 use rule_words::look;
+use rule_words::modes::{is_constant, is_type};
 use type_questions::Found;
 use typed_marks::{Item, Mark, Stage, State};
-use typed_tree::Mode;
 use unit_read::Subject;
 
 /// What a node may have that isn't quiet.
@@ -32,42 +32,6 @@ pub enum Noise {
 }
 
 // ---- marks
-
-fn is_type(mode: Mode) -> bool
-    ensures { result ≡ is_type mode }
-{
-    match mode {
-        Mode::TypeName => true,
-        Mode::NoValue => false,
-        Mode::Constant => false,
-        Mode::Variable => false,
-        Mode::MapIndex => false,
-        Mode::Value => false,
-        Mode::CommaOk => false,
-        Mode::Nil => false,
-        Mode::Builtin => false,
-        Mode::Package => false,
-        Mode::Many => false,
-    }
-}
-
-fn is_constant(mode: Mode) -> bool
-    ensures { result ≡ is_constant mode }
-{
-    match mode {
-        Mode::Constant => true,
-        Mode::NoValue => false,
-        Mode::TypeName => false,
-        Mode::Variable => false,
-        Mode::MapIndex => false,
-        Mode::Value => false,
-        Mode::CommaOk => false,
-        Mode::Nil => false,
-        Mode::Builtin => false,
-        Mode::Package => false,
-        Mode::Many => false,
-    }
-}
 
 fn is_good_type(s: &State, m: Mark) -> bool
     ensures { result ≡ is_good_as is_type (said s.now m) }
@@ -159,7 +123,7 @@ fn mark_before(u: &Subject, s: &State, block: usize, n: Option<u32>) -> Found<Ma
     }
 }
 
-#[tactic(auto, using(crate::proofs::BindLaws::says_bind, crate::proofs::BindLaws::waits_bind))]
+#[tactic(auto, using(rule_words::proofs::BindLaws::says_bind, rule_words::proofs::BindLaws::waits_bind))]
 fn converts(u: &Subject, s: &State, block: usize, node: &Node) -> Found<bool, Item>
     requires scene { IsScene u.now s.now }
     ensures { told_by (λ b. b) result ≡ tell (so_far s.now) (converts_ask (unit_of u.now) block node.now) }
@@ -183,7 +147,7 @@ fn unless_constant(u: &Subject, s: &State, block: usize, node: &Node, m: Mark) -
 }
 
 /// Whether a call is a constant or a conversion.
-#[tactic(auto, using(crate::proofs::BindLaws::says_bind, crate::proofs::BindLaws::waits_bind), unfolding(crate::specs::Quiet::is_no_call_ask))]
+#[tactic(auto, using(rule_words::proofs::BindLaws::says_bind, rule_words::proofs::BindLaws::waits_bind), unfolding(crate::specs::Quiet::is_no_call_ask))]
 fn is_no_call(u: &Subject, s: &State, block: usize, n: u32, node: &Node) -> Found<bool, Item>
     requires scene { IsScene u.now s.now }
     ensures { told_by (λ b. b) result ≡ tell (so_far s.now) (is_no_call_ask (unit_of u.now) block n node.now) }
@@ -194,7 +158,7 @@ fn is_no_call(u: &Subject, s: &State, block: usize, n: u32, node: &Node) -> Foun
     }
 }
 
-#[tactic(auto, using(crate::proofs::BindLaws::says_bind, crate::proofs::BindLaws::waits_bind), unfolding(crate::specs::Quiet::is_no_receive_ask))]
+#[tactic(auto, using(rule_words::proofs::BindLaws::says_bind, rule_words::proofs::BindLaws::waits_bind), unfolding(crate::specs::Quiet::is_no_receive_ask))]
 fn is_no_receive(u: &Subject, s: &State, block: usize, n: u32) -> Found<bool, Item>
     requires scene { IsScene u.now s.now }
     ensures { told_by (λ b. b) result ≡ tell (so_far s.now) (is_no_receive_ask (unit_of u.now) block n) }
@@ -213,7 +177,7 @@ fn unless_loud(quiet: bool) -> Option<bool>
     if quiet { None } else { Some(false) }
 }
 
-#[tactic(auto, using(crate::proofs::BindLaws::says_bind, crate::proofs::BindLaws::waits_bind))]
+#[tactic(auto, using(rule_words::proofs::BindLaws::says_bind, rule_words::proofs::BindLaws::waits_bind))]
 fn call_heard(
     u: &Subject,
     s: &State,
@@ -230,7 +194,7 @@ fn call_heard(
     }
 }
 
-#[tactic(auto, using(crate::proofs::BindLaws::says_bind, crate::proofs::BindLaws::waits_bind))]
+#[tactic(auto, using(rule_words::proofs::BindLaws::says_bind, rule_words::proofs::BindLaws::waits_bind))]
 fn receive_heard(u: &Subject, s: &State, block: usize, n: u32) -> Found<Option<bool>, Item>
     requires scene { IsScene u.now s.now }
     ensures { told_by (λ b. b) result ≡ tell (so_far s.now) (bind (is_no_receive_ask (unit_of u.now) block n) heard_whole) }

@@ -10,11 +10,12 @@ ghost use Rattle.builtin_rules.specs.InCode.{argument_in, IsArgumentOf};
 ghost use Rattle.builtin_rules.specs.Musts.{is_size, one_size, size_value, is_below, below_value, are_in_order, two_sizes, slice_sizes, other_sizes, is_filled, is_made};
 
 use crate::arguments::{Argument, argument_at};
-use crate::parts::{part_count, value_at};
+use crate::parts::part_count;
 use crate::shapes::{is_filled, is_slice};
-use crate::types::{counted, is_integer};
 use gv_base::{Const, Kind, fits};
 use rule_words::Seen;
+use rule_words::types::{counted, is_integer};
+use rule_words::values::value_at;
 use type_model::TypeId;
 use typed_marks::{ConstId, State};
 

@@ -1,20 +1,21 @@
 //! Types as calls look at them (Go 1.17, "Types").
 ghost use Rattle.std.specs.Prelude.{◌≡◌, option_map, IfSome};
 ghost use Rattle.std.specs.Option.{option_copied};
-ghost use Rattle.type_model.specs.GoTypes.{BasicType, IsOver, type_of};
+ghost use Rattle.type_model.specs.GoTypes.{IsOver, type_of};
 ghost use Rattle.type_model.specs.Tables.{types_in, count};
-ghost use Rattle.type_rel.specs.Kinds.{is_untyped, is_integer, is_string};
-ghost use Rattle.type_rel.specs.Terms.{kind_of, slice_of, base_of};
+ghost use Rattle.type_rel.specs.Kinds.{is_string};
+ghost use Rattle.type_rel.specs.Terms.{slice_of, base_of};
 ghost use Rattle.typed_tree.specs.Basics.{HasBasics};
-ghost use Rattle.rule_words.specs.Scenes.{type_in, IsTypeOf, MayBeTypeOf};
+ghost use Rattle.rule_words.specs.Scenes.{type_in, IsTypeOf};
+ghost use Rattle.rule_words.specs.Types.{is_of};
 ghost use Rattle.builtin_rules.specs.InCode.{signature_by, IsSignatureOf};
-ghost use Rattle.builtin_rules.specs.Types.{is_of, is_byte_kind, is_interface, takes_default, signature_in, key_of, size_of, counted};
+ghost use Rattle.builtin_rules.specs.Types.{is_byte_kind, signature_in, key_of, size_of};
 
 use gv_base::Kind;
+use rule_words::types::kind_of;
 use type_model::{Signature, Term, TypeId};
-use type_rel::{has_integers, has_texts, is_free};
+use type_rel::has_texts;
 use typed_marks::State;
-use typed_tree::basic;
 
 /// The term of a type.
 pub fn term_of(s: &State, t: TypeId) -> &Term
@@ -26,59 +27,10 @@ pub fn term_of(s: &State, t: TypeId) -> &Term
     s.table.term(t)
 }
 
-/// A basic type.
-pub fn basic_type(s: &State, kind: Kind) -> TypeId
-    requires basics { HasBasics s.now.table }
-    ensures is { type_in s.now result ≡ BasicType kind }
-    ensures within { IsTypeOf s.now result }
-{
-    basic(kind)
-}
-
 // ---- basic types
 
-fn kind_in(s: &State, term: &Term) -> Option<Kind>
-    ensures { result ≡ kind_of (type_of (types_in s.now.table) term.now) }
-{
-    let _ = s;
-    match term {
-        Term::Basic(kind) => Some(*kind),
-        Term::Defined(_) => None,
-        Term::Pointer(_) => None,
-        Term::Slice(_) => None,
-        Term::Array(_, _) => None,
-        Term::Map(_, _) => None,
-        Term::Chan(_, _) => None,
-        Term::Func(_) => None,
-        Term::Struct(_) => None,
-        Term::Interface(_) => None,
-    }
-}
-
-/// The kind of a basic type.
-pub fn kind_of(s: &State, t: TypeId) -> Option<Kind>
-    requires basics { HasBasics s.now.table }
-    requires within { IsTypeOf s.now t }
-    ensures { result ≡ kind_of (type_in s.now t) }
-{
-    kind_in(s, term_of(s, t))
-}
-
-/// An integer type.
-#[tactic(auto, unfolding(crate::specs::Types::is_of))]
-pub fn is_integer(s: &State, t: TypeId) -> bool
-    requires basics { HasBasics s.now.table }
-    requires within { IsTypeOf s.now t }
-    ensures { result ≡ is_of is_integer (type_in s.now t) }
-{
-    match kind_of(s, t) {
-        Some(kind) => has_integers(kind),
-        None => false,
-    }
-}
-
 /// A string type.
-#[tactic(auto, unfolding(crate::specs::Types::is_of))]
+#[tactic(auto, unfolding(rule_words::specs::Types::is_of))]
 pub fn is_string(s: &State, t: TypeId) -> bool
     requires basics { HasBasics s.now.table }
     requires within { IsTypeOf s.now t }
@@ -99,33 +51,8 @@ fn is_byte_kind(kind: Kind) -> bool
     }
 }
 
-/// An untyped type.
-#[tactic(auto, unfolding(crate::specs::Types::is_of))]
-fn is_untyped(s: &State, t: TypeId) -> bool
-    requires basics { HasBasics s.now.table }
-    requires within { IsTypeOf s.now t }
-    ensures { result ≡ is_of is_untyped (type_in s.now t) }
-{
-    match kind_of(s, t) {
-        Some(kind) => is_free(kind),
-        None => false,
-    }
-}
-
-/// The type at which an operand counts.
-#[tactic(auto, unfolding(crate::specs::Types::counted))]
-pub fn counted(s: &State, of: TypeId, under: TypeId) -> TypeId
-    requires basics { HasBasics s.now.table }
-    requires of { IsTypeOf s.now of }
-    requires under { IsTypeOf s.now under }
-    ensures is { type_in s.now result ≡ counted (type_in s.now of) (type_in s.now under) }
-    ensures within { IsTypeOf s.now result }
-{
-    if is_untyped(s, of) { of } else { under }
-}
-
 /// The type `byte`.
-#[tactic(auto, unfolding(crate::specs::Types::is_of))]
+#[tactic(auto, unfolding(rule_words::specs::Types::is_of))]
 pub fn is_byte(s: &State, t: TypeId) -> bool
     requires basics { HasBasics s.now.table }
     requires within { IsTypeOf s.now t }
@@ -287,44 +214,3 @@ pub fn signature_in(s: &State, t: TypeId) -> Option<&Signature>
 }
 
 // ---- interfaces
-
-#[tactic(auto, unfolding(crate::specs::Types::is_interface))]
-fn is_interface_term(s: &State, term: &Term) -> bool
-    ensures { result ≡ is_interface (type_of (types_in s.now.table) term.now) }
-{
-    let _ = s;
-    match term {
-        Term::Basic(_) => false,
-        Term::Defined(_) => false,
-        Term::Pointer(_) => false,
-        Term::Slice(_) => false,
-        Term::Array(_, _) => false,
-        Term::Map(_, _) => false,
-        Term::Chan(_, _) => false,
-        Term::Func(_) => false,
-        Term::Struct(_) => false,
-        Term::Interface(_) => true,
-    }
-}
-
-/// An interface.
-pub fn is_interface(s: &State, t: TypeId) -> bool
-    requires basics { HasBasics s.now.table }
-    requires within { IsTypeOf s.now t }
-    ensures { result ≡ is_interface (type_in s.now t) }
-{
-    is_interface_term(s, term_of(s, t))
-}
-
-/// An untyped operand takes its default type where this is wanted.
-#[tactic(auto, unfolding(crate::specs::Types::takes_default))]
-pub fn takes_default(s: &State, under: Option<TypeId>) -> bool
-    requires basics { HasBasics s.now.table }
-    requires under { MayBeTypeOf s.now under }
-    ensures { result ≡ takes_default (option_map (type_in s.now) under) }
-{
-    match under {
-        Some(under) => is_interface(s, under),
-        None => false,
-    }
-}

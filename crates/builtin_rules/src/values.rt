@@ -6,8 +6,8 @@ ghost use Rattle.rule_words.specs.Words.{nothing};
 ghost use Rattle.rule_words.specs.Scenes.{said, IsMarkOf, type_in, IsTypeOf};
 ghost use Rattle.builtin_rules.specs.Values.{value_of};
 
-use crate::types::basic_type;
 use gv_base::Kind;
+use rule_words::good::basic_type;
 use type_model::TypeId;
 use typed_marks::{Facts, Mark, State};
 use typed_tree::Mode;

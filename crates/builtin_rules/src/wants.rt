@@ -7,11 +7,10 @@ ghost use Rattle.unit_read.specs.Subjects.{unit_of};
 ghost use Rattle.std.specs.Option.{option_map_or};
 ghost use Rattle.mark_walk.specs.Asks.{bind};
 ghost use Rattle.rule_words.specs.Scenes.{IsScene, told_by, IfFound, said, IsMarkOf, type_in, IsTypeOf, MayBeTypeOf};
-ghost use Rattle.builtin_rules.specs.InCode.{wish_of, IsWishOf};
+ghost use Rattle.rule_words.specs.Wishes.{IsWishOf, before, wish_of};
 ghost use Rattle.builtin_rules.specs.Musts.{is_byte};
 ghost use Rattle.builtin_rules.specs.Types.{key_of};
 ghost use Rattle.builtin_rules.specs.Wants.{any_wish, any_by, key_by, key_over, element_in, element_by, is_text, appended_wish, appended_to, spread_wish, spread_by, spread_own, spread_over, element_over, element_wants, taking_wants, builtin_wants};
-ghost use Rattle.builtin_rules.specs.Wishes.{before};
 ghost use Rattle.gv_base.specs.declared.constant.Kind.TheVariants as kind;
 ghost use Rattle.type_model.specs.GoTypes.{BasicType};
 ghost use Rattle.typed_tree.specs.declared.place.Want.TheVariants as demand;
@@ -19,11 +18,13 @@ ghost use Rattle.typed_marks.specs.Meanings.{Takes, Wishes};
 
 use crate::lines::{Builtin, Taking, line_of, taken_at};
 use crate::named::is_spread;
-use crate::types::{basic_type, is_byte, is_string, key_of, slice_of};
-use crate::wishes::{assigned_to, before, fitting_default, nothing_wanted, operand};
+use crate::types::{is_byte, is_string, key_of, slice_of};
+use crate::wishes::assigned_to;
 use go_tree::Node;
 use gv_base::Kind;
+use rule_words::good::basic_type;
 use rule_words::mark_under;
+use rule_words::wishes::{before, fitting_default, nothing_wanted, operand};
 use type_model::TypeId;
 use type_questions::Found;
 use typed_marks::{Item, Mark, State, Want};
@@ -49,7 +50,7 @@ fn any_wish(s: &State, own: Mark) -> Want
     }
 }
 
-#[tactic(auto, using(crate::proofs::BindLaws::says_bind, crate::proofs::BindLaws::waits_bind))]
+#[tactic(auto, using(rule_words::proofs::BindLaws::says_bind, rule_words::proofs::BindLaws::waits_bind))]
 fn any_wants(u: &Subject, s: &State, block: usize, around: &Node, slot: usize) -> Found<Mark, Item>
     requires scene { IsScene u.now s.now }
     ensures is { told_by (said s.now) result ≡ tell (so_far s.now) (bind (before (unit_of u.now) block around.now slot) any_by) }
@@ -85,7 +86,7 @@ fn key_by(s: &State, under: Option<TypeId>) -> Mark
     operand(assigned_to(s, key))
 }
 
-#[tactic(auto, using(crate::proofs::BindLaws::says_bind, crate::proofs::BindLaws::waits_bind))]
+#[tactic(auto, using(rule_words::proofs::BindLaws::says_bind, rule_words::proofs::BindLaws::waits_bind))]
 fn key_over(u: &Subject, s: &State, first: Mark) -> Found<Mark, Item>
     requires scene { IsScene u.now s.now }
     requires first { IsMarkOf s.now first }
@@ -98,7 +99,7 @@ fn key_over(u: &Subject, s: &State, first: Mark) -> Found<Mark, Item>
     }
 }
 
-#[tactic(auto, using(crate::proofs::BindLaws::says_bind, crate::proofs::BindLaws::waits_bind))]
+#[tactic(auto, using(rule_words::proofs::BindLaws::says_bind, rule_words::proofs::BindLaws::waits_bind))]
 fn key_wants(u: &Subject, s: &State, block: usize, around: &Node) -> Found<Mark, Item>
     requires scene { IsScene u.now s.now }
     ensures is { told_by (said s.now) result ≡ tell (so_far s.now) (bind (before (unit_of u.now) block around.now 1) (key_over (unit_of u.now))) }
@@ -206,7 +207,7 @@ fn spread_by(s: &State, under: Option<TypeId>, own: Option<TypeId>) -> Mark
     operand(spread_wish(s, under, own))
 }
 
-#[tactic(auto, using(crate::proofs::BindLaws::says_bind, crate::proofs::BindLaws::waits_bind))]
+#[tactic(auto, using(rule_words::proofs::BindLaws::says_bind, rule_words::proofs::BindLaws::waits_bind))]
 fn spread_own(u: &Subject, s: &State, under: Option<TypeId>, own: Mark) -> Found<Mark, Item>
     requires scene { IsScene u.now s.now }
     requires under { MayBeTypeOf s.now under }
@@ -220,7 +221,7 @@ fn spread_own(u: &Subject, s: &State, under: Option<TypeId>, own: Mark) -> Found
     }
 }
 
-#[tactic(auto, using(crate::proofs::BindLaws::says_bind, crate::proofs::BindLaws::waits_bind))]
+#[tactic(auto, using(rule_words::proofs::BindLaws::says_bind, rule_words::proofs::BindLaws::waits_bind))]
 fn spread_over(
     u: &Subject,
     s: &State,
@@ -261,7 +262,7 @@ fn element_over(
     }
 }
 
-#[tactic(auto, using(crate::proofs::BindLaws::says_bind, crate::proofs::BindLaws::waits_bind))]
+#[tactic(auto, using(rule_words::proofs::BindLaws::says_bind, rule_words::proofs::BindLaws::waits_bind))]
 fn element_wants(
     u: &Subject,
     s: &State,
@@ -281,7 +282,7 @@ fn element_wants(
     }
 }
 
-#[tactic(auto, using(crate::proofs::BindLaws::says_bind, crate::proofs::BindLaws::waits_bind))]
+#[tactic(auto, using(rule_words::proofs::BindLaws::says_bind, rule_words::proofs::BindLaws::waits_bind))]
 fn first_element(
     u: &Subject,
     s: &State,

@@ -1,77 +1,13 @@
 //! Wishes of places in calls.
 ghost use Rattle.std.specs.Prelude.{◌≡◌, option_map};
-ghost use Rattle.mark_walk.specs.Telling.{tell};
-ghost use Rattle.typed_tree.specs.Basics.{HasBasics};
-ghost use Rattle.typed_marks.specs.States.{so_far};
-ghost use Rattle.unit_read.specs.Subjects.{unit_of};
-ghost use Rattle.rule_words.specs.Scenes.{IsScene, told_by, IfFound, said, IsMarkOf, type_in, IsTypeOf, MayBeTypeOf};
-ghost use Rattle.builtin_rules.specs.InCode.{wish_of, IsWishOf};
-ghost use Rattle.builtin_rules.specs.Wishes.{default_of, fitting_default, before, assigned_to};
+ghost use Rattle.rule_words.specs.Scenes.{type_in, MayBeTypeOf};
+ghost use Rattle.rule_words.specs.Wishes.{IsWishOf, wish_of};
+ghost use Rattle.builtin_rules.specs.Wishes.{assigned_to};
 
-use crate::types::{basic_type, kind_of};
-use go_tree::Node;
-use package_objects::part_of;
-use rule_words::{default_kind, look};
 use type_model::TypeId;
-use type_questions::Found;
-use typed_marks::{Item, Mark, Stage, State, Want};
-use typed_tree::Want as Demand;
-use unit_read::Subject;
-
-/// Nothing is known of what stands there.
-pub fn nothing_wanted() -> Mark
-    ensures { result ≡ Mark.Wants Demand.Nothing Want.Free }
-{
-    Mark::Wants(Demand::Nothing, Want::Free)
-}
-
-/// A single value.
-pub fn operand(want: Want) -> Mark
-    ensures { result ≡ Mark.Wants Demand.Operand want }
-{
-    Mark::Wants(Demand::Operand, want)
-}
-
-/// The default type of an untyped operand, which what stands around tests.
-pub fn default_of(s: &State, of: TypeId) -> Want
-    requires basics { HasBasics s.now.table }
-    requires of { IsTypeOf s.now of }
-    ensures is { wish_of s.now result ≡ default_of (type_in s.now of) }
-    ensures within { IsWishOf s.now result }
-{
-    match kind_of(s, of) {
-        Some(kind) => Want::Takes(basic_type(s, default_kind(kind))),
-        None => Want::Free,
-    }
-}
-
-/// The default type of an untyped operand, in which a constant is representable.
-pub fn fitting_default(s: &State, of: TypeId) -> Want
-    requires basics { HasBasics s.now.table }
-    requires of { IsTypeOf s.now of }
-    ensures is { wish_of s.now result ≡ fitting_default (type_in s.now of) }
-    ensures within { IsWishOf s.now result }
-{
-    match kind_of(s, of) {
-        Some(kind) => Want::Fits(basic_type(s, default_kind(kind))),
-        None => Want::Free,
-    }
-}
+use typed_marks::{State, Want};
 
 // ---- marks
-
-/// A part before anything is wanted of it.
-#[tactic(auto, unfolding(crate::specs::Wishes::before))]
-pub fn before(u: &Subject, s: &State, block: usize, around: &Node, slot: usize) -> Found<Mark, Item>
-    requires scene { IsScene u.now s.now }
-    ensures is { told_by (said s.now) result ≡ tell (so_far s.now) (before (unit_of u.now) block around.now slot) }
-    ensures over { IfFound result (IsMarkOf s.now) }
-{
-    match part_of(around, slot) {
-        Some(n) => look(u, s, Stage::Before, block, n),
-        None => Found::Is(Mark::Silent),
-    }
-}
 
 /// A type to which a value is assigned, if there is one.
 pub fn assigned_to(s: &State, to: Option<TypeId>) -> Want

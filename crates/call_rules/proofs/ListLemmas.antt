@@ -1,5 +1,5 @@
 -- Lists of types by number.
-use Rattle.std.proofs.Common.{◌≡◌, ℕ, ◌<◌, zero, suc, List, [], ◌∷◌, length, slice_get, Some, option_map, IfSome, refl, ap, subst, arith}
+use Rattle.std.proofs.Common.{◌≡◌, ℕ, ◌<◌, zero, suc, List, [], ◌∷◌, length, slice_get, option_map, IfSome, refl, ap, arith}
 use Rattle.std.proofs.lemmas.List.Elements.{All-tail}
 use Rattle.type_model.specs.declared.term.TypeId.{TypeId}
 use Rattle.type_model.specs.GoTypes.{GoType, type_at, types_at, AreBelow}
@@ -18,9 +18,3 @@ pub nth_below : (n : ℕ) (ids : List TypeId) (i : ℕ) → AreBelow n ids → I
 nth_below n [] i below = tt
 nth_below n (id ∷ ids) zero below = below 0 id (omega arith)
 nth_below n (id ∷ ids) (suc i) below = nth_below n ids i (All-tail (λ (id : TypeId). id.0 < n) id ids below)
-
--- what holds of all holds of each
-pub below_at : (n : ℕ) (ids : List TypeId) (i : ℕ) (id : TypeId) → slice_get ids i ≡ Some id → AreBelow n ids → id.0 < n
-below_at n [] i id is below = absurd cc
-below_at n (x ∷ ids) zero id is below = let same : x ≡ id = cc in subst (λ (y : TypeId). y.0 < n) same (below 0 x (omega arith))
-below_at n (x ∷ ids) (suc i) id is below = below_at n ids i id is (All-tail (λ (y : TypeId). y.0 < n) x ids below)

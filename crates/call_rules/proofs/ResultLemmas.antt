@@ -13,9 +13,9 @@ use Rattle.typed_marks.specs.declared.state.State.{State}
 use Rattle.unit_read.specs.declared.subject.Subject.{Subject}
 use Rattle.unit_read.specs.Subjects.{unit_of}
 use Rattle.call_rules.specs.Given.{param_at}
-use Rattle.call_rules.specs.InCode.{ends}
 use Rattle.call_rules.specs.Passing.{result_assigned, then_others, all_assigned}
 use Rattle.builtin_rules.proofs.ListLemmas.{dropped_at, dropped_all}
+use Rattle.rule_words.specs.Told.{ends}
 
 module _ (u : Subject) (s : State) (sig : GoSignature) (types : List GoType) where
   abbrev pub from : List TypeId → ℕ → Found (Reached Bool) Item → Type 0

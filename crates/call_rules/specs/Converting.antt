@@ -20,12 +20,12 @@ use Rattle.rule_words.specs.Answers.{constant}
 use Rattle.rule_words.specs.Asking.{Rule}
 use Rattle.rule_words.specs.Parts.{Part, part_at}
 use Rattle.rule_words.specs.Words.{need, need_type, test}
+use Rattle.rule_words.specs.Types.{is_interface}
+use Rattle.rule_words.specs.Values.{assigned_type}
 use Rattle.typed_tree.specs.declared.rule.TheConstants.{BAD_DOTS}
 use Rattle.typed_tree.specs.declared.rule.TheConstants.{CANNOT_CONVERT, CONVERSION_TAKES_ONE_ARGUMENT}
 use Rattle.builtin_rules.specs.Named.{argument_count}
-use Rattle.builtin_rules.specs.Types.{is_interface}
 use Rattle.builtin_rules.specs.Values.{value_of}
-use Rattle.call_rules.specs.Types.{assigned_type}
 
 -- E52: nothing is spread in a conversion
 unfoldable pub unspread : Bool → Meaning → Meaning

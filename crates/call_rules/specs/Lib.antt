@@ -2,7 +2,6 @@ pub mod Callees
 pub mod Calling
 pub mod Converting
 pub mod Given
-pub mod InCode
 pub mod Laws
 pub mod Passing
 pub mod Rules

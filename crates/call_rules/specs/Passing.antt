@@ -16,6 +16,9 @@ use Rattle.type_questions.specs.declared.reached.Reached.TheVariants.{Got, Lost}
 use Rattle.type_answers.specs.Asked.{assignable_ask, need_told}
 use Rattle.unit_read.specs.Units.{Unit}
 use Rattle.rule_words.specs.Asking.{Asks, Rule, mark_under, under_ask}
+use Rattle.rule_words.specs.Files.{file_of}
+use Rattle.rule_words.specs.Types.{takes_default}
+use Rattle.rule_words.specs.Wishes.{before}
 use Rattle.builtin_rules.specs.declared.lines.Builtin.{Builtin}
 use Rattle.builtin_rules.specs.declared.lines.Taking.{Taking}
 use Rattle.builtin_rules.specs.declared.lines.Taking.TheVariants as takes
@@ -23,12 +26,10 @@ use Rattle.call_rules.specs.declared.callee.Callee.{Callee}
 use Rattle.call_rules.specs.declared.callee.Callee.TheVariants as c
 use Rattle.builtin_rules.specs.Builtins.{line_of}
 use Rattle.builtin_rules.specs.Named.{builtin_in}
-use Rattle.builtin_rules.specs.Types.{takes_default, signature_in}
-use Rattle.builtin_rules.specs.Wishes.{before}
+use Rattle.builtin_rules.specs.Types.{signature_in}
 use Rattle.call_rules.specs.Callees.{callee_of}
 use Rattle.call_rules.specs.Given.{param_at, accepts, results_of}
 use Rattle.call_rules.specs.Types.{how_many}
-use Rattle.call_rules.specs.Wants.{file_of}
 
 -- ---- where results are passed
 

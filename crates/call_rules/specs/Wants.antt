@@ -7,14 +7,16 @@ use Rattle.mark_walk.specs.Asks.{bind}
 use Rattle.type_model.specs.GoTypes.{GoType, GoSignature}
 use Rattle.typed_tree.specs.declared.place.Want.TheVariants as demand
 use Rattle.typed_marks.specs.Meanings.{Known, Wish, Takes, Meaning, Right, Wrong, Beyond, Quiet, Wishes, Declares}
-use Rattle.unit_read.specs.declared.passage.Passage.{Passage}
 use Rattle.unit_read.specs.declared.place.Place.{Place}
-use Rattle.unit_read.specs.Units.{Unit, passage_at}
+use Rattle.unit_read.specs.Units.{Unit}
 use Rattle.rule_words.specs.Asking.{Rule, mark_under, under_ask}
+use Rattle.rule_words.specs.Files.{file_of}
+use Rattle.rule_words.specs.Types.{takes_default}
+use Rattle.rule_words.specs.Wishes.{before, by_type, default_of, fitting_default, nothing_wanted, wants}
 use Rattle.builtin_rules.specs.Named.{is_spread, builtin_in}
-use Rattle.builtin_rules.specs.Types.{takes_default, signature_in}
+use Rattle.builtin_rules.specs.Types.{signature_in}
 use Rattle.builtin_rules.specs.Wants.{builtin_wants}
-use Rattle.builtin_rules.specs.Wishes.{wants, nothing_wanted, default_of, fitting_default, by_type, assigned_to, before}
+use Rattle.builtin_rules.specs.Wishes.{assigned_to}
 use Rattle.call_rules.specs.Callees.{callee_of}
 use Rattle.call_rules.specs.Given.{param_at}
 use Rattle.call_rules.specs.declared.callee.Callee.{Callee}
@@ -58,10 +60,6 @@ unfoldable pub conversion_wants : Unit → ℕ → Node → ℕ → GoType → R
 conversion_wants u block around slot to = bind (before u block around slot) (converted_over u to)
 
 -- ---- all
-
--- the file of a block
-abbrev pub file_of : Unit → ℕ → ℕ
-file_of u block = option_map_or (λ (p : Passage). p.file) (passage_at u block) 0
 
 abbrev pub function_wants : Unit → Node → ℕ → Meaning → Rule
 function_wants u around slot f = bind (mark_under u f) (argument_by (is_spread around.kind) slot)

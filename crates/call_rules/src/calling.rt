@@ -14,7 +14,8 @@ ghost use Rattle.call_rules.specs.Given.{results_of};
 ghost use Rattle.call_rules.specs.Types.{how_many};
 
 use crate::given::{Given, given_of, how_many, is_accepted, nth_type};
-use builtin_rules::{good, nothing, part_at, says, signature_in, silent, value_of, wrong};
+use builtin_rules::{good, nothing, says, signature_in, value_of};
+use rule_words::good::{broken, part_at, silent};
 use rule_words::{Seen, Step};
 use type_model::{Signature, TypeId};
 use typed_marks::{Mark, State};
@@ -97,7 +98,7 @@ fn judge_count(s: &State, of: TypeId, sig: &Signature, spread: bool, given: Give
 {
     // E51
     if !is_accepted(s, sig, spread, given) {
-        return wrong(WRONG_NUMBER_OF_ARGUMENTS);
+        return broken(WRONG_NUMBER_OF_ARGUMENTS);
     }
     says(results_mark(s, of, sig))
 }
@@ -112,7 +113,7 @@ fn judge_signature(s: &State, of: TypeId, spread: bool, given: Given, sig: &Sign
 {
     // E52
     if !may_spread(s, sig, spread) {
-        return wrong(BAD_DOTS);
+        return broken(BAD_DOTS);
     }
     judge_count(s, of, sig, spread, given)
 }
@@ -126,7 +127,7 @@ fn judge_function(s: &State, spread: bool, given: Given, of: TypeId) -> Step
     match signature_in(s, of) {
         Some(sig) => judge_signature(s, of, spread, given, sig),
         // E50
-        None => wrong(NOT_A_FUNCTION),
+        None => broken(NOT_A_FUNCTION),
     }
 }
 

@@ -8,19 +8,19 @@ ghost use Rattle.type_answers.specs.Asked.{convertible_ask};
 ghost use Rattle.rule_words.specs.Answers.{answer_in, IsAnswerOf, constant, is_plain};
 ghost use Rattle.rule_words.specs.Scenes.{IsScene, said, IsMarkOf, type_in, IsTypeOf, parts_in, AreSeenOf};
 ghost use Rattle.rule_words.specs.Steps.{step_in, IsStepOf};
-ghost use Rattle.builtin_rules.specs.InCode.{facts_in, AreFactsOf};
+ghost use Rattle.rule_words.specs.Good.{AreFactsOf, known_of};
+ghost use Rattle.rule_words.specs.Types.{is_interface};
+ghost use Rattle.rule_words.specs.Values.{assigned_type};
 ghost use Rattle.builtin_rules.specs.Named.{argument_count};
-ghost use Rattle.builtin_rules.specs.Types.{is_interface};
 ghost use Rattle.builtin_rules.specs.Values.{value_of};
-ghost use Rattle.call_rules.specs.Types.{assigned_type};
 ghost use Rattle.call_rules.specs.Converting.{unspread, is_convertible, constant_fault, converted, constant_converted, convertible_by, convertible_told, operand_converted, kind_converted, value_converted, known_converted, one_converted, single_converted, conversion_rule};
 
-use crate::types::assigned_type;
-use builtin_rules::{
-    argument_count, is_interface, kind_of, part_at, says, silent, value_at, value_of, wrong,
-};
+use builtin_rules::{argument_count, says, value_of};
 use const_eval::{ConstAnswer, convert};
 use gv_base::{Const, Kind, NoMemory};
+use rule_words::good::{broken, part_at, silent};
+use rule_words::types::{is_interface, kind_of};
+use rule_words::values::{assigned_type, value_at};
 use rule_words::{Answer, Seen, Step};
 use std::alloc::Global;
 use type_answers::{Relation, ask_operand};
@@ -166,7 +166,7 @@ fn convertible_by(s: &State, spread: bool, to: TypeId, holds: bool) -> Step
 {
     // E53
     if !holds {
-        return wrong(CANNOT_CONVERT);
+        return broken(CANNOT_CONVERT);
     }
     says(unspread(s, spread, to))
 }
@@ -195,7 +195,7 @@ fn ask_converted(
     requires to { IsTypeOf s.now to }
     requires under { IsTypeOf s.now under }
     requires facts { AreFactsOf s.now x }
-    ensures { IfOk result (FoundBy u.now s.now (λ x. x) (convertible_ask (is_interface (type_in s.now under)) (assigned_type (facts_in s.now x)) (facts_in s.now x).value (type_in s.now to))) }
+    ensures { IfOk result (FoundBy u.now s.now (λ x. x) (convertible_ask (is_interface (type_in s.now under)) (assigned_type (known_of s.now x)) (known_of s.now x).value (type_in s.now to))) }
 {
     let methods = is_interface(s, under);
     let of = assigned_type(s, x);
@@ -217,7 +217,7 @@ fn judge_operand(
     requires to { IsTypeOf s.now to }
     requires under { IsTypeOf s.now under }
     requires facts { AreFactsOf s.now x }
-    ensures comes { IfOk result (ComesTo u.now s.now (operand_converted spread (type_in s.now to) (type_in s.now under) (facts_in s.now x))) }
+    ensures comes { IfOk result (ComesTo u.now s.now (operand_converted spread (type_in s.now to) (type_in s.now under) (known_of s.now x))) }
     ensures over { IfOk result (IsStepOf s.now) }
 {
     let found = ask_converted(alloc, u, s, to, under, x)?;
@@ -244,7 +244,7 @@ fn judge_kind(
     requires to { IsTypeOf s.now to }
     requires under { IsTypeOf s.now under }
     requires facts { AreFactsOf s.now x }
-    ensures comes { IfOk result (ComesTo u.now s.now (value_converted spread (type_in s.now to) (type_in s.now under) (facts_in s.now x) (Some c.now))) }
+    ensures comes { IfOk result (ComesTo u.now s.now (value_converted spread (type_in s.now to) (type_in s.now under) (known_of s.now x) (Some c.now))) }
     ensures over { IfOk result (IsStepOf s.now) }
 {
     match kind_of(s, under) {
@@ -273,7 +273,7 @@ fn judge_value(
     requires to { IsTypeOf s.now to }
     requires under { IsTypeOf s.now under }
     requires facts { AreFactsOf s.now x }
-    ensures comes { IfOk result (ComesTo u.now s.now (known_converted spread (type_in s.now to) (type_in s.now under) (facts_in s.now x))) }
+    ensures comes { IfOk result (ComesTo u.now s.now (known_converted spread (type_in s.now to) (type_in s.now under) (known_of s.now x))) }
     ensures over { IfOk result (IsStepOf s.now) }
 {
     match value_at(s, x.value) {

@@ -4,13 +4,15 @@ ghost use Rattle.type_model.specs.GoTypes.{types_at, AreBelow};
 ghost use Rattle.type_model.specs.Tables.{types_in, count};
 ghost use Rattle.typed_tree.specs.Basics.{HasBasics};
 ghost use Rattle.rule_words.specs.Scenes.{said, IsMarkOf, type_in, IsTypeOf, parts_in, AreSeenOf};
-ghost use Rattle.builtin_rules.specs.InCode.{facts_in, AreFactsOf, signature_by, IsSignatureOf};
+ghost use Rattle.rule_words.specs.Good.{AreFactsOf, known_of};
+ghost use Rattle.builtin_rules.specs.InCode.{signature_by, IsSignatureOf};
 ghost use Rattle.builtin_rules.specs.Types.{signature_in};
 ghost use Rattle.call_rules.specs.Given.{params_of, is_last, last_of, is_element, param_at, many_given, given_by, given_unknown, sole_given, is_sole, given_of, takes_any, accepts, is_accepted};
 ghost use Rattle.call_rules.specs.Types.{how_many, nth_type};
 
-use builtin_rules::{argument_count, part_at, signature_in, slice_of};
+use builtin_rules::{argument_count, signature_in, slice_of};
 use rule_words::Seen;
+use rule_words::good::part_at;
 use type_model::{Signature, TypeId};
 use typed_marks::{Facts, Mark, State};
 use typed_tree::Mode;
@@ -127,7 +129,7 @@ fn result_count(s: &State, of: TypeId) -> Given
 fn given_by(s: &State, x: Facts) -> Given
     requires basics { HasBasics s.now.table }
     requires facts { AreFactsOf s.now x }
-    ensures { result ≡ given_by (facts_in s.now x) x.mode }
+    ensures { result ≡ given_by (known_of s.now x) x.mode }
 {
     match x.mode {
         Mode::Many => result_count(s, x.of),

@@ -11,7 +11,6 @@ mod passing;
 mod results;
 mod rules;
 mod sole;
-mod types;
 mod wants;
 
 pub use laws::constants_are_converted_where_convertible;

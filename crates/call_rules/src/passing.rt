@@ -11,21 +11,21 @@ ghost use Rattle.type_answers.specs.Coming.{ComesTo};
 ghost use Rattle.unit_read.specs.Subjects.{unit_of, IsRead};
 ghost use Rattle.rule_words.specs.Scenes.{IsScene, said, IsMarkOf, type_in, IsTypeOf, MayBeTypeOf};
 ghost use Rattle.rule_words.specs.Steps.{step_in, IsStepOf};
-ghost use Rattle.builtin_rules.specs.InCode.{facts_in, AreFactsOf, signature_by, IsSignatureOf};
+ghost use Rattle.rule_words.specs.Files.{file_of};
+ghost use Rattle.rule_words.specs.Good.{AreFactsOf, known_of};
+ghost use Rattle.builtin_rules.specs.InCode.{signature_by, IsSignatureOf};
 ghost use Rattle.builtin_rules.specs.Named.{builtin_in};
 ghost use Rattle.call_rules.specs.Passing.{all_assigned, passed_if, passed_told, results_passed, other_passed, signature_of_many, signature_passed, function_passed, under_passed, several_fault, taking_fault, builtin_fault, value_passed, passed_by, passed_to, known_passed, passed_rule};
-ghost use Rattle.call_rules.specs.Wants.{file_of};
 
 use crate::callee::{Callee, callee_of};
 use crate::given::{accepts, how_many};
 use crate::results::all_assigned;
-use crate::wants::file_of;
-use builtin_rules::{
-    Builtin, Taking, before, builtin_in, line_of, says, signature_in, silent, wrong,
-};
+use builtin_rules::{Builtin, Taking, builtin_in, line_of, says, signature_in};
 use go_tree::Node;
 use gv_base::NoMemory;
-use rule_words::{Answer, Step, mark_under};
+use rule_words::good::{broken, silent};
+use rule_words::wishes::before;
+use rule_words::{Answer, Step, file_of, mark_under};
 use std::alloc::Global;
 use type_model::{Signature, TypeId};
 use type_questions::{Found, Reached};
@@ -35,20 +35,20 @@ use unit_read::Subject;
 
 fn passed_if(s: &State, x: Facts, holds: bool) -> Step
     requires facts { AreFactsOf s.now x }
-    ensures is { step_in s.now result ≡ tell (so_far s.now) (passed_if (facts_in s.now x) holds) }
+    ensures is { step_in s.now result ≡ tell (so_far s.now) (passed_if (known_of s.now x) holds) }
     ensures over { IsStepOf s.now result }
 {
     let _ = s;
     // E32
     if !holds {
-        return wrong(NOT_ASSIGNABLE);
+        return broken(NOT_ASSIGNABLE);
     }
     says(Mark::Good(x))
 }
 
 fn passed_told(s: &State, x: Facts, told: Reached<bool>) -> Step
     requires facts { AreFactsOf s.now x }
-    ensures is { step_in s.now result ≡ tell (so_far s.now) (passed_told (facts_in s.now x) told) }
+    ensures is { step_in s.now result ≡ tell (so_far s.now) (passed_told (known_of s.now x) told) }
     ensures over { IsStepOf s.now result }
 {
     match told {
@@ -70,7 +70,7 @@ fn judge_assigned(
     requires facts { AreFactsOf s.now x }
     requires signature { IsSignatureOf s.now sig.now }
     requires results { AreBelow (count s.now.table) results.now }
-    ensures comes { IfOk result (ComesTo u.now s.now (bind (all_assigned (unit_of u.now) (signature_by s.now sig.now) 0 (types_at (types_in s.now.table) results.now)) (passed_told (facts_in s.now x)))) }
+    ensures comes { IfOk result (ComesTo u.now s.now (bind (all_assigned (unit_of u.now) (signature_by s.now sig.now) 0 (types_at (types_in s.now.table) results.now)) (passed_told (known_of s.now x)))) }
     ensures over { IfOk result (IsStepOf s.now) }
 {
     let found = all_assigned(alloc, u, s, sig, results)?;
@@ -93,7 +93,7 @@ fn judge_results(
     requires facts { AreFactsOf s.now x }
     requires signature { IsSignatureOf s.now sig.now }
     requires results { AreBelow (count s.now.table) results.now }
-    ensures comes { IfOk result (ComesTo u.now s.now (results_passed (unit_of u.now) (facts_in s.now x) (signature_by s.now sig.now) (types_at (types_in s.now.table) results.now))) }
+    ensures comes { IfOk result (ComesTo u.now s.now (results_passed (unit_of u.now) (known_of s.now x) (signature_by s.now sig.now) (types_at (types_in s.now.table) results.now))) }
     ensures over { IfOk result (IsStepOf s.now) }
 {
     if accepts(s, sig, false, how_many(s, results)) {
@@ -116,7 +116,7 @@ fn judge_other(
     requires facts { AreFactsOf s.now x }
     requires signature { IsSignatureOf s.now sig.now }
     requires other { IsSignatureOf s.now other.now }
-    ensures comes { IfOk result (ComesTo u.now s.now (other_passed (unit_of u.now) (facts_in s.now x) (signature_by s.now sig.now) (signature_by s.now other.now))) }
+    ensures comes { IfOk result (ComesTo u.now s.now (other_passed (unit_of u.now) (known_of s.now x) (signature_by s.now sig.now) (signature_by s.now other.now))) }
     ensures over { IfOk result (IsStepOf s.now) }
 {
     let step = judge_results(alloc, u, s, x, sig, other.results.as_slice())?;
@@ -126,7 +126,7 @@ fn judge_other(
 fn signature_of_many(s: &State, x: Facts) -> Option<&Signature>
     requires basics { HasBasics s.now.table }
     requires facts { AreFactsOf s.now x }
-    ensures is { option_map (signature_by s.now) (option_copied result) ≡ signature_of_many (facts_in s.now x) x.mode }
+    ensures is { option_map (signature_by s.now) (option_copied result) ≡ signature_of_many (known_of s.now x) x.mode }
     ensures below { IfSome (option_copied result) (IsSignatureOf s.now) }
 {
     match x.mode {
@@ -155,7 +155,7 @@ fn judge_signature(
     requires scene { IsScene u.now s.now }
     requires facts { AreFactsOf s.now x }
     requires signature { IsSignatureOf s.now sig.now }
-    ensures comes { IfOk result (ComesTo u.now s.now (signature_passed (unit_of u.now) (facts_in s.now x) (signature_by s.now sig.now))) }
+    ensures comes { IfOk result (ComesTo u.now s.now (signature_passed (unit_of u.now) (known_of s.now x) (signature_by s.now sig.now))) }
     ensures over { IfOk result (IsStepOf s.now) }
 {
     match signature_of_many(s, x) {
@@ -177,7 +177,7 @@ fn judge_function(
     requires scene { IsScene u.now s.now }
     requires facts { AreFactsOf s.now x }
     requires of { IsTypeOf s.now of }
-    ensures comes { IfOk result (ComesTo u.now s.now (function_passed (unit_of u.now) (facts_in s.now x) (type_in s.now of))) }
+    ensures comes { IfOk result (ComesTo u.now s.now (function_passed (unit_of u.now) (known_of s.now x) (type_in s.now of))) }
     ensures over { IfOk result (IsStepOf s.now) }
 {
     match signature_in(s, of) {
@@ -199,7 +199,7 @@ fn judge_under(
     requires scene { IsScene u.now s.now }
     requires facts { AreFactsOf s.now x }
     requires under { MayBeTypeOf s.now under }
-    ensures comes { IfOk result (ComesTo u.now s.now (under_passed (unit_of u.now) (facts_in s.now x) (option_map (type_in s.now) under))) }
+    ensures comes { IfOk result (ComesTo u.now s.now (under_passed (unit_of u.now) (known_of s.now x) (option_map (type_in s.now) under))) }
     ensures over { IfOk result (IsStepOf s.now) }
 {
     match under {
@@ -258,7 +258,7 @@ fn judge_called(alloc: Global, u: &Subject, s: &State, x: Facts, f: Mark) -> Res
     requires scene { IsScene u.now s.now }
     requires facts { AreFactsOf s.now x }
     requires callee { IsMarkOf s.now f }
-    ensures comes { IfOk result (ComesTo u.now s.now (value_passed (unit_of u.now) (facts_in s.now x) (said s.now f))) }
+    ensures comes { IfOk result (ComesTo u.now s.now (value_passed (unit_of u.now) (known_of s.now x) (said s.now f))) }
     ensures over { IfOk result (IsStepOf s.now) }
 {
     match mark_under(u, s, f) {
@@ -284,7 +284,7 @@ fn judge_callee(
     requires scene { IsScene u.now s.now }
     requires facts { AreFactsOf s.now x }
     requires callee { IsMarkOf s.now f }
-    ensures comes { IfOk result (ComesTo u.now s.now (passed_by (unit_of u.now) block around.now (facts_in s.now x) (said s.now f) callee)) }
+    ensures comes { IfOk result (ComesTo u.now s.now (passed_by (unit_of u.now) block around.now (known_of s.now x) (said s.now f) callee)) }
     ensures over { IfOk result (IsStepOf s.now) }
 {
     match callee {
@@ -313,7 +313,7 @@ fn judge_to(
     requires scene { IsScene u.now s.now }
     requires facts { AreFactsOf s.now x }
     requires callee { IsMarkOf s.now f }
-    ensures comes { IfOk result (ComesTo u.now s.now (passed_to (unit_of u.now) block around.now (facts_in s.now x) (said s.now f))) }
+    ensures comes { IfOk result (ComesTo u.now s.now (passed_to (unit_of u.now) block around.now (known_of s.now x) (said s.now f))) }
     ensures over { IfOk result (IsStepOf s.now) }
 {
     match f {
@@ -349,7 +349,7 @@ fn judge_known(
 ) -> Result<Step, NoMemory>
     requires scene { IsScene u.now s.now }
     requires facts { AreFactsOf s.now x }
-    ensures comes { IfOk result (ComesTo u.now s.now (known_passed (unit_of u.now) block around.now (facts_in s.now x))) }
+    ensures comes { IfOk result (ComesTo u.now s.now (known_passed (unit_of u.now) block around.now (known_of s.now x))) }
     ensures over { IfOk result (IsStepOf s.now) }
 {
     match before(u, s, block, around, 0) {

@@ -1,5 +1,5 @@
 //! Results that are assigned to parameters (Go 1.17, "Calls").
-ghost use Rattle.std.specs.Prelude.{◌≡◌, ◌<◌, false, IfOk, Some, length, option_map, slice_get};
+ghost use Rattle.std.specs.Prelude.{false, IfOk, Some, option_map};
 ghost use Rattle.type_model.specs.GoTypes.{AreBelow, types_at};
 ghost use Rattle.type_model.specs.Tables.{types_in, count};
 ghost use Rattle.type_answers.specs.Coming.{FoundBy};
@@ -7,13 +7,12 @@ ghost use Rattle.unit_read.specs.Subjects.{unit_of};
 ghost use Rattle.rule_words.specs.Scenes.{IsScene, type_in, IsTypeOf, MayBeTypeOf};
 ghost use Rattle.builtin_rules.specs.InCode.{signature_by, IsSignatureOf};
 ghost use Rattle.call_rules.specs.Given.{param_at};
-ghost use Rattle.call_rules.specs.InCode.{is_refused, ends};
 ghost use Rattle.call_rules.specs.Passing.{assigned_result, result_assigned, all_assigned};
 
 use crate::given::param_at;
-use builtin_rules::takes_default;
 use gv_base::NoMemory;
-use rule_words::under_of;
+use rule_words::types::{nth, takes_default};
+use rule_words::{ends, under_of};
 use std::alloc::Global;
 use type_answers::{Relation, ask_operand};
 use type_model::{Signature, TypeId};
@@ -85,23 +84,6 @@ fn result_assigned(
     }
 }
 
-fn id_nth(types: &[TypeId], i: usize) -> TypeId
-    requires { i < length types.now }
-    ensures { slice_get types.now i ≡ Some result }
-{
-    types[i]
-}
-
-fn nth(s: &State, types: &[TypeId], i: usize) -> TypeId
-    requires low { i < length types.now }
-    requires below { AreBelow (count s.now.table) types.now }
-    ensures is { slice_get types.now i ≡ Some result }
-    ensures within { IsTypeOf s.now result }
-{
-    let _ = s;
-    id_nth(types, i)
-}
-
 fn nth_assigned(
     alloc: Global,
     u: &Subject,
@@ -118,24 +100,6 @@ fn nth_assigned(
     let to = param_at(s, sig, false, i);
     let found = result_assigned(alloc, u, s, of, to)?;
     Ok(found)
-}
-
-fn is_refused(told: &Reached<bool>) -> bool
-    ensures { result ≡ is_refused told.now }
-{
-    match told {
-        Reached::Got(holds) => !*holds,
-        Reached::Lost => true,
-    }
-}
-
-fn ends(found: &Found<Reached<bool>, Item>) -> bool
-    ensures { result ≡ ends found.now }
-{
-    match found {
-        Found::Is(told) => is_refused(told),
-        Found::Wait(_) => true,
-    }
 }
 
 /// Whether each of the results of a call is assignable to the parameter in its place.

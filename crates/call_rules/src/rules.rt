@@ -6,16 +6,17 @@ ghost use Rattle.rule_words.specs.Scenes.{IsScene, said, IsMarkOf, parts_in, Are
 ghost use Rattle.rule_words.specs.Steps.{IsStepOf};
 ghost use Rattle.rule_words.specs.Words.{need};
 ghost use Rattle.rule_words.specs.Wanting.{wanted_of, IsWantedOf};
-ghost use Rattle.builtin_rules.specs.InCode.{facts_in, AreFactsOf};
+ghost use Rattle.rule_words.specs.Good.{AreFactsOf, known_of};
 ghost use Rattle.call_rules.specs.Rules.{call_reads, passes_call, callee_rule, known_callee, call_rule};
 
 use crate::callee::{Callee, callee_of, calls};
 use crate::calling::judge_called;
 use crate::converting::judge_conversion;
-use builtin_rules::{builtin_in, is_call, is_spread, judge_builtin, part_at};
+use builtin_rules::{builtin_in, is_call, is_spread, judge_builtin};
 use go_tree::{Node, NodeKind, NodeRef};
 use gv_base::NoMemory;
 use package_objects::part_of;
+use rule_words::good::part_at;
 use rule_words::{Answer, How, Seen, Step, Wanted};
 use std::alloc::Global;
 use typed_marks::{Facts, Mark, State};
@@ -59,7 +60,7 @@ fn judge_callee(
     requires scene { IsScene u.now s.now }
     requires parts { AreSeenOf s.now parts.now }
     requires facts { AreFactsOf s.now f }
-    ensures comes { IfOk result (ComesTo u.now s.now (callee_rule (unit_of u.now) block file node.now (parts_in s.now parts.now) (facts_in s.now f) callee)) }
+    ensures comes { IfOk result (ComesTo u.now s.now (callee_rule (unit_of u.now) block file node.now (parts_in s.now parts.now) (known_of s.now f) callee)) }
     ensures over { IfOk result (IsStepOf s.now) }
 {
     let spread = is_spread(node.kind);

@@ -4,19 +4,20 @@ ghost use Rattle.mark_walk.specs.Telling.{tell, Says};
 ghost use Rattle.typed_tree.specs.Basics.{HasBasics};
 ghost use Rattle.typed_marks.specs.States.{so_far};
 ghost use Rattle.unit_read.specs.Subjects.{unit_of};
-ghost use Rattle.unit_read.specs.Subjects.{IsRead};
 ghost use Rattle.rule_words.specs.Scenes.{IsScene, told_by, IfFound, said, IsMarkOf, type_in, IsTypeOf, MayBeTypeOf};
-ghost use Rattle.builtin_rules.specs.InCode.{wish_of, IsWishOf, facts_in, AreFactsOf, signature_by, IsSignatureOf};
-ghost use Rattle.call_rules.specs.Wants.{param_wants, argument_wants, argument_by, constant_wish, value_wish, converted_wish, converted_in, converted_over, conversion_wants, file_of, function_wants, callee_wants, called_wants, slot_wants, call_wants};
+ghost use Rattle.rule_words.specs.Good.{AreFactsOf, known_of};
+ghost use Rattle.rule_words.specs.Wishes.{IsWishOf, wish_of};
+ghost use Rattle.builtin_rules.specs.InCode.{signature_by, IsSignatureOf};
+ghost use Rattle.call_rules.specs.Wants.{param_wants, argument_wants, argument_by, constant_wish, value_wish, converted_wish, converted_in, converted_over, conversion_wants, function_wants, callee_wants, called_wants, slot_wants, call_wants};
 
 use crate::callee::{Callee, callee_of};
 use crate::given::param_at;
-use builtin_rules::{
-    assigned_to, before, builtin_in, builtin_wants, default_of, fitting_default, is_spread,
-    nothing_wanted, operand, signature_in, takes_default, value_at,
-};
+use builtin_rules::{assigned_to, builtin_in, builtin_wants, is_spread, signature_in};
 use go_tree::Node;
-use rule_words::{mark_under, under_of};
+use rule_words::types::takes_default;
+use rule_words::values::value_at;
+use rule_words::wishes::{before, default_of, fitting_default, nothing_wanted, operand};
+use rule_words::{file_of, mark_under, under_of};
 use type_model::{Signature, TypeId};
 use type_questions::Found;
 use typed_marks::{Facts, Item, Mark, State, Want};
@@ -59,7 +60,7 @@ fn argument_by(s: &State, spread: bool, slot: usize, of: Option<TypeId>) -> Mark
     }
 }
 
-#[tactic(auto, using(builtin_rules::proofs::BindLaws::says_bind, builtin_rules::proofs::BindLaws::waits_bind))]
+#[tactic(auto, using(rule_words::proofs::BindLaws::says_bind, rule_words::proofs::BindLaws::waits_bind))]
 fn function_wants(u: &Subject, s: &State, around: &Node, slot: usize, f: Mark) -> Found<Mark, Item>
     requires scene { IsScene u.now s.now }
     requires callee { IsMarkOf s.now f }
@@ -78,7 +79,7 @@ fn constant_wish(s: &State, under: Option<TypeId>, x: Facts) -> Want
     requires basics { HasBasics s.now.table }
     requires under { MayBeTypeOf s.now under }
     requires facts { AreFactsOf s.now x }
-    ensures is { wish_of s.now result ≡ constant_wish (option_map (type_in s.now) under) (facts_in s.now x) }
+    ensures is { wish_of s.now result ≡ constant_wish (option_map (type_in s.now) under) (known_of s.now x) }
     ensures within { IsWishOf s.now result }
 {
     if takes_default(s, under) {
@@ -93,7 +94,7 @@ fn value_wish(s: &State, to: TypeId, under: Option<TypeId>, x: Facts) -> Want
     requires to { IsTypeOf s.now to }
     requires under { MayBeTypeOf s.now under }
     requires facts { AreFactsOf s.now x }
-    ensures is { wish_of s.now result ≡ value_wish (type_in s.now to) (option_map (type_in s.now) under) (facts_in s.now x) (facts_in s.now x).value }
+    ensures is { wish_of s.now result ≡ value_wish (type_in s.now to) (option_map (type_in s.now) under) (known_of s.now x) (known_of s.now x).value }
     ensures within { IsWishOf s.now result }
 {
     match value_at(s, x.value) {
@@ -132,7 +133,7 @@ fn converted_in(s: &State, to: TypeId, own: Mark, under: Option<TypeId>) -> Mark
     operand(converted_wish(s, to, under, own))
 }
 
-#[tactic(auto, using(builtin_rules::proofs::BindLaws::says_bind, builtin_rules::proofs::BindLaws::waits_bind))]
+#[tactic(auto, using(rule_words::proofs::BindLaws::says_bind, rule_words::proofs::BindLaws::waits_bind))]
 fn converted_over(u: &Subject, s: &State, to: TypeId, own: Mark) -> Found<Mark, Item>
     requires scene { IsScene u.now s.now }
     requires to { IsTypeOf s.now to }
@@ -146,7 +147,7 @@ fn converted_over(u: &Subject, s: &State, to: TypeId, own: Mark) -> Found<Mark, 
     }
 }
 
-#[tactic(auto, using(builtin_rules::proofs::BindLaws::says_bind, builtin_rules::proofs::BindLaws::waits_bind), unfolding(crate::specs::Wants::conversion_wants))]
+#[tactic(auto, using(rule_words::proofs::BindLaws::says_bind, rule_words::proofs::BindLaws::waits_bind), unfolding(crate::specs::Wants::conversion_wants))]
 fn conversion_wants(
     u: &Subject,
     s: &State,
@@ -168,17 +169,6 @@ fn conversion_wants(
 
 // ---- all
 
-/// The file of a block.
-pub fn file_of(u: &Subject, block: usize) -> u32
-    requires { IsRead u.now }
-    ensures { result ≡ file_of (unit_of u.now) block }
-{
-    match u.passage_at(block) {
-        Some(passage) => passage.file,
-        None => 0,
-    }
-}
-
 #[tactic(auto, unfolding(crate::specs::Wants::callee_wants))]
 fn callee_wants(
     u: &Subject,
@@ -191,7 +181,7 @@ fn callee_wants(
 ) -> Found<Mark, Item>
     requires scene { IsScene u.now s.now }
     requires facts { AreFactsOf s.now x }
-    ensures is { told_by (said s.now) result ≡ tell (so_far s.now) (callee_wants (unit_of u.now) block around.now slot (facts_in s.now x) (said s.now (Mark.Good x)) callee) }
+    ensures is { told_by (said s.now) result ≡ tell (so_far s.now) (callee_wants (unit_of u.now) block around.now slot (known_of s.now x) (said s.now (Mark.Good x)) callee) }
     ensures over { IfFound result (IsMarkOf s.now) }
 {
     match callee {
@@ -230,7 +220,7 @@ fn called_wants(
     }
 }
 
-#[tactic(auto, using(builtin_rules::proofs::BindLaws::says_bind, builtin_rules::proofs::BindLaws::waits_bind), unfolding(crate::specs::Wants::slot_wants))]
+#[tactic(auto, using(rule_words::proofs::BindLaws::says_bind, rule_words::proofs::BindLaws::waits_bind), unfolding(crate::specs::Wants::slot_wants))]
 fn slot_wants(u: &Subject, s: &State, block: usize, around: &Node, slot: usize) -> Found<Mark, Item>
     requires scene { IsScene u.now s.now }
     ensures is { told_by (said s.now) result ≡ tell (so_far s.now) (slot_wants (unit_of u.now) block around.now slot) }

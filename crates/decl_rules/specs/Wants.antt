@@ -7,12 +7,12 @@ use Rattle.go_tree.specs.declared.tree.NodeKind.{NodeKind}
 use Rattle.go_tree.specs.declared.tree.NodeKind.TheVariants as k
 use Rattle.package_objects.specs.Declares.{part}
 use Rattle.type_model.specs.GoTypes.{BasicType}
-use Rattle.mark_walk.specs.Asks.{done, bind}
+use Rattle.mark_walk.specs.Asks.{bind}
 use Rattle.typed_tree.specs.Places.{is_type}
 use Rattle.typed_tree.specs.declared.place.Want.{Want as Demand}
 use Rattle.typed_tree.specs.declared.place.Want.TheVariants as demand
 use Rattle.typed_marks.specs.declared.item.Stage.TheVariants as s
-use Rattle.typed_marks.specs.Meanings.{Known, Wish, Free, Takes, Assigned, Meaning, Wishes}
+use Rattle.typed_marks.specs.Meanings.{Known, Wish, Free, Takes, Assigned, Meaning}
 use Rattle.unit_read.specs.declared.passage.Passage.{Passage}
 use Rattle.unit_read.specs.declared.place.Place.{Place}
 use Rattle.unit_read.specs.Units.{Unit, passage_at}
@@ -21,6 +21,7 @@ use Rattle.decl_rules.specs.declared.forms.Valuing.{Valuing}
 use Rattle.decl_rules.specs.declared.forms.Valuing.TheVariants as valuing
 use Rattle.decl_rules.specs.Forms.{valuing_form}
 use Rattle.rule_words.specs.Good.{known_told}
+use Rattle.rule_words.specs.Wishes.{wants}
 
 -- whether the parts in a slot are types
 abbrev pub is_type_slot : NodeKind → ℕ → Bool
@@ -47,10 +48,6 @@ is_type_slot k.Method slot = nat_le 1 slot
 is_type_slot k.FuncDecl slot = nat_le 1 slot
 is_type_slot k.MethodDecl slot = not (slot == 1)
 is_type_slot _ slot = false
-
--- a part is wanted so, and a value of this type
-abbrev pub wants : Demand → Wish → Rule
-wants demand wish = done (Wishes demand wish)
 
 -- the type that is written for values
 abbrev pub assigned_to : Known → Wish

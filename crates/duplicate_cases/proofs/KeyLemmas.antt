@@ -33,9 +33,11 @@ use Rattle.typed_marks.specs.States.{so_far}
 use Rattle.rule_words.specs.Asking.{item}
 use Rattle.rule_words.specs.Good.{known_told, known_of}
 use Rattle.rule_words.specs.Scenes.{said, IsMarkOf, type_in, IsTypeOf}
-use Rattle.duplicate_cases.specs.Again.{is_at, is_before, is_again, nth_of}
-use Rattle.duplicate_cases.specs.Duplicates.{is_nil_mode, is_type_mode, same_value, same_values, are_types, are_nil, are_constants, are_same, same_known, same_marks, is_same_at, is_among, placed_in}
-use Rattle.duplicate_cases.specs.InCode.{spelled_int, spelled_const, spelled_value, spelled_type, spelled_facts, spelled_mark, spelled_at, AreSeen, if_so, again_at, duplicate_at, duplicates_of}
+use Rattle.rule_words.specs.Again.{is_again, is_before}
+use Rattle.rule_words.specs.Met.{spelled_int}
+use Rattle.typed_tree.specs.Places.{is_nil_mode, is_type}
+use Rattle.duplicate_cases.specs.Duplicates.{same_value, same_values, are_types, are_nil, are_constants, are_same, same_known, same_marks, is_same_at, is_among, placed_in}
+use Rattle.duplicate_cases.specs.InCode.{spelled_const, spelled_value, spelled_type, spelled_facts, spelled_mark, spelled_at, AreSeen, if_so, again_at, duplicate_at, duplicates_of}
 
 -- ---- values
 
@@ -88,7 +90,7 @@ values_same a b (Some c) (Some d) = const_same a b c d
 
 -- ---- types
 
-one_mode : (x : Mode) → is_type_mode x ≡ true → is_nil_mode x ≡ false
+one_mode : (x : Mode) → is_type x ≡ true → is_nil_mode x ≡ false
 one_mode mode.TypeName e = refl
 one_mode mode.NoValue e = absurd cc
 one_mode mode.Constant e = absurd cc
@@ -131,7 +133,7 @@ module _ (s : State) (table : IsTable s.table) where
 
   facts_same : (of_types : Bool) (x y : Facts) → IsTypeOf s x.of → IsTypeOf s x.last → IsTypeOf s y.of → IsTypeOf s y.last
       → spelled_same (spelled_facts s of_types x) (spelled_facts s of_types y) ≡ are_same of_types (known_of s x) (known_of s y)
-  facts_same true x y of last of_y last_y = types_by (is_type_mode x.mode) (is_type_mode y.mode) (is_nil_mode x.mode) (is_nil_mode y.mode) x.of y.of of of_y (one_mode x.mode) (one_mode y.mode)
+  facts_same true x y of last of_y last_y = types_by (is_type x.mode) (is_type y.mode) (is_nil_mode x.mode) (is_nil_mode y.mode) x.of y.of of of_y (one_mode x.mode) (one_mode y.mode)
   facts_same false x y of last of_y last_y =
       values_same x.last.0 y.last.0 (constant_at s.constants.items x.value) (constant_at s.constants.items y.value)
       ∙ ap (λ t. t && same_values (constant_at s.constants.items x.value) (constant_at s.constants.items y.value)) (type_same x.last y.last last last_y)

@@ -13,14 +13,13 @@ use Rattle.go_tree.specs.declared.tree.FileTree.{FileTree}
 use Rattle.go_tree.specs.declared.tree.NodeRef.{NodeRef}
 use Rattle.package_objects.specs.Declares.{gather, items, part}
 use Rattle.same_types.specs.Same.{same_type}
-use Rattle.typed_tree.specs.declared.mark.Mode.{Mode}
-use Rattle.typed_tree.specs.declared.mark.Mode.TheVariants as mode
 use Rattle.typed_marks.specs.declared.item.Item.{Item}
 use Rattle.typed_marks.specs.declared.item.Stage.TheVariants as s
 use Rattle.typed_marks.specs.Meanings.{Known, Meaning}
 use Rattle.unit_read.specs.Units.{Unit, tree_at}
 use Rattle.rule_words.specs.Asking.{item}
 use Rattle.rule_words.specs.Good.{known_told}
+use Rattle.typed_tree.specs.Places.{is_nil_mode, is_type}
 
 -- ---- words
 
@@ -36,14 +35,6 @@ is_switch _ = false
 abbrev pub is_type_switch : NodeKind → Bool
 is_type_switch k.TypeSwitch = true
 is_type_switch _ = false
-
-abbrev pub is_nil_mode : Mode → Bool
-is_nil_mode mode.Nil = true
-is_nil_mode _ = false
-
-abbrev pub is_type_mode : Mode → Bool
-is_type_mode mode.TypeName = true
-is_type_mode _ = false
 
 -- ---- what the clauses of a switch list, in the order of the text
 
@@ -81,7 +72,7 @@ same_values _ _ = false
 
 -- types, or nil twice
 abbrev pub are_types : Known → Known → Bool
-are_types x y = is_type_mode x.mode && (is_type_mode y.mode && same_type x.of y.of)
+are_types x y = is_type x.mode && (is_type y.mode && same_type x.of y.of)
 
 abbrev pub are_nil : Known → Known → Bool
 are_nil x y = is_nil_mode x.mode && is_nil_mode y.mode

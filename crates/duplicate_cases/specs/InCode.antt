@@ -1,8 +1,6 @@
 -- What is noted of the values and types of clauses, in code.
-use Rattle.std.specs.Prelude.{ℕ, ◌≡◌, ℤ, pos, negsuc, Bool, List, [], ◌∷◌, length, is_some, if◌then◌else◌, Option, Some, None, IfSome, option_map, option_and_then, slice_get}
+use Rattle.std.specs.Prelude.{ℕ, ◌≡◌, Bool, List, [], ◌∷◌, length, if◌then◌else◌, Option, Some, None, IfSome, option_map, option_and_then, slice_get}
 use Rattle.std.specs.Option.{option_map_or}
-use Rattle.std.specs.Global.{Vec}
-use Rattle.std.specs.HashMap.{HashMap, get_by}
 use Rattle.std.specs.Str.{bytes_eq}
 use Rattle.gv_base.specs.declared.constant.Const.{Const}
 use Rattle.gv_base.specs.declared.constant.Const.TheVariants as const
@@ -21,23 +19,14 @@ use Rattle.typed_marks.specs.Meanings.{Meaning, constant_at}
 use Rattle.typed_marks.specs.States.{so_far}
 use Rattle.rule_words.specs.Asking.{item}
 use Rattle.rule_words.specs.Scenes.{said, IsMarkOf}
-use Rattle.duplicate_cases.specs.Again.{nth_of, is_again}
-use Rattle.duplicate_cases.specs.Duplicates.{is_switch, is_type_switch, is_nil_mode, is_type_mode, listed, is_among, placed_in}
+use Rattle.rule_words.specs.Again.{is_again, nth_of}
+use Rattle.rule_words.specs.Met.{spelled_int}
+use Rattle.typed_tree.specs.Places.{is_nil_mode, is_type}
+use Rattle.duplicate_cases.specs.Duplicates.{is_switch, is_type_switch, listed, is_among, placed_in}
 
 -- ---- what is noted
 
--- what is kept under a spelling
-abbrev pub kept : {S : Type 0} → HashMap (Vec ℕ) ℕ S → List ℕ → Option ℕ
-kept met key = get_by (λ k. bytes_eq key k.items) met
-
-abbrev pub holds : {S : Type 0} → HashMap (Vec ℕ) ℕ S → List ℕ → Bool
-holds met key = is_some (kept met key)
-
 -- ---- marks, spelled
-
-abbrev pub spelled_int : ℤ → List ℕ
-spelled_int (pos n) = 0 ∷ n ∷ []
-spelled_int (negsuc n) = 1 ∷ n ∷ []
 
 -- a constant with the number of its type: of which form, and the value; no truth
 abbrev pub spelled_const : ℕ → Const → Option (List ℕ)
@@ -50,7 +39,7 @@ spelled_value s x = option_and_then (spelled_const x.last.0) (constant_at s.cons
 
 -- the number of a type; nothing for nil
 abbrev pub spelled_type : Facts → Option (List ℕ)
-spelled_type x = if is_type_mode x.mode then Some (x.of.0 ∷ []) else (if is_nil_mode x.mode then Some [] else None)
+spelled_type x = if is_type x.mode then Some (x.of.0 ∷ []) else (if is_nil_mode x.mode then Some [] else None)
 
 abbrev pub spelled_facts : State → Bool → Facts → Option (List ℕ)
 spelled_facts s of_types x = if of_types then spelled_type x else spelled_value s x

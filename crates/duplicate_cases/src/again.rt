@@ -1,8 +1,5 @@
 //! What stands twice in a list, by what is noted of each.
-ghost use Rattle.std.specs.Prelude.{◌≡◌, ◌||◌, ◌++◌, ◌∷◌, ◌<◌, ◌≤◌, ℕ, List, Some, [], false, if◌then◌else◌, length, IfOk, OnOk, IfSome, option_map, slice_get};
-ghost use Rattle.std.specs.Option.{option_map_or};
-ghost use Rattle.std.specs.Global.{Vec};
-ghost use Rattle.std.specs.Str.{bytes_eq};
+ghost use Rattle.std.specs.Prelude.{◌≡◌, ◌++◌, ◌∷◌, ◌<◌, ◌≤◌, Some, [], length, IfOk, OnOk, IfSome, option_map, slice_get};
 ghost use Rattle.mark_walk.specs.Asks.{filled};
 ghost use Rattle.object_order.specs.Spots.{place};
 ghost use Rattle.package_objects.specs.Declares.{gather};
@@ -12,52 +9,17 @@ ghost use Rattle.typed_marks.specs.declared.item.Stage.TheVariants as st;
 ghost use Rattle.rule_words.specs.Asking.{item};
 ghost use Rattle.rule_words.specs.Scenes.{said, IsMarkOf};
 ghost use Rattle.duplicate_cases.specs.Duplicates.{placed_in};
-ghost use Rattle.duplicate_cases.specs.InCode.{kept, holds, spelled_at, AreSeen, if_so, again_at, duplicates_of};
+ghost use Rattle.duplicate_cases.specs.InCode.{spelled_at, AreSeen, if_so, again_at, duplicates_of};
 
 use crate::keys::spelled_at;
 use go_tree::NodeRef;
 use gv_base::NoMemory;
+use rule_words::met::meet;
 use std::alloc::Global;
 use std::collections::HashMap;
 use typed_marks::{Item, Mark, Stage, State};
 
 // ---- what was noted
-
-fn holds(met: &HashMap<Vec<u128>, u8>, key: &[u128]) -> bool
-    ensures { result ≡ holds met.now key.now }
-{
-    met.contains_key(key)
-}
-
-fn keep(met: &mut HashMap<Vec<u128>, u8>, key: Vec<u128>) -> Result<(), NoMemory>
-    ensures { OnOk result ((k : List ℕ) → kept met.new k ≡ (if bytes_eq key.items k then Some 0 else kept met.old k)) }
-{
-    met.insert(key, 0)?;
-    Ok(())
-}
-
-fn meet_spelled(met: &mut HashMap<Vec<u128>, u8>, key: Vec<u128>) -> Result<bool, NoMemory>
-    ensures again { IfOk result (λ again. again ≡ holds met.old key.items) }
-    ensures notes { OnOk result ((k : List ℕ) → holds met.new k ≡ (holds met.old k || bytes_eq key.items k)) }
-{
-    let again = holds(met, &key);
-    keep(met, key)?;
-    Ok(again)
-}
-
-/// Notes a spelling, and answers whether it was noted.
-fn meet(met: &mut HashMap<Vec<u128>, u8>, key: Option<Vec<u128>>) -> Result<bool, NoMemory>
-    ensures again { IfOk result (λ again. again ≡ option_map_or (λ (v : Vec ℕ). holds met.old v.items) key false) }
-    ensures notes { OnOk result ((k : List ℕ) → holds met.new k ≡ (holds met.old k || option_map_or (λ (v : Vec ℕ). bytes_eq v.items k) key false)) }
-{
-    match key {
-        Some(key) => {
-            let again = meet_spelled(met, key)?;
-            Ok(again)
-        }
-        None => Ok(false),
-    }
-}
 
 // ---- the marks of a list
 

@@ -1,59 +1,17 @@
 //! Values and types of clauses, spelled.
-ghost use Rattle.std.specs.Prelude.{◌≡◌, ◌++◌, ◌∷◌, [], ℕ, pos, negsuc, ◌<ℤ◌, Some, None, Option, option_map, IfOk, OnOk};
-ghost use Rattle.std.specs.Option.{option_copied};
+ghost use Rattle.std.specs.Prelude.{◌≡◌, ◌∷◌, [], ℕ, Some, None, Option, option_map, IfOk};
 ghost use Rattle.std.specs.Global.{Vec};
-ghost use Rattle.typed_marks.specs.Meanings.{constant_at};
-ghost use Rattle.duplicate_cases.specs.Again.{nth_of};
-ghost use Rattle.duplicate_cases.specs.InCode.{spelled_int, spelled_const, spelled_value, spelled_type, spelled_facts, spelled_mark, spelled_at};
+ghost use Rattle.duplicate_cases.specs.InCode.{spelled_const, spelled_value, spelled_type, spelled_facts, spelled_mark, spelled_at};
+ghost use Rattle.rule_words.specs.Again.{nth_of};
+ghost use Rattle.rule_words.specs.Met.{spelled_int};
 
-use crate::words::{is_nil_mode, is_type_mode};
 use gv_base::{Const, NoMemory};
+use rule_words::met::{push, push_bytes, push_int, push_two};
+use rule_words::modes::{is_nil_mode, is_type};
+use rule_words::values::value_at;
 use std::alloc::Global;
 use type_model::TypeId;
-use typed_marks::{ConstId, Facts, Mark, State};
-
-fn push(out: &mut Vec<u128>, n: u128) -> Result<(), NoMemory>
-    ensures { OnOk result (out.new.items ≡ out.old.items ++ n ∷ []) }
-{
-    out.push(n)?;
-    Ok(())
-}
-
-fn push_two(out: &mut Vec<u128>, a: u128, b: u128) -> Result<(), NoMemory>
-    ensures { OnOk result (out.new.items ≡ out.old.items ++ a ∷ b ∷ []) }
-{
-    push(out, a)?;
-    push(out, b)?;
-    Ok(())
-}
-
-/// What a negative number is below zero, but for one.
-fn below_zero(n: i128) -> u128
-    requires { n <ℤ pos 0 }
-    ensures { n ≡ negsuc result }
-{
-    (-(n + 1)) as u128
-}
-
-fn push_int(out: &mut Vec<u128>, n: i128) -> Result<(), NoMemory>
-    ensures { OnOk result (out.new.items ≡ out.old.items ++ spelled_int n) }
-{
-    if n < 0 {
-        push_two(out, 1, below_zero(n))?;
-    } else {
-        push_two(out, 0, n as u128)?;
-    }
-    Ok(())
-}
-
-fn push_bytes(out: &mut Vec<u128>, text: &[u8]) -> Result<(), NoMemory>
-    ensures { OnOk result (out.new.items ≡ out.old.items ++ text.now) }
-{
-    for b in text {
-        out.push(*b as u128)?;
-    }
-    Ok(())
-}
+use typed_marks::{Facts, Mark, State};
 
 fn int_key(alloc: Global, of: u128, n: i128) -> Result<Vec<u128>, NoMemory>
     ensures { IfOk result (λ key. key.items ≡ of ∷ spelled_int n) }
@@ -90,15 +48,6 @@ fn spelled_const(alloc: Global, of: TypeId, c: &Const) -> Result<Option<Vec<u128
     }
 }
 
-fn value_at(s: &State, value: Option<ConstId>) -> Option<&Const>
-    ensures { option_copied result ≡ constant_at s.now.constants.items value }
-{
-    match value {
-        Some(id) => s.constants.get(id.0 as usize),
-        None => None,
-    }
-}
-
 fn spelled_value(alloc: Global, s: &State, x: Facts) -> Result<Option<Vec<u128>>, NoMemory>
     ensures { IfOk result (λ key. option_map (λ (v : Vec ℕ). v.items) key ≡ spelled_value s.now x) }
 {
@@ -123,7 +72,7 @@ fn type_key(alloc: Global, of: TypeId) -> Result<Vec<u128>, NoMemory>
 fn spelled_type(alloc: Global, x: Facts) -> Result<Option<Vec<u128>>, NoMemory>
     ensures { IfOk result (λ key. option_map (λ (v : Vec ℕ). v.items) key ≡ spelled_type x) }
 {
-    if is_type_mode(x.mode) {
+    if is_type(x.mode) {
         let key = type_key(alloc, x.of)?;
         return Ok(Some(key));
     }

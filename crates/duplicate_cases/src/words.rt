@@ -1,10 +1,9 @@
 //! Words of the rule.
 ghost use Rattle.std.specs.Prelude.{◌≡◌};
 ghost use Rattle.package_objects.specs.Declares.{is_list};
-ghost use Rattle.duplicate_cases.specs.Duplicates.{is_type_list, is_switch, is_type_switch, is_nil_mode, is_type_mode};
+ghost use Rattle.duplicate_cases.specs.Duplicates.{is_type_list, is_switch, is_type_switch};
 
 use go_tree::NodeKind;
-use typed_tree::Mode;
 
 pub(crate) fn is_list(kind: NodeKind) -> bool
     ensures { result ≡ is_list kind }
@@ -28,16 +27,4 @@ pub(crate) fn is_type_switch(kind: NodeKind) -> bool
     ensures { result ≡ is_type_switch kind }
 {
     matches!(kind, NodeKind::TypeSwitch)
-}
-
-pub(crate) fn is_nil_mode(mode: Mode) -> bool
-    ensures { result ≡ is_nil_mode mode }
-{
-    matches!(mode, Mode::Nil)
-}
-
-pub(crate) fn is_type_mode(mode: Mode) -> bool
-    ensures { result ≡ is_type_mode mode }
-{
-    matches!(mode, Mode::TypeName)
 }

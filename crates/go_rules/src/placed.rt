@@ -1,7 +1,6 @@
 //! What a place makes of a node.
 ghost use Rattle.std.specs.Prelude.{◌≡◌, IfOk};
 ghost use Rattle.mark_walk.specs.Telling.{tell};
-ghost use Rattle.typed_tree.specs.Places.{is_type};
 ghost use Rattle.typed_marks.specs.Meanings.{Right};
 ghost use Rattle.typed_marks.specs.States.{so_far};
 ghost use Rattle.unit_read.specs.Subjects.{unit_of};
@@ -18,6 +17,7 @@ use elaborate::{Brief, in_brief};
 use go_tree::{Node, NodeRef};
 use gv_base::NoMemory;
 use op_rules::judge_placed;
+use rule_words::modes::is_type;
 use rule_words::{Wanted, wanted_by};
 use statement_rules::{Placing as StatementPlacing, judge_statement_placed};
 use std::alloc::Global;
@@ -25,7 +25,7 @@ use type_answers::ask_mark;
 use type_questions::Found;
 use type_rules::judge_element;
 use typed_marks::{Facts, Mark, Stage, State, Want};
-use typed_tree::{Mode, NOT_A_TYPE, Want as Demand};
+use typed_tree::{NOT_A_TYPE, Want as Demand};
 use unit_read::{Place, Subject};
 use variable_rules::{is_shared, judge_shared};
 
@@ -64,15 +64,6 @@ fn placed_plain(
 }
 
 // ---- what an interface embeds
-
-fn is_type(mode: Mode) -> bool
-    ensures { result ≡ is_type mode }
-{
-    match mode {
-        Mode::TypeName => true,
-        _ => false,
-    }
-}
 
 /// What an interface embeds is a type, E10, and of these an interface, E15, whose methods agree with the others, E14.
 fn embedded_good(

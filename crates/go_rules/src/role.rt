@@ -6,10 +6,11 @@ ghost use Rattle.assign_rules.specs.Around.{outermost};
 ghost use Rattle.go_rules.specs.Roles.{is_name, states_names, stated_role, takes_in, takes_beside, is_assigned, is_dropped, is_key, used_role, blank_or_use, key_or_use, declared_or_use, stated_or_use, name_role, role_of, role_in, role_beside, role_at, clause_for, is_method, element_placing, is_body, function_placing, placing_of, unless_stated, placing_at};
 
 use crate::family::{family_of, is_told};
-use assign_rules::around::{clause_of, is_blank, outermost};
+use assign_rules::around::{clause_of, outermost};
 use assign_rules::kinds::names_label;
 use decl_rules::declares_names;
 use go_tree::{Node, NodeKind, NodeRef, Object};
+use rule_words::is_blank;
 use statement_rules::{Placing as StatementPlacing, placing_of as statement_placing, takes_blank};
 use unit_read::{Place, Subject};
 

@@ -14,11 +14,10 @@ ghost use Rattle.op_rules.specs.Names.{used, object_ask};
 ghost use Rattle.go_rules.specs.Uses.{declared_at, is_written, is_alone, is_plain_name, is_free, is_free_use, free_use};
 
 use crate::role::is_name;
-use assign_rules::around::is_blank;
 use elaborate::Brief;
 use go_tree::{Node, NodeRef, Object};
 use package_objects::part_count;
-use rule_words::{look, operand};
+use rule_words::{is_blank, look, operand};
 use type_questions::Found;
 use typed_marks::{Mark, Stage, State, Want};
 use unit_read::Subject;

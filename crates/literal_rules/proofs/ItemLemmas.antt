@@ -4,7 +4,7 @@ use Rattle.typed_marks.specs.declared.mark.Mark.{Mark}
 use Rattle.typed_marks.specs.declared.state.State.{State}
 use Rattle.typed_marks.specs.Meanings.{Meaning}
 use Rattle.rule_words.specs.Scenes.{said, IsMarkOf}
-use Rattle.literal_rules.specs.Again.{nth_of}
+use Rattle.rule_words.specs.Again.{nth_of}
 use Rattle.literal_rules.specs.InCode.{keys_in, AreKeysOf}
 
 pub keys_last : (s : State) (out : List (Option Mark)) (x : Option Mark) → keys_in s (out ++ x ∷ []) ≡ keys_in s out ++ option_map (said s) x ∷ []

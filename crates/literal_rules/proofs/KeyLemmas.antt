@@ -22,11 +22,13 @@ use Rattle.typed_marks.specs.declared.mark.Mark.TheVariants as m
 use Rattle.typed_marks.specs.declared.state.State.{State}
 use Rattle.typed_marks.specs.Meanings.{Meaning, constant_at, declared, declaration_of}
 use Rattle.rule_words.specs.Scenes.{said, IsMarkOf, type_in, IsTypeOf}
-use Rattle.literal_rules.specs.Again.{any_of, is_at, is_before, is_again, has_again, nth_of}
+use Rattle.literal_rules.specs.Again.{has_again}
 use Rattle.literal_rules.specs.Items.{key_of}
 use Rattle.literal_rules.specs.Maps.{Key, same_value, same_key, constant_of, constant_key}
 use Rattle.rule_words.specs.Good.{known_told}
-use Rattle.literal_rules.specs.Sets.{spelled_int, spelled_const, spelled, spelled_facts, spelled_mark, spelled_key}
+use Rattle.rule_words.specs.Again.{is_again, is_at, is_before, nth_of}
+use Rattle.rule_words.specs.Met.{spelled_int}
+use Rattle.literal_rules.specs.Sets.{spelled_const, spelled, spelled_facts, spelled_mark, spelled_key}
 use Rattle.literal_rules.specs.InCode.{keys_in, AreKeysOf}
 use Rattle.literal_rules.proofs.ItemLemmas.{nth_said, mark_among}
 

@@ -1,5 +1,4 @@
 mod AgainLemmas
-pub mod BindLaws
 mod FieldLemmas
 mod ItemLemmas
 mod KeyLemmas

@@ -3,10 +3,10 @@ use Rattle.std.proofs.Common.{◌≡◌, ◌<◌, ◌≤◌, ◌+◌, ℕ, zero,
 use Rattle.std.proofs.lemmas.Bool.Decides.{nat_tests}
 use Rattle.std.specs.Option.{option_map_or}
 use Rattle.typed_marks.specs.Meanings.{Known, Meaning}
-use Rattle.literal_rules.specs.Again.{any_of, nth_of}
 use Rattle.literal_rules.specs.Items.{key_of}
 use Rattle.literal_rules.specs.Rows.{by_key, next_after, position, is_beyond}
 use Rattle.literal_rules.specs.InCode.{AllBefore}
+use Rattle.rule_words.specs.Again.{any_of, nth_of}
 
 -- what is bounded by less is bounded by more
 pub bounded_more : (o : Option ℕ) (low high : ℕ) → low ≤ high → IfSome o (λ p. p ≤ low) → IfSome o (λ p. p ≤ high)

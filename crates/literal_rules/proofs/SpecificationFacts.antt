@@ -8,7 +8,7 @@ use Rattle.type_model.specs.Parts.{GoField}
 use Rattle.typed_tree.specs.declared.mark.Mode.TheVariants as mode
 use Rattle.typed_marks.specs.Meanings.{Meaning, Right}
 use Rattle.typed_tree.specs.declared.rule.TheConstants.{DUPLICATE_KEY, BAD_INDEX_KEY, INDEX_OUT_OF_RANGE, MISSING_KEY, UNKNOWN_FIELD, WRONG_NUMBER_OF_FIELDS, IMPLICIT_FIELD_NOT_EXPORTED}
-use Rattle.literal_rules.specs.Again.{has_again, nth_of}
+use Rattle.literal_rules.specs.Again.{has_again}
 use Rattle.literal_rules.specs.Rows.{positions, row_fault, end_of}
 use Rattle.literal_rules.specs.Maps.{map_fault}
 use Rattle.literal_rules.specs.Structs.{field_place, named_fault, unkeyed_fault}

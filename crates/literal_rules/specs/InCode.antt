@@ -9,10 +9,10 @@ use Rattle.typed_marks.specs.declared.mark.Mark.{Mark}
 use Rattle.typed_marks.specs.declared.state.State.{State}
 use Rattle.typed_marks.specs.Meanings.{Meaning}
 use Rattle.rule_words.specs.Scenes.{said, IsMarkOf, type_in, IsTypeOf, MayBeTypeOf}
+use Rattle.rule_words.specs.Again.{nth_of}
 use Rattle.literal_rules.specs.declared.shape.Shape.{Shape as ShapeInCode}
 use Rattle.literal_rules.specs.declared.shape.Shape.TheVariants as c
 use Rattle.literal_rules.specs.declared.shape.Literal.{Literal as LiteralInCode}
-use Rattle.literal_rules.specs.Again.{nth_of}
 use Rattle.literal_rules.specs.Shapes.{Shape, Fields, Row, Table, Other, Literal}
 
 -- the fields of a struct type

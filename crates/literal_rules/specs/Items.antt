@@ -9,7 +9,8 @@ use Rattle.typed_marks.specs.Meanings.{Known, Meaning}
 use Rattle.unit_read.specs.Units.{Unit}
 use Rattle.rule_words.specs.Asking.{Asks, mark_ask, ask_each}
 use Rattle.rule_words.specs.Good.{known_told}
-use Rattle.literal_rules.specs.Again.{any_of, all_of, nth_of}
+use Rattle.rule_words.specs.Again.{any_of, nth_of}
+use Rattle.literal_rules.specs.Again.{all_of}
 use Rattle.literal_rules.specs.Forms.{is_pair}
 
 -- what stands before the colon of an element

@@ -8,9 +8,10 @@ use Rattle.package_objects.specs.Declares.{gather}
 use Rattle.typed_tree.specs.declared.rule.Rule.{Rule as RuleNumber}
 use Rattle.typed_marks.specs.Meanings.{Known, Meaning}
 use Rattle.typed_tree.specs.declared.rule.TheConstants.{DUPLICATE_KEY, BAD_INDEX_KEY, INDEX_OUT_OF_RANGE}
-use Rattle.literal_rules.specs.Again.{any_of, has_again, nth_of, is_empty_at}
+use Rattle.literal_rules.specs.Again.{has_again, is_empty_at}
 use Rattle.literal_rules.specs.Items.{key_of}
 use Rattle.literal_rules.specs.Structs.{tested}
+use Rattle.rule_words.specs.Again.{any_of, nth_of}
 
 -- ---- positions
 

@@ -1,9 +1,6 @@
 -- What is noted of keys, in code.
-use Rattle.std.specs.Prelude.{ℕ, ℤ, pos, negsuc, nat_eq, Bool, List, [], ◌∷◌, is_some, if◌then◌else◌, Option, None, option_map, option_and_then}
-use Rattle.std.specs.Global.{Vec}
-use Rattle.std.specs.HashMap.{HashMap, get_by}
+use Rattle.std.specs.Prelude.{ℕ, nat_eq, Bool, List, [], ◌∷◌, if◌then◌else◌, Option, None, option_map, option_and_then}
 use Rattle.std.specs.HashSet.{HashSet, contains_by}
-use Rattle.std.specs.Str.{bytes_eq}
 use Rattle.gv_base.specs.declared.constant.Const.{Const}
 use Rattle.gv_base.specs.declared.constant.Const.TheVariants as const
 use Rattle.typed_marks.specs.declared.mark.Facts.{Facts}
@@ -11,24 +8,14 @@ use Rattle.typed_marks.specs.declared.mark.Mark.{Mark}
 use Rattle.typed_marks.specs.declared.mark.Mark.TheVariants as m
 use Rattle.typed_marks.specs.declared.state.State.{State}
 use Rattle.typed_marks.specs.Meanings.{constant_at}
-use Rattle.literal_rules.specs.Again.{nth_of}
+use Rattle.rule_words.specs.Again.{nth_of}
+use Rattle.rule_words.specs.Met.{spelled_int}
 
 -- whether the number is noted
 abbrev pub has : {S : Type 0} → HashSet ℕ S → ℕ → Bool
 has met n = contains_by (λ key. nat_eq n key) met
 
--- what is kept under a spelling
-abbrev pub kept : {S : Type 0} → HashMap (Vec ℕ) ℕ S → List ℕ → Option ℕ
-kept met key = get_by (λ k. bytes_eq key k.items) met
-
-abbrev pub holds : {S : Type 0} → HashMap (Vec ℕ) ℕ S → List ℕ → Bool
-holds met key = is_some (kept met key)
-
 -- ---- constants, spelled: of which form, and the value
-
-abbrev pub spelled_int : ℤ → List ℕ
-spelled_int (pos n) = 0 ∷ n ∷ []
-spelled_int (negsuc n) = 1 ∷ n ∷ []
 
 abbrev pub spelled_const : Const → List ℕ
 spelled_const (const.Int z) = spelled_int z

@@ -10,9 +10,10 @@ use Rattle.type_model.specs.Parts.{GoField}
 use Rattle.typed_tree.specs.declared.rule.Rule.{Rule as RuleNumber}
 use Rattle.unit_read.specs.Units.{Unit, name_at, is_blank}
 use Rattle.typed_tree.specs.declared.rule.TheConstants.{KEYS_MIXED, UNKNOWN_FIELD, DUPLICATE_KEY, WRONG_NUMBER_OF_FIELDS, IMPLICIT_FIELD_NOT_EXPORTED}
-use Rattle.literal_rules.specs.Again.{any_of, all_of, has_again, nth_of, is_empty_at}
+use Rattle.literal_rules.specs.Again.{all_of, has_again, is_empty_at}
 use Rattle.literal_rules.specs.Forms.{is_name}
 use Rattle.literal_rules.specs.Items.{key_at, has_key, have_keys}
+use Rattle.rule_words.specs.Again.{any_of, nth_of}
 
 -- the first test that fails gives its rule
 abbrev pub tested : Bool → RuleNumber → Option RuleNumber → Option RuleNumber

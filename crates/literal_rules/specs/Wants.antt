@@ -11,10 +11,10 @@ use Rattle.type_model.specs.GoTypes.{GoType, BasicType}
 use Rattle.type_model.specs.Parts.{GoField}
 use Rattle.typed_tree.specs.declared.place.Want.TheVariants as demand
 use Rattle.typed_marks.specs.Meanings.{Free, Takes, Assigned, Meaning, Wishes}
-use Rattle.unit_read.specs.declared.passage.Passage.{Passage}
 use Rattle.unit_read.specs.declared.place.Place.{Place}
-use Rattle.unit_read.specs.Units.{Unit, nodes_at, passage_at, place_at}
+use Rattle.unit_read.specs.Units.{Unit, nodes_at, place_at}
 use Rattle.rule_words.specs.Asking.{Rule}
+use Rattle.rule_words.specs.Files.{file_of}
 use Rattle.literal_rules.specs.declared.forms.Form.{Form}
 use Rattle.literal_rules.specs.declared.forms.Form.TheVariants as f
 use Rattle.literal_rules.specs.Forms.{form_of, is_braces, is_pair}
@@ -72,9 +72,6 @@ key_wanted Other = nothing_wanted
 -- where the type isn't known nothing is wanted
 abbrev pub by_shape : (Shape → Meaning) → Option Literal → Rule
 by_shape wanted o = done (option_map_or (λ (l : Literal). wanted l.shape) o nothing_wanted)
-
-abbrev pub file_of : Unit → ℕ → ℕ
-file_of u block = option_map_or (λ (p : Passage). p.file) (passage_at u block) 0
 
 abbrev pub braces_want : Unit → ℕ → ℕ → (Shape → Meaning) → Rule
 braces_want u block v wanted = bind (braces_ask u block (place (file_of u block) v)) (by_shape wanted)

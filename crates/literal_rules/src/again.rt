@@ -1,14 +1,14 @@
 //! What stands twice in a list.
-ghost use Rattle.std.specs.Prelude.{◌≡◌, ◌||◌, ℕ, List, Some, false, true, cond, if◌then◌else◌, nat_eq, length, IfOk, OnOk};
+ghost use Rattle.std.specs.Prelude.{◌≡◌, ◌||◌, ℕ, false, true, cond, nat_eq, length, IfOk, OnOk};
 ghost use Rattle.std.specs.Option.{option_map_or};
-ghost use Rattle.std.specs.Str.{bytes_eq};
-ghost use Rattle.literal_rules.specs.Again.{any_of, has_again, nth_of, is_empty_at};
-ghost use Rattle.literal_rules.specs.Sets.{has, kept, holds};
+ghost use Rattle.literal_rules.specs.Again.{has_again, is_empty_at};
+ghost use Rattle.literal_rules.specs.Sets.{has};
+ghost use Rattle.rule_words.specs.Again.{any_of, nth_of};
 
 use crate::items::either;
 use gv_base::NoMemory;
 use std::alloc::Global;
-use std::collections::{HashMap, HashSet};
+use std::collections::HashSet;
 
 /// What stands at a place.
 pub fn nth(places: &[Option<u128>], i: usize) -> Option<u128>
@@ -84,16 +84,3 @@ pub fn has_again(alloc: Global, places: &[Option<u128>]) -> Result<bool, NoMemor
 }
 
 // ---- spelled keys
-
-pub fn holds(met: &HashMap<Vec<u128>, u8>, key: &[u128]) -> bool
-    ensures { result ≡ holds met.now key.now }
-{
-    met.contains_key(key)
-}
-
-pub fn keep(met: &mut HashMap<Vec<u128>, u8>, key: Vec<u128>) -> Result<(), NoMemory>
-    ensures { OnOk result ((k : List ℕ) → kept met.new k ≡ (if bytes_eq key.items k then Some 0 else kept met.old k)) }
-{
-    met.insert(key, 0)?;
-    Ok(())
-}

@@ -6,7 +6,6 @@ ghost use Rattle.go_tree.specs.Lexeme.{place_of};
 ghost use Rattle.type_model.specs.GoTypes.{FieldsBelow};
 ghost use Rattle.type_model.specs.Tables.{count, IsTable};
 ghost use Rattle.unit_read.specs.Subjects.{unit_of};
-ghost use Rattle.unit_read.specs.Units.{is_blank};
 ghost use Rattle.rule_words.specs.Scenes.{type_in, IsTypeOf};
 ghost use Rattle.literal_rules.specs.Structs.{is_visible, if_visible, field_names, has_name, place_near, named_field, field_place, field_key};
 ghost use Rattle.literal_rules.specs.InCode.{fields_in, field_in, last_byte};
@@ -15,6 +14,7 @@ use crate::forms::is_name;
 use crate::items::either;
 use go_tree::{Node, NodeRef};
 use package_objects::kind_of;
+use rule_words::is_blank;
 use type_model::{Field, Term, TypeId};
 use typed_marks::State;
 use unit_read::Subject;
@@ -23,12 +23,6 @@ pub fn same(a: &[u8], b: &[u8]) -> bool
     ensures { result ≡ bytes_eq a.now b.now }
 {
     a == b
-}
-
-pub fn is_blank(name: &[u8]) -> bool
-    ensures { result ≡ is_blank name.now }
-{
-    name == b"_".as_slice()
 }
 
 /// The fields of a struct type.

@@ -5,10 +5,10 @@ ghost use Rattle.mark_walk.specs.Telling.{tell};
 ghost use Rattle.typed_marks.specs.States.{so_far};
 ghost use Rattle.unit_read.specs.Subjects.{unit_of};
 ghost use Rattle.rule_words.specs.Scenes.{IsScene, told_by, IfFound, said, IsMarkOf};
-ghost use Rattle.literal_rules.specs.Again.{nth_of};
 ghost use Rattle.literal_rules.specs.Items.{pair_key, key_in, key_at, is_keyed, has_key, have_keys, key_ask, item_ask, keys_ask, key_of, is_bad_key, has_bad};
 ghost use Rattle.rule_words.specs.Good.{known_told};
 ghost use Rattle.rule_words.specs.Good.{known_of, AreFactsOf};
+ghost use Rattle.rule_words.specs.Again.{nth_of};
 ghost use Rattle.literal_rules.specs.InCode.{keys_in, AreKeysOf};
 
 use crate::forms::is_pair;

@@ -46,7 +46,7 @@ fn role_told(s: &State, l: Option<Literal>) -> Found<KeyRole, Item>
     }
 }
 
-#[tactic(auto, using(crate::proofs::BindLaws::says_bind, crate::proofs::BindLaws::waits_bind))]
+#[tactic(auto, using(rule_words::proofs::BindLaws::says_bind, rule_words::proofs::BindLaws::waits_bind))]
 fn role_around(
     u: &Subject,
     s: &State,

@@ -1,20 +1,19 @@
 //! Literals of map types.
-ghost use Rattle.std.specs.Prelude.{◌≡◌, ◌||◌, ◌<◌, ◌++◌, ◌∷◌, ℕ, List, [], pos, negsuc, ◌<ℤ◌, false, option_map, if◌then◌else◌, length, IfOk, OnOk};
-ghost use Rattle.std.specs.Option.{option_map_or};
+ghost use Rattle.std.specs.Prelude.{◌≡◌, ◌++◌, ◌∷◌, ℕ, option_map, if◌then◌else◌, length, IfOk, OnOk};
 ghost use Rattle.std.specs.Global.{Vec};
 ghost use Rattle.std.specs.Str.{bytes_eq};
 ghost use Rattle.type_model.specs.Tables.{IsTable};
 ghost use Rattle.literal_rules.specs.Again.{all_of, has_again};
 ghost use Rattle.literal_rules.specs.Items.{key_of};
 ghost use Rattle.literal_rules.specs.Maps.{same_key, constant_key, is_keyed, map_fault};
-ghost use Rattle.literal_rules.specs.Sets.{holds, spelled_int, spelled_const, spelled, spelled_facts, spelled_mark, spelled_key};
+ghost use Rattle.literal_rules.specs.Sets.{spelled_const, spelled, spelled_facts, spelled_mark, spelled_key};
 ghost use Rattle.rule_words.specs.Good.{known_of};
 ghost use Rattle.literal_rules.specs.InCode.{keys_in, AreKeysOf};
 
-use crate::again::{holds, keep};
 use crate::items::{both, either, key_of, nth_mark};
-use crate::rows::value_at;
 use gv_base::{Const, NoMemory};
+use rule_words::met::{meet, push, push_bytes, push_int, push_two};
+use rule_words::values::value_at;
 use std::alloc::Global;
 use std::collections::HashMap;
 use type_model::TypeId;
@@ -22,49 +21,6 @@ use typed_marks::{Facts, Mark, State};
 use typed_tree::{DUPLICATE_KEY, MISSING_KEY, Rule};
 
 // ---- keys, spelled
-
-fn push(out: &mut Vec<u128>, n: u128) -> Result<(), NoMemory>
-    ensures { OnOk result (out.new.items ≡ out.old.items ++ n ∷ []) }
-{
-    out.push(n)?;
-    Ok(())
-}
-
-fn push_two(out: &mut Vec<u128>, a: u128, b: u128) -> Result<(), NoMemory>
-    ensures { OnOk result (out.new.items ≡ out.old.items ++ a ∷ b ∷ []) }
-{
-    push(out, a)?;
-    push(out, b)?;
-    Ok(())
-}
-
-/// What a negative number is below zero, but for one.
-fn below_zero(n: i128) -> u128
-    requires { n <ℤ pos 0 }
-    ensures { n ≡ negsuc result }
-{
-    (-(n + 1)) as u128
-}
-
-fn push_int(out: &mut Vec<u128>, n: i128) -> Result<(), NoMemory>
-    ensures { OnOk result (out.new.items ≡ out.old.items ++ spelled_int n) }
-{
-    if n < 0 {
-        push_two(out, 1, below_zero(n))?;
-    } else {
-        push_two(out, 0, n as u128)?;
-    }
-    Ok(())
-}
-
-fn push_bytes(out: &mut Vec<u128>, text: &[u8]) -> Result<(), NoMemory>
-    ensures { OnOk result (out.new.items ≡ out.old.items ++ text.now) }
-{
-    for b in text {
-        out.push(*b as u128)?;
-    }
-    Ok(())
-}
 
 fn push_text(out: &mut Vec<u128>, text: &[u8]) -> Result<(), NoMemory>
     ensures { OnOk result (out.new.items ≡ out.old.items ++ 3 ∷ text.now) }
@@ -146,29 +102,6 @@ fn spelled_key(
 }
 
 // ---- keys that stand twice
-
-fn meet_spelled(met: &mut HashMap<Vec<u128>, u8>, key: Vec<u128>) -> Result<bool, NoMemory>
-    ensures again { IfOk result (λ again. again ≡ holds met.old key.items) }
-    ensures notes { OnOk result ((k : List ℕ) → holds met.new k ≡ (holds met.old k || bytes_eq key.items k)) }
-{
-    let again = holds(met, &key);
-    keep(met, key)?;
-    Ok(again)
-}
-
-/// Notes a key, and answers whether it was noted.
-fn meet(met: &mut HashMap<Vec<u128>, u8>, key: Option<Vec<u128>>) -> Result<bool, NoMemory>
-    ensures again { IfOk result (λ again. again ≡ option_map_or (λ (v : Vec ℕ). holds met.old v.items) key false) }
-    ensures notes { OnOk result ((k : List ℕ) → holds met.new k ≡ (holds met.old k || option_map_or (λ (v : Vec ℕ). bytes_eq v.items k) key false)) }
-{
-    match key {
-        Some(key) => {
-            let again = meet_spelled(met, key)?;
-            Ok(again)
-        }
-        None => Ok(false),
-    }
-}
 
 fn has_spelled_again(alloc: Global, s: &State, keys: &[Option<Mark>]) -> Result<bool, NoMemory>
     ensures { IfOk result (λ again. again ≡ has_again bytes_eq (spelled_key s.now keys.now) (length keys.now)) }

@@ -3,23 +3,13 @@ ghost use Rattle.std.specs.Prelude.{◌≡◌};
 ghost use Rattle.package_objects.specs.Declares.{kind_at};
 ghost use Rattle.unit_read.specs.Subjects.{unit_of, IsRead};
 ghost use Rattle.literal_rules.specs.Forms.{is_braces as is_braces_kind};
-ghost use Rattle.literal_rules.specs.Wants.{file_of, nodes_in, second_braces};
+ghost use Rattle.literal_rules.specs.Wants.{nodes_in, second_braces};
 
 use crate::forms::is_braces;
 use go_tree::Node;
 use package_objects::{kind_of, part_of};
+use rule_words::file_of;
 use unit_read::Subject;
-
-/// The file of a block.
-pub fn file_of(u: &Subject, block: usize) -> u32
-    requires { IsRead u.now }
-    ensures { result ≡ file_of (unit_of u.now) block }
-{
-    match u.passage_at(block) {
-        Some(passage) => passage.file,
-        None => 0,
-    }
-}
 
 /// The nodes of the file of a block.
 pub fn nodes_in<'a>(u: &Subject<'a>, block: usize) -> &'a [Node]

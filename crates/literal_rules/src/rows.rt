@@ -1,17 +1,16 @@
 //! Literals of array and slice types.
 ghost use Rattle.std.specs.Prelude.{◌≡◌, ◌<◌, ◌≤◌, ◌+◌, ℕ, Some, None, false, length, nat_eq, option_map, IfOk, IfSome};
-ghost use Rattle.std.specs.Option.{option_copied};
-ghost use Rattle.typed_marks.specs.Meanings.{constant_at};
-ghost use Rattle.literal_rules.specs.Again.{any_of, nth_of};
 ghost use Rattle.literal_rules.specs.Rows.{index_in, index_of, by_key, next_after, position, positions, is_beyond, row_fault, greater, behind, end_after, end_of};
 ghost use Rattle.rule_words.specs.Good.{known_of, AreFactsOf};
+ghost use Rattle.rule_words.specs.Again.{any_of};
 ghost use Rattle.literal_rules.specs.InCode.{keys_in, AreKeysOf, AllBefore};
 
 use crate::again::{has_again, has_empty, nth};
 use crate::items::{either, key_of};
 use gv_base::{Const, NoMemory};
+use rule_words::values::value_at;
 use std::alloc::Global;
-use typed_marks::{ConstId, Facts, Mark, State};
+use typed_marks::{Facts, Mark, State};
 use typed_tree::{BAD_INDEX_KEY, DUPLICATE_KEY, INDEX_OUT_OF_RANGE, Rule};
 
 // ---- positions
@@ -30,16 +29,6 @@ fn index_in(c: &Const) -> Option<u128>
         }
         Const::Truth(_) => None,
         Const::Text(_) => None,
-    }
-}
-
-/// The value of this number.
-pub fn value_at(s: &State, value: Option<ConstId>) -> Option<&Const>
-    ensures { option_copied result ≡ constant_at s.now.constants.items value }
-{
-    match value {
-        Some(id) => s.constants.get(id.0 as usize),
-        None => None,
     }
 }
 

@@ -29,7 +29,7 @@ use typed_marks::{Mark, Stage, State};
 use typed_tree::{BAD_LITERAL_TYPE, Mode};
 use unit_read::{Place, Subject};
 
-#[tactic(auto, using(crate::proofs::BindLaws::says_bind, crate::proofs::BindLaws::waits_bind))]
+#[tactic(auto, using(rule_words::proofs::BindLaws::says_bind, rule_words::proofs::BindLaws::waits_bind))]
 fn judge_row(
     alloc: Global,
     u: &Subject,
@@ -57,7 +57,7 @@ fn judge_row(
     }
 }
 
-#[tactic(auto, using(crate::proofs::BindLaws::says_bind, crate::proofs::BindLaws::waits_bind))]
+#[tactic(auto, using(rule_words::proofs::BindLaws::says_bind, rule_words::proofs::BindLaws::waits_bind))]
 fn judge_map(
     alloc: Global,
     u: &Subject,
@@ -141,7 +141,7 @@ fn judge_told(
     }
 }
 
-#[tactic(auto, using(crate::proofs::BindLaws::says_bind, crate::proofs::BindLaws::waits_bind))]
+#[tactic(auto, using(rule_words::proofs::BindLaws::says_bind, rule_words::proofs::BindLaws::waits_bind))]
 fn judge_braces(
     alloc: Global,
     u: &Subject,

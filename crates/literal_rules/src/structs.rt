@@ -8,12 +8,13 @@ ghost use Rattle.literal_rules.specs.Structs.{field_names, place_near, named_fie
 ghost use Rattle.literal_rules.specs.InCode.{field_in};
 
 use crate::again::{has_again, has_empty};
-use crate::fields::{has_name, if_visible, is_blank, is_visible, keyed_among, nth_field};
+use crate::fields::{has_name, if_visible, is_visible, keyed_among, nth_field};
 use crate::forms::is_name;
 use crate::items::{both, has_key, have_keys, key_at};
 use go_tree::{Node, NodeRef};
 use gv_base::NoMemory;
 use package_objects::{kind_of, part_count};
+use rule_words::is_blank;
 use std::alloc::Global;
 use std::collections::HashMap;
 use type_model::Field;

@@ -17,11 +17,12 @@ ghost use Rattle.literal_rules.specs.InCode.{shape_in, IsShapeOf, field_in, fiel
 use crate::braces::braces;
 use crate::fields::{fields_of, keyed_among, nth_field};
 use crate::forms::{Form, form_of, is_pair};
-use crate::places::{file_of, is_braces_at, nodes_in, second_braces};
+use crate::places::{is_braces_at, nodes_in, second_braces};
 use crate::shape::{Literal, Shape};
 use go_tree::{Node, NodeRef};
 use gv_base::Kind;
 use package_objects::{kind_of, part_of};
+use rule_words::file_of;
 use rule_words::good::basic_type;
 use type_model::{Field, TypeId};
 use type_questions::Found;
@@ -190,7 +191,7 @@ fn plain_told(s: &State, braces: bool, slot: usize, l: Option<Literal>) -> Found
     }
 }
 
-#[tactic(auto, using(crate::proofs::BindLaws::says_bind, crate::proofs::BindLaws::waits_bind))]
+#[tactic(auto, using(rule_words::proofs::BindLaws::says_bind, rule_words::proofs::BindLaws::waits_bind))]
 fn plain_want(u: &Subject, s: &State, block: usize, p: Place, n: u32) -> Found<Mark, Item>
     requires { IsScene u.now s.now }
     ensures is { told_by (said s.now) result ≡ tell (so_far s.now) (plain_want (unit_of u.now) block p n) }
@@ -280,7 +281,7 @@ fn pair_told(
     }
 }
 
-#[tactic(auto, using(crate::proofs::BindLaws::says_bind, crate::proofs::BindLaws::waits_bind))]
+#[tactic(auto, using(rule_words::proofs::BindLaws::says_bind, rule_words::proofs::BindLaws::waits_bind))]
 fn pair_in(
     u: &Subject,
     s: &State,

@@ -18,8 +18,9 @@ use Rattle.typed_tree.specs.Operands.{fits_in, is_boolean, is_nil}
 use Rattle.op_rules.specs.Beside.{kind_goes, fits_beside, basic_goes, value_goes, goes_beside}
 use Rattle.op_rules.specs.Loose.{IsLoose, IsTyped, GoesAsAssigned}
 use Rattle.op_rules.specs.Operands.{Operand}
-use Rattle.op_rules.specs.Types.{is_of, is_empty_interface}
+use Rattle.op_rules.specs.Types.{is_empty_interface}
 use Rattle.op_rules.proofs.ApartLaws.{one_under}
+use Rattle.rule_words.specs.Types.{is_of}
 
 -- ---- values
 

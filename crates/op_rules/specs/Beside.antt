@@ -7,7 +7,8 @@ use Rattle.type_rel.specs.Assigning.{holds_nil}
 use Rattle.type_rel.specs.Kinds.{is_untyped, is_integer}
 use Rattle.typed_tree.specs.Operands.{fits_in, is_boolean, is_nil}
 use Rattle.op_rules.specs.Operands.{Operand}
-use Rattle.op_rules.specs.Types.{is_of, is_empty_interface, are_alike}
+use Rattle.op_rules.specs.Types.{is_empty_interface, are_alike}
+use Rattle.rule_words.specs.Types.{is_of}
 
 -- What is no constant is a comparison, which takes a boolean type, or a shift, which takes an integer type.
 unfoldable pub kind_goes : Kind → Kind → Bool

@@ -10,12 +10,13 @@ use Rattle.rule_words.specs.Asking.{Rule}
 use Rattle.rule_words.specs.Parts.{Part}
 use Rattle.rule_words.specs.Putting.{Compared, either_ask}
 use Rattle.rule_words.specs.Words.{test}
+use Rattle.rule_words.specs.Types.{is_interface, is_of}
 use Rattle.op_rules.specs.Beside.{goes_beside, agrees}
 use Rattle.op_rules.specs.Comparing.{truth, agreed}
 use Rattle.op_rules.specs.Operands.{Operand, operand_at, need_operand}
 use Rattle.op_rules.specs.Operators.{shifts, equates}
 use Rattle.op_rules.specs.Shifts.{shift_of_parts}
-use Rattle.op_rules.specs.Types.{are_one, is_of, is_basic, is_interface}
+use Rattle.op_rules.specs.Types.{are_one, is_basic}
 
 -- ---- E33: typed operands of different types
 

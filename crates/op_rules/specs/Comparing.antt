@@ -15,10 +15,11 @@ use Rattle.type_questions.specs.Questions.{IsComparable}
 use Rattle.rule_words.specs.Asking.{Rule}
 use Rattle.rule_words.specs.Putting.{held}
 use Rattle.rule_words.specs.Words.{test}
+use Rattle.rule_words.specs.Types.{is_of}
 use Rattle.op_rules.specs.Operands.{Operand, computed}
 use Rattle.op_rules.specs.Operators.{equates, takes_two, tells_apart}
 use Rattle.op_rules.specs.Results.{result_mark}
-use Rattle.op_rules.specs.Types.{is_of, common}
+use Rattle.op_rules.specs.Types.{common}
 
 -- a comparison that is no constant
 unfoldable pub truth : Wish → Meaning

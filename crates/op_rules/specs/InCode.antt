@@ -1,10 +1,7 @@
 -- Operands in code, with types and constants by number.
 use Rattle.std.specs.Prelude.{length}
-use Rattle.typed_marks.specs.declared.mark.Facts.{Facts}
-use Rattle.typed_marks.specs.declared.mark.Want.{Want}
 use Rattle.typed_marks.specs.declared.state.State.{State}
-use Rattle.typed_marks.specs.Meanings.{Known, Wish, known_in, wish_in, constant_at, AreWithin, IsValueWithin, IsWantWithin}
-use Rattle.type_model.specs.Tables.{types_in, count}
+use Rattle.typed_marks.specs.Meanings.{constant_at, IsValueWithin}
 use Rattle.rule_words.specs.Scenes.{type_in, IsTypeOf}
 use Rattle.op_rules.specs.declared.operand.Operand.{Operand as InCode}
 use Rattle.op_rules.specs.Operands.{Operand}
@@ -17,15 +14,3 @@ pub record IsOperandOf (s : State) (x : InCode) : Type 0 where
   pub value : IsValueWithin (length s.constants.items) x.value
   pub at : IsTypeOf s x.at
   pub under : IsTypeOf s x.under
-
-abbrev pub wish_of : State → Want → Wish
-wish_of s want = wish_in (types_in s.table) want
-
-abbrev pub IsWishOf : State → Want → Type 0
-IsWishOf s want = IsWantWithin (count s.table) want
-
-abbrev pub facts_in : State → Facts → Known
-facts_in s x = known_in (types_in s.table) s.constants.items x
-
-abbrev pub AreFactsOf : State → Facts → Type 0
-AreFactsOf s x = AreWithin (count s.table) (length s.constants.items) x

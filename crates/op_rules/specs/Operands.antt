@@ -19,7 +19,7 @@ use Rattle.rule_words.specs.Asking.{Rule}
 use Rattle.rule_words.specs.Parts.{Part}
 use Rattle.mark_walk.specs.Asks.{done}
 use Rattle.rule_words.specs.Words.{last_of, operand}
-use Rattle.op_rules.specs.Types.{is_of, counted}
+use Rattle.rule_words.specs.Types.{counted, is_of}
 
 -- an operand: its type, its value where it is a constant, the type at which operators count it, and the underlying type of its final type
 pub record Operand : Type 0 where

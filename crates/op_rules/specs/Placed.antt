@@ -19,11 +19,11 @@ use Rattle.typed_marks.specs.Meanings.{Known, Wish, Free, Takes, Fits, Assigned,
 use Rattle.unit_read.specs.Units.{Unit}
 use Rattle.rule_words.specs.Asking.{Rule, under_ask}
 use Rattle.rule_words.specs.Words.{Wanted, test}
+use Rattle.rule_words.specs.Types.{is_of, takes_default}
+use Rattle.rule_words.specs.Values.{assigned_type}
 use Rattle.type_questions.specs.declared.reached.Reached.{Reached}
 use Rattle.type_answers.specs.Asked.{assignable_ask, need_told}
 use Rattle.op_rules.specs.Operands.{tested}
-use Rattle.op_rules.specs.Types.{is_of, takes_default}
-use Rattle.op_rules.specs.Wishes.{is_shifted}
 
 -- ---- E30
 
@@ -52,10 +52,6 @@ abbrev pub represented : Unit → Known → Rule
 represented u x = if is_of is_untyped x.of then represented_value u x x.value else done (Right x)
 
 -- ---- E32
-
--- A shift that isn't constant is assigned with the type that its operand took.
-abbrev pub assigned_type : Known → GoType
-assigned_type x = if is_shifted x then x.last else x.of
 
 abbrev pub held_if : Meaning → Bool → Rule
 held_if good b = if b then done good else done (Wrong NOT_ASSIGNABLE)

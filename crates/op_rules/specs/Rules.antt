@@ -13,6 +13,7 @@ use Rattle.unit_read.specs.Units.{Unit, first_spelled}
 use Rattle.rule_words.specs.Asking.{Asks, Rule, under_ask}
 use Rattle.rule_words.specs.Parts.{Part, part_at}
 use Rattle.rule_words.specs.Words.{Wanted}
+use Rattle.rule_words.specs.Types.{takes_default}
 use Rattle.op_rules.specs.declared.forms.Form.{Form}
 use Rattle.op_rules.specs.declared.forms.Form.TheVariants as f
 use Rattle.op_rules.specs.declared.forms.Literal.{Literal}
@@ -20,7 +21,6 @@ use Rattle.op_rules.specs.declared.forms.Literal.TheVariants as l
 use Rattle.op_rules.specs.Binary.{binary_by}
 use Rattle.op_rules.specs.Forms.{form_of, operator_in}
 use Rattle.op_rules.specs.Names.{wished, used, name_rule, selector_rule}
-use Rattle.op_rules.specs.Types.{takes_default}
 use Rattle.op_rules.specs.Unary.{unary_by}
 
 -- ---- forms

@@ -12,7 +12,7 @@ use Rattle.typed_tree.specs.Operands.{fits_in, is_natural}
 use Rattle.typed_marks.specs.Meanings.{Wish, Meaning}
 use Rattle.rule_words.specs.Asking.{Rule}
 use Rattle.rule_words.specs.Parts.{Part}
-use Rattle.op_rules.specs.Types.{is_of}
+use Rattle.rule_words.specs.Types.{is_of}
 use Rattle.op_rules.specs.Operands.{Operand, operand_at, need_operand, tested, folded, computed}
 
 -- an untyped constant count is representable by uint, and a typed one isn't negative

@@ -1,5 +1,5 @@
 -- Types as operators count them (Go 1.17, "Types", "Constants", "Constant expressions").
-use Rattle.std.specs.Prelude.{Bool, true, false, ◌&&◌, ◌||◌, if◌then◌else◌, Option}
+use Rattle.std.specs.Prelude.{Bool, true, false, ◌&&◌, ◌||◌, if◌then◌else◌}
 use Rattle.std.specs.Option.{option_map_or}
 use Rattle.gv_base.specs.declared.constant.Kind.{Kind}
 use Rattle.type_model.specs.GoTypes.{GoType, GoMethods, BasicType, DefinedType, PointerTo, SliceOf, ArrayOf, MapOf, ChanOf, FuncOf, StructOf, InterfaceOf, NoMethod, AndMethod}
@@ -7,25 +7,10 @@ use Rattle.same_types.specs.Same.{same_type}
 use Rattle.type_rel.specs.Kinds.{is_untyped, is_integer}
 use Rattle.type_rel.specs.Terms.{kind_of}
 use Rattle.typed_tree.specs.Operands.{is_text, is_boolean, is_nil, is_rune}
-
--- a basic type whose kind passes a test
-unfoldable pub is_of : (Kind → Bool) → GoType → Bool
-is_of passes of = option_map_or passes (kind_of of) false
+use Rattle.rule_words.specs.Types.{is_of}
 
 unfoldable pub is_basic : GoType → Bool
 is_basic of = option_map_or (λ kind. true) (kind_of of) false
-
-unfoldable pub is_interface : GoType → Bool
-is_interface (InterfaceOf methods) = true
-is_interface (BasicType kind) = false
-is_interface (DefinedType name) = false
-is_interface (PointerTo of) = false
-is_interface (SliceOf of) = false
-is_interface (ArrayOf size of) = false
-is_interface (MapOf key of) = false
-is_interface (ChanOf direction of) = false
-is_interface (FuncOf of) = false
-is_interface (StructOf fields) = false
 
 abbrev pub has_none : GoMethods → Bool
 has_none NoMethod = true
@@ -34,10 +19,6 @@ has_none (AndMethod name owner pointer of methods) = false
 -- the types are one
 unfoldable pub are_one : GoType → GoType → Bool
 are_one a b = same_type a b
-
--- an untyped operand takes its default type where this underlying type is wanted
-unfoldable pub takes_default : Option GoType → Bool
-takes_default under = option_map_or is_interface under false
 
 -- "Interface types": the empty interface, which all types implement
 unfoldable pub is_empty_interface : GoType → Bool
@@ -51,10 +32,6 @@ is_empty_interface (MapOf key of) = false
 is_empty_interface (ChanOf direction of) = false
 is_empty_interface (FuncOf of) = false
 is_empty_interface (StructOf fields) = false
-
--- the type at which operators count an operand: an untyped one by its own, a typed one by its underlying type
-unfoldable pub counted : GoType → GoType → GoType
-counted of under = if is_of is_untyped of then of else under
 
 -- "Constant expressions": the type of both, that of a typed one, else a rune where one is a rune
 unfoldable pub common : GoType → GoType → GoType

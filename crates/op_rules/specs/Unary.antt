@@ -17,7 +17,7 @@ use Rattle.typed_tree.specs.Operands.{takes_alone}
 use Rattle.typed_marks.specs.Meanings.{Wish, Meaning, Quiet}
 use Rattle.rule_words.specs.Asking.{Rule}
 use Rattle.rule_words.specs.Parts.{Part}
-use Rattle.op_rules.specs.Types.{is_of}
+use Rattle.rule_words.specs.Types.{is_of}
 use Rattle.op_rules.specs.Operands.{Operand, operand_at, need_operand, tested, folded, computed}
 
 -- the value of an operator at a constant of this type

@@ -1,21 +1,20 @@
 -- What the places of operands want (Go 1.17, "Operators", "Constants", "Constant expressions").
 use Rattle.std.specs.Prelude.{ℕ, ◌-◌, Bool, ◌&&◌, if◌then◌else◌, nat_eq, Option, Some, None}
-use Rattle.std.specs.Option.{option_map_or}
 use Rattle.go_tree.specs.declared.tree.Node.{Node}
 use Rattle.const_eval.specs.declared.operator.Operator.{Operator}
 use Rattle.const_tree.specs.Operators.{binary_operator}
 use Rattle.mark_walk.specs.Asks.{done, bind}
-use Rattle.package_objects.specs.Declares.{part}
 use Rattle.type_model.specs.GoTypes.{GoType}
 use Rattle.typed_tree.specs.declared.place.Want.{Want as Demand}
 use Rattle.typed_tree.specs.declared.place.Want.TheVariants as demand
 use Rattle.typed_marks.specs.declared.item.Stage.TheVariants as s
-use Rattle.typed_marks.specs.Meanings.{Free, Meaning, Quiet, Wishes}
-use Rattle.unit_read.specs.declared.passage.Passage.{Passage}
+use Rattle.typed_marks.specs.Meanings.{Free, Meaning, Wishes}
 use Rattle.unit_read.specs.declared.place.Place.{Place}
-use Rattle.unit_read.specs.Units.{Unit, passage_at}
+use Rattle.unit_read.specs.Units.{Unit}
 use Rattle.rule_words.specs.Asking.{Rule, mark_ask, mark_under}
 use Rattle.rule_words.specs.Words.{wanted_in}
+use Rattle.rule_words.specs.Files.{file_of}
+use Rattle.rule_words.specs.Wishes.{before}
 use Rattle.op_rules.specs.declared.forms.Form.{Form}
 use Rattle.op_rules.specs.declared.forms.Form.TheVariants as f
 use Rattle.op_rules.specs.Forms.{form_of, operator_in}
@@ -23,10 +22,6 @@ use Rattle.op_rules.specs.Operators.{shifts}
 use Rattle.op_rules.specs.Wishes.{unchecked_type, default_type, shifted_wish, operand_wish}
 
 -- ---- marks
-
--- a part before anything is wanted of it
-unfoldable pub before : Unit → ℕ → Node → ℕ → Rule
-before u block around slot = option_map_or (λ n. mark_ask u s.Before block n) (part around slot) (done Quiet)
 
 -- what is wanted of the whole
 unfoldable pub whole : Unit → ℕ → Place → Rule
@@ -95,10 +90,6 @@ operator_wants u block p around op = if is_count op p.slot then count_wants u bl
 unfoldable pub operator_asked : Unit → ℕ → Place → Node → Option Operator → Rule
 operator_asked u block p around None = done (Wishes demand.Operand Free)
 operator_asked u block p around (Some op) = operator_wants u block p around op
-
--- the file of a block
-unfoldable pub file_of : Unit → ℕ → ℕ
-file_of u block = option_map_or (λ (p : Passage). p.file) (passage_at u block) 0
 
 unfoldable pub binary_wants : Unit → ℕ → Place → Node → Rule
 binary_wants u block p around = operator_asked u block p around (operator_in binary_operator u (file_of u block) around)

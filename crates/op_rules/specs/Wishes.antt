@@ -1,22 +1,14 @@
 -- Which types the places of operands want (Go 1.17, "Operators", "Constants", "Constant expressions").
-use Rattle.std.specs.Prelude.{Bool, true, false, not, ◌&&◌, ◌||◌, if◌then◌else◌, Option, Some, None}
-use Rattle.std.specs.Option.{option_map_or}
-use Rattle.gv_base.specs.declared.constant.Const.{Const}
+use Rattle.std.specs.Prelude.{Bool, ◌&&◌, ◌||◌, if◌then◌else◌, Option}
 use Rattle.const_eval.specs.declared.operator.Operator.{Operator}
-use Rattle.type_model.specs.GoTypes.{GoType, BasicType}
-use Rattle.type_rel.specs.Kinds.{is_untyped, is_integer}
-use Rattle.type_rel.specs.Terms.{kind_of}
+use Rattle.type_model.specs.GoTypes.{GoType}
+use Rattle.type_rel.specs.Kinds.{is_untyped}
 use Rattle.typed_marks.specs.Meanings.{Known, Wish, Free, Takes, Fits, Assigned, Meaning, Right, Wrong, Beyond, Quiet, Wishes, Declares}
-use Rattle.rule_words.specs.Words.{default_kind}
+use Rattle.rule_words.specs.Types.{is_of, takes_default}
+use Rattle.rule_words.specs.Values.{has_value, is_shifted}
+use Rattle.rule_words.specs.Wishes.{by_type, default_of, fitting_default}
 use Rattle.op_rules.specs.Operators.{compares}
-use Rattle.op_rules.specs.Types.{is_of, common, are_alike, takes_default}
-
-abbrev pub default_of : GoType → Wish
-default_of of = option_map_or (λ kind. Takes (BasicType (default_kind kind))) (kind_of of) Free
-
--- a constant is representable in the default type
-abbrev pub fitting_default : GoType → Wish
-fitting_default of = option_map_or (λ kind. Fits (BasicType (default_kind kind))) (kind_of of) Free
+use Rattle.op_rules.specs.Types.{common, are_alike}
 
 -- The type that the whole takes, or the default of this one. What stands around has its own test, or there is none: in a constant
 -- expression values are exact.
@@ -33,15 +25,6 @@ checked (Takes to) of = Fits to
 checked (Fits to) of = Fits to
 checked (Assigned to) of = Fits to
 
--- of the type of a good mark
-abbrev pub by_type : Meaning → (Known → Wish) → Wish
-by_type (Right x) rest = rest x
-by_type (Wrong rule) rest = Free
-by_type (Beyond limit) rest = Free
-by_type Quiet rest = Free
-by_type (Wishes demand wish) rest = Free
-by_type (Declares d) rest = Free
-
 unfoldable pub unchecked_type : Wish → Meaning → Wish
 unchecked_type whole own = by_type own (λ x. unchecked whole x.of)
 
@@ -49,10 +32,6 @@ unfoldable pub default_type : Meaning → Wish
 default_type own = by_type own (λ x. default_of x.of)
 
 -- ---- shifts
-
-abbrev pub has_value : Option Const → Bool
-has_value None = false
-has_value (Some c) = true
 
 -- the left operand of a constant shift takes its default type, another what the whole takes
 unfoldable pub shifted_by : Wish → Known → Known → Wish
@@ -70,10 +49,6 @@ unfoldable pub shifted_wish : Meaning → Meaning → Wish → Wish
 shifted_wish own count whole = by_type own (shifted_over whole count)
 
 -- ---- other binary operators
-
--- an untyped integer that is no constant: a shift whose count is none
-unfoldable pub is_shifted : Known → Bool
-is_shifted x = is_of (λ kind. is_untyped kind && is_integer kind) x.of && not (has_value x.value)
 
 -- the type of two untyped operands; where they aren't of one class, the operand's own
 unfoldable pub mixed : GoType → GoType → GoType

@@ -1,20 +1,19 @@
 //! What is assigned (Go 1.17, "Assignability", "Representability").
 ghost use Rattle.std.specs.Prelude.{◌≡◌, IfOk, true, option_map};
 ghost use Rattle.mark_walk.specs.Telling.{tell};
-ghost use Rattle.typed_tree.specs.Basics.{HasBasics};
 ghost use Rattle.typed_marks.specs.States.{so_far};
 ghost use Rattle.unit_read.specs.Subjects.{unit_of};
 ghost use Rattle.rule_words.specs.Answers.{is_plain};
 ghost use Rattle.rule_words.specs.Scenes.{IsScene, IfFound, said, IsMarkOf, type_in, IsTypeOf, MayBeTypeOf};
 ghost use Rattle.rule_words.specs.Steps.{step_in, IsStepOf};
+ghost use Rattle.rule_words.specs.Good.{AreFactsOf, known_of};
 ghost use Rattle.type_answers.specs.Coming.{FoundBy, ComesTo};
-ghost use Rattle.op_rules.specs.Placed.{represented, assigned_type, held_if, held_told, assigned_to, assigned_good, assigned};
-ghost use Rattle.op_rules.specs.InCode.{facts_in, AreFactsOf};
+ghost use Rattle.op_rules.specs.Placed.{represented, held_if, held_told, assigned_to, assigned_good, assigned};
 
 use crate::fitting::represented;
-use crate::types::takes_default;
-use crate::wishes::is_shifted;
 use gv_base::NoMemory;
+use rule_words::types::takes_default;
+use rule_words::values::assigned_type;
 use rule_words::{Answer, Step};
 use std::alloc::Global;
 use type_answers::{Relation, ask_operand, ask_under};
@@ -23,15 +22,6 @@ use type_questions::{Found, Reached};
 use typed_marks::{Facts, Item, Mark, State};
 use typed_tree::NOT_ASSIGNABLE;
 use unit_read::Subject;
-
-fn assigned_type(s: &State, x: Facts) -> TypeId
-    requires basics { HasBasics s.now.table }
-    requires facts { AreFactsOf s.now x }
-    ensures is { type_in s.now result ≡ assigned_type (facts_in s.now x) }
-    ensures within { IsTypeOf s.now result }
-{
-    if is_shifted(s, x) { x.last } else { x.of }
-}
 
 /// The mark where it holds that the value is assignable; else this rule is broken.
 fn held_if(s: &State, good: Mark, holds: bool) -> Step
@@ -76,7 +66,7 @@ fn assigned_to(
     requires good { IsMarkOf s.now good }
     requires plain { is_plain good ≡ true }
     requires under { MayBeTypeOf s.now under }
-    ensures comes { IfOk result (ComesTo u.now s.now (assigned_to (facts_in s.now x) (type_in s.now to) (said s.now good) (option_map (type_in s.now) under))) }
+    ensures comes { IfOk result (ComesTo u.now s.now (assigned_to (known_of s.now x) (type_in s.now to) (said s.now good) (option_map (type_in s.now) under))) }
     ensures over { IfOk result (IsStepOf s.now) }
 {
     let of = assigned_type(s, x);
@@ -102,7 +92,7 @@ fn assigned_good(
     requires to { IsTypeOf s.now to }
     requires good { IsMarkOf s.now good }
     requires plain { is_plain good ≡ true }
-    ensures comes { IfOk result (ComesTo u.now s.now (assigned_good (unit_of u.now) (facts_in s.now x) (type_in s.now to) (said s.now good))) }
+    ensures comes { IfOk result (ComesTo u.now s.now (assigned_good (unit_of u.now) (known_of s.now x) (type_in s.now to) (said s.now good))) }
     ensures over { IfOk result (IsStepOf s.now) }
 {
     match ask_under(u, s, to) {
@@ -118,7 +108,7 @@ fn assigned_good(
 fn ask_represented(u: &Subject, s: &State, x: Facts) -> Found<Mark, Item>
     requires scene { IsScene u.now s.now }
     requires facts { AreFactsOf s.now x }
-    ensures is { FoundBy u.now s.now (said s.now) (represented (unit_of u.now) (facts_in s.now x)) result }
+    ensures is { FoundBy u.now s.now (said s.now) (represented (unit_of u.now) (known_of s.now x)) result }
     ensures over { IfFound result (λ m. IsMarkOf s.now m × (is_plain m ≡ true)) }
 {
     represented(u, s, x)
@@ -136,7 +126,7 @@ pub(crate) fn judge_assigned(
     requires scene { IsScene u.now s.now }
     requires facts { AreFactsOf s.now x }
     requires to { IsTypeOf s.now to }
-    ensures comes { IfOk result (ComesTo u.now s.now (assigned (unit_of u.now) (facts_in s.now x) (type_in s.now to))) }
+    ensures comes { IfOk result (ComesTo u.now s.now (assigned (unit_of u.now) (known_of s.now x) (type_in s.now to))) }
     ensures over { IfOk result (IsStepOf s.now) }
 {
     match ask_represented(u, s, x) {

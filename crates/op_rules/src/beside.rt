@@ -3,14 +3,16 @@ ghost use Rattle.std.specs.Prelude.{◌≡◌};
 ghost use Rattle.typed_tree.specs.Basics.{HasBasics};
 ghost use Rattle.typed_marks.specs.Meanings.{constant_at};
 ghost use Rattle.rule_words.specs.Scenes.{type_in, IsTypeOf};
-ghost use Rattle.op_rules.specs.Types.{is_of};
+ghost use Rattle.rule_words.specs.Types.{is_of};
 ghost use Rattle.op_rules.specs.Beside.{kind_goes, fits_beside, basic_goes, value_goes, goes_beside, agrees};
 ghost use Rattle.op_rules.specs.InCode.{operand_in, IsOperandOf};
 
-use crate::kinds::{fits_in, is_boolean};
-use crate::operand::{Operand, value_at};
-use crate::types::{are_alike, holds_nil, is_empty_interface, is_nil_type, is_untyped, kind_of};
+use crate::kinds::is_boolean;
+use crate::operand::Operand;
+use crate::types::{are_alike, holds_nil, is_empty_interface, is_nil_type};
 use gv_base::Kind;
+use rule_words::types::{is_untyped, kind_of};
+use rule_words::values::{fits_in, value_at};
 use type_model::TypeId;
 use type_rel::has_integers;
 use typed_marks::{ConstId, State};
@@ -33,7 +35,7 @@ fn fits_beside(s: &State, value: Option<ConstId>, kind: Kind, to: Kind) -> bool
     }
 }
 
-#[tactic(auto, unfolding(crate::specs::Types::is_of))]
+#[tactic(auto, unfolding(rule_words::specs::Types::is_of))]
 fn fits_type(s: &State, value: Option<ConstId>, kind: Kind, at: TypeId) -> bool
     requires basics { HasBasics s.now.table }
     requires at { IsTypeOf s.now at }
@@ -45,7 +47,7 @@ fn fits_type(s: &State, value: Option<ConstId>, kind: Kind, at: TypeId) -> bool
     }
 }
 
-#[tactic(auto, unfolding(crate::specs::Types::is_of, crate::specs::Beside::basic_goes))]
+#[tactic(auto, unfolding(rule_words::specs::Types::is_of, crate::specs::Beside::basic_goes))]
 fn basic_goes(s: &State, x: Operand, at: TypeId) -> bool
     requires basics { HasBasics s.now.table }
     requires operand { IsOperandOf s.now x }

@@ -9,15 +9,14 @@ ghost use Rattle.typed_marks.specs.States.{so_far};
 ghost use Rattle.unit_read.specs.Subjects.{unit_of};
 ghost use Rattle.rule_words.specs.Answers.{is_plain};
 ghost use Rattle.rule_words.specs.Scenes.{IsScene, told_by, IfFound, said, IsMarkOf, type_in, IsTypeOf, MayBeTypeOf};
-ghost use Rattle.op_rules.specs.Types.{is_of};
+ghost use Rattle.rule_words.specs.Good.{AreFactsOf, known_of};
+ghost use Rattle.rule_words.specs.Types.{is_of};
 ghost use Rattle.op_rules.specs.Placed.{is_whole, overflows, goes_into, overflowing, represented_value, represented};
-ghost use Rattle.op_rules.specs.InCode.{facts_in, AreFactsOf};
 
-use crate::kinds::fits_in;
-use crate::operand::value_at;
-use crate::types::{is_untyped, kind_of};
 use gv_base::{Const, Kind};
+use rule_words::types::{is_untyped, kind_of};
 use rule_words::under_of;
+use rule_words::values::{fits_in, value_at};
 use type_model::TypeId;
 use type_questions::Found;
 use type_rel::has_integers;
@@ -49,7 +48,7 @@ fn overflows(c: &Const, kind: Kind) -> bool
     is_whole(c) && leaves_out(c, kind)
 }
 
-#[tactic(auto, unfolding(crate::specs::Types::is_of))]
+#[tactic(auto, unfolding(rule_words::specs::Types::is_of))]
 fn overflows_type(s: &State, c: &Const, under: TypeId) -> bool
     requires basics { HasBasics s.now.table }
     requires under { IsTypeOf s.now under }
@@ -74,7 +73,7 @@ fn overflowing(s: &State, x: Facts, c: &Const, under: Option<TypeId>) -> Mark
     requires basics { HasBasics s.now.table }
     requires facts { AreFactsOf s.now x }
     requires under { MayBeTypeOf s.now under }
-    ensures is { said s.now result ≡ overflowing (facts_in s.now x) c.now (option_map (type_in s.now) under) }
+    ensures is { said s.now result ≡ overflowing (known_of s.now x) c.now (option_map (type_in s.now) under) }
     ensures over { IsMarkOf s.now result }
     ensures plain { is_plain result ≡ true }
 {
@@ -91,7 +90,7 @@ fn overflowing(s: &State, x: Facts, c: &Const, under: Option<TypeId>) -> Mark
 fn represented_in(u: &Subject, s: &State, x: Facts, c: &Const) -> Found<Mark, Item>
     requires scene { IsScene u.now s.now }
     requires facts { AreFactsOf s.now x }
-    ensures is { told_by (said s.now) result ≡ tell (so_far s.now) (represented_value (unit_of u.now) (facts_in s.now x) (Some c.now)) }
+    ensures is { told_by (said s.now) result ≡ tell (so_far s.now) (represented_value (unit_of u.now) (known_of s.now x) (Some c.now)) }
     ensures over { IfFound result (λ m. IsMarkOf s.now m × (is_plain m ≡ true)) }
 {
     match under_of(u, s, x.last) {
@@ -103,7 +102,7 @@ fn represented_in(u: &Subject, s: &State, x: Facts, c: &Const) -> Found<Mark, It
 fn represented_value(u: &Subject, s: &State, x: Facts, value: Option<ConstId>) -> Found<Mark, Item>
     requires scene { IsScene u.now s.now }
     requires facts { AreFactsOf s.now x }
-    ensures is { told_by (said s.now) result ≡ tell (so_far s.now) (represented_value (unit_of u.now) (facts_in s.now x) (constant_at s.now.constants.items value)) }
+    ensures is { told_by (said s.now) result ≡ tell (so_far s.now) (represented_value (unit_of u.now) (known_of s.now x) (constant_at s.now.constants.items value)) }
     ensures over { IfFound result (λ m. IsMarkOf s.now m × (is_plain m ≡ true)) }
 {
     match value_at(s, value) {
@@ -116,7 +115,7 @@ fn represented_value(u: &Subject, s: &State, x: Facts, value: Option<ConstId>) -
 pub fn represented(u: &Subject, s: &State, x: Facts) -> Found<Mark, Item>
     requires scene { IsScene u.now s.now }
     requires facts { AreFactsOf s.now x }
-    ensures is { told_by (said s.now) result ≡ tell (so_far s.now) (represented (unit_of u.now) (facts_in s.now x)) }
+    ensures is { told_by (said s.now) result ≡ tell (so_far s.now) (represented (unit_of u.now) (known_of s.now x)) }
     ensures over { IfFound result (λ m. IsMarkOf s.now m × (is_plain m ≡ true)) }
 {
     if is_untyped(s, x.of) {

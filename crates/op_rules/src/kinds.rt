@@ -4,7 +4,8 @@ ghost use Rattle.type_rel.specs.Kinds.{is_untyped};
 ghost use Rattle.typed_tree.specs.Operands.{is_text, is_boolean, is_nil, is_rune, fits_in};
 ghost use Rattle.op_rules.specs.Types.{alike};
 
-use gv_base::{Const, Kind, fits};
+use gv_base::{Const, Kind};
+use rule_words::values::fits_in;
 use type_rel::{has_integers, has_texts, is_free};
 
 pub fn is_text(kind: Kind) -> bool
@@ -39,13 +40,6 @@ pub fn is_rune(kind: Kind) -> bool
         Kind::UntypedRune => true,
         _ => false,
     }
-}
-
-/// The constant is representable by a value of the kind.
-pub fn fits_in(c: &Const, kind: Kind) -> bool
-    ensures { result ≡ fits_in c.now kind }
-{
-    fits(c, kind)
 }
 
 /// A constant of the kind may have this value: an untyped one any.

@@ -11,7 +11,6 @@ mod fitting;
 mod forms;
 mod kinds;
 mod laws;
-mod modes;
 mod name;
 mod operand;
 mod operators;

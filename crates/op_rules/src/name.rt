@@ -6,19 +6,18 @@ ghost use Rattle.typed_tree.specs.Basics.{HasBasics, Says as SaysInTree};
 ghost use Rattle.typed_tree.specs.Meanings.{Meaning as TreeMeaning, mark_in as tree_mark_in, IsWithin};
 ghost use Rattle.typed_marks.specs.States.{so_far};
 ghost use Rattle.unit_read.specs.Subjects.{unit_of, IsRead};
-ghost use Rattle.unit_read.specs.Units.{is_blank};
 ghost use Rattle.rule_words.specs.Scenes.{IsScene, said, IsMarkOf, type_in, IsTypeOf};
 ghost use Rattle.rule_words.specs.Answers.{answer_in, IsAnswerOf};
 ghost use Rattle.rule_words.specs.Steps.{step_in, IsStepOf};
 ghost use Rattle.rule_words.specs.Wanting.{wanted_of, IsWantedOf};
+ghost use Rattle.rule_words.specs.Wishes.{IsWishOf, wish_of};
 ghost use Rattle.op_rules.specs.Names.{with_last, wished, begins, is_within_spec, spec_number, written_iota, iota_by, iota_of, predeclared, used, object_ask, denoted, blank, name_rule};
-ghost use Rattle.op_rules.specs.InCode.{wish_of, IsWishOf};
 
-use crate::operand::{bad, outside, silent};
 use const_tree::Spec;
 use go_tree::{Node, NodeRef, Object};
 use gv_base::Const;
-use rule_words::{Answer, Step, Wanted, last_of, look, operand};
+use rule_words::answered::{bad, outside, silent};
+use rule_words::{Answer, Step, Wanted, is_blank, last_of, look, operand};
 use type_model::TypeId;
 use type_questions::Found;
 use typed_marks::{Mark, Stage, State, Want};
@@ -218,12 +217,6 @@ fn judge_denoted(
         // E3
         None => Step::Says(bad(UNDEFINED)),
     }
-}
-
-pub fn is_blank(name: &[u8]) -> bool
-    ensures { result ≡ is_blank name.now }
-{
-    name == b"_".as_slice()
 }
 
 /// E17 a blank, E10 where a type is wanted.

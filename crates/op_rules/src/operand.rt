@@ -1,20 +1,17 @@
 //! Operands of operators.
 ghost use Rattle.std.specs.Prelude.{◌≡◌, option_map, IfSome};
-ghost use Rattle.std.specs.Option.{option_copied};
 ghost use Rattle.typed_tree.specs.Basics.{HasBasics};
-ghost use Rattle.typed_marks.specs.Meanings.{constant_at, known_in, AreWithin};
+ghost use Rattle.typed_marks.specs.Meanings.{known_in, AreWithin};
 ghost use Rattle.type_model.specs.Tables.{types_in, count};
 ghost use Rattle.std.specs.Prelude.{length};
 ghost use Rattle.rule_words.specs.Scenes.{type_in, MayBeTypeOf, part_in, IsSeenOf};
 ghost use Rattle.op_rules.specs.Operands.{operand_of, operand_at};
 ghost use Rattle.op_rules.specs.InCode.{operand_in, IsOperandOf};
 
-use crate::types::counted;
-use gv_base::Const;
-use rule_words::{Answer, Seen};
+use rule_words::Seen;
+use rule_words::types::counted;
 use type_model::TypeId;
 use typed_marks::{ConstId, Facts, Mark, State};
-use typed_tree::{Limit, Rule};
 
 /// An operand: its type, its value where it is a constant, the type at which operators count it, and the underlying type of its final type.
 #[derive(Clone, Copy, PartialEq, Eq, Drop)]
@@ -59,35 +56,4 @@ pub fn operand_at(s: &State, p: Seen) -> Option<Operand>
         Mark::Wants(_, _) => None,
         Mark::Declared(_) => None,
     }
-}
-
-/// The value of this number.
-pub fn value_at(s: &State, value: Option<ConstId>) -> Option<&Const>
-    ensures { option_copied result ≡ constant_at s.now.constants.items value }
-{
-    match value {
-        Some(id) => s.constants.get(id.0 as usize),
-        None => None,
-    }
-}
-
-/// This rule is broken.
-pub fn bad(rule: Rule) -> Answer
-    ensures { result ≡ Answer.Mark (Mark.Bad rule) }
-{
-    Answer::Mark(Mark::Bad(rule))
-}
-
-/// It lies outside this limit.
-pub fn outside(limit: Limit) -> Answer
-    ensures { result ≡ Answer.Mark (Mark.Outside limit) }
-{
-    Answer::Mark(Mark::Outside(limit))
-}
-
-/// Nothing is said.
-pub fn silent() -> Answer
-    ensures { result ≡ Answer.Mark Mark.Silent }
-{
-    Answer::Mark(Mark::Silent)
 }

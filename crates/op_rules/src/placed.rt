@@ -7,14 +7,15 @@ ghost use Rattle.unit_read.specs.Subjects.{unit_of};
 ghost use Rattle.rule_words.specs.Scenes.{IsScene, said, IsMarkOf};
 ghost use Rattle.rule_words.specs.Steps.{step_in, IsStepOf};
 ghost use Rattle.rule_words.specs.Wanting.{wanted_of, IsWantedOf};
+ghost use Rattle.rule_words.specs.Good.{AreFactsOf, known_of};
+ghost use Rattle.rule_words.specs.Wishes.{IsWishOf, wish_of};
 ghost use Rattle.type_answers.specs.Coming.{ComesTo};
-ghost use Rattle.op_rules.specs.Placed.{represented, wished_free, wished_value, wished_constant, is_value, single_fault, owner_fault, owner_demanded, single_constant, single_demanded, value_demanded, may_be_case, demanded, placed_rule};
-ghost use Rattle.op_rules.specs.InCode.{wish_of, IsWishOf, facts_in, AreFactsOf};
+ghost use Rattle.op_rules.specs.Placed.{is_many, represented, wished_free, wished_value, wished_constant, is_value, single_fault, owner_fault, owner_demanded, single_constant, single_demanded, value_demanded, may_be_case, demanded, placed_rule};
 
 use crate::assigned::judge_assigned;
 use crate::fitting::represented;
-use crate::modes::{is_constant, is_many, is_nil_mode, is_package, is_single, is_type};
 use gv_base::NoMemory;
+use rule_words::modes::{is_constant, is_nil_mode, is_package, is_single, is_type};
 use rule_words::{Answer, Step, Wanted};
 use std::alloc::Global;
 use type_questions::Found;
@@ -30,7 +31,7 @@ use unit_read::Subject;
 fn judge_represented(u: &Subject, s: &State, x: Facts) -> Step
     requires scene { IsScene u.now s.now }
     requires facts { AreFactsOf s.now x }
-    ensures is { step_in s.now result ≡ tell (so_far s.now) (represented (unit_of u.now) (facts_in s.now x)) }
+    ensures is { step_in s.now result ≡ tell (so_far s.now) (represented (unit_of u.now) (known_of s.now x)) }
     ensures over { IsStepOf s.now result }
 {
     match represented(u, s, x) {
@@ -57,7 +58,7 @@ fn good(x: Facts) -> Step
 fn wished_free(u: &Subject, s: &State, x: Facts) -> Step
     requires scene { IsScene u.now s.now }
     requires facts { AreFactsOf s.now x }
-    ensures is { step_in s.now result ≡ tell (so_far s.now) (wished_free (unit_of u.now) (facts_in s.now x)) }
+    ensures is { step_in s.now result ≡ tell (so_far s.now) (wished_free (unit_of u.now) (known_of s.now x)) }
     ensures over { IsStepOf s.now result }
 {
     // E26
@@ -78,7 +79,7 @@ fn wished_value(
     requires scene { IsScene u.now s.now }
     requires want { IsWishOf s.now want }
     requires facts { AreFactsOf s.now x }
-    ensures comes { IfOk result (ComesTo u.now s.now (wished_value (unit_of u.now) (wish_of s.now want) (facts_in s.now x))) }
+    ensures comes { IfOk result (ComesTo u.now s.now (wished_value (unit_of u.now) (wish_of s.now want) (known_of s.now x))) }
     ensures over { IfOk result (IsStepOf s.now) }
 {
     match want {
@@ -102,7 +103,7 @@ fn wished_constant(
     requires scene { IsScene u.now s.now }
     requires want { IsWishOf s.now want }
     requires facts { AreFactsOf s.now x }
-    ensures comes { IfOk result (ComesTo u.now s.now (wished_constant (unit_of u.now) (wish_of s.now want) (facts_in s.now x))) }
+    ensures comes { IfOk result (ComesTo u.now s.now (wished_constant (unit_of u.now) (wish_of s.now want) (known_of s.now x))) }
     ensures over { IfOk result (IsStepOf s.now) }
 {
     match want {
@@ -117,6 +118,25 @@ fn wished_constant(
 }
 
 // ---- what has to stand there
+
+/// Several values.
+fn is_many(mode: Mode) -> bool
+    ensures { result ≡ is_many mode }
+{
+    match mode {
+        Mode::NoValue => false,
+        Mode::TypeName => false,
+        Mode::Constant => false,
+        Mode::Variable => false,
+        Mode::MapIndex => false,
+        Mode::Value => false,
+        Mode::CommaOk => false,
+        Mode::Nil => false,
+        Mode::Builtin => false,
+        Mode::Package => false,
+        Mode::Many => true,
+    }
+}
 
 /// One value, or several.
 fn is_value(mode: Mode) -> bool
@@ -168,7 +188,7 @@ fn single_constant(
     requires scene { IsScene u.now s.now }
     requires want { IsWishOf s.now want }
     requires facts { AreFactsOf s.now x }
-    ensures comes { IfOk result (ComesTo u.now s.now (single_constant (unit_of u.now) (wish_of s.now want) (facts_in s.now x))) }
+    ensures comes { IfOk result (ComesTo u.now s.now (single_constant (unit_of u.now) (wish_of s.now want) (known_of s.now x))) }
     ensures over { IfOk result (IsStepOf s.now) }
 {
     // E97
@@ -191,7 +211,7 @@ fn judge_single(
     requires scene { IsScene u.now s.now }
     requires want { IsWishOf s.now want }
     requires facts { AreFactsOf s.now x }
-    ensures comes { IfOk result (ComesTo u.now s.now (single_demanded (unit_of u.now) (wish_of s.now want) (facts_in s.now x) demand)) }
+    ensures comes { IfOk result (ComesTo u.now s.now (single_demanded (unit_of u.now) (wish_of s.now want) (known_of s.now x) demand)) }
     ensures over { IfOk result (IsStepOf s.now) }
 {
     match demand {
@@ -224,7 +244,7 @@ fn judge_value(
     requires scene { IsScene u.now s.now }
     requires want { IsWishOf s.now want }
     requires facts { AreFactsOf s.now x }
-    ensures comes { IfOk result (ComesTo u.now s.now (value_demanded (unit_of u.now) (wish_of s.now want) (facts_in s.now x) demand)) }
+    ensures comes { IfOk result (ComesTo u.now s.now (value_demanded (unit_of u.now) (wish_of s.now want) (known_of s.now x) demand)) }
     ensures over { IfOk result (IsStepOf s.now) }
 {
     // E24, E25
@@ -239,7 +259,7 @@ fn judge_value(
 
 fn judge_owner(s: &State, x: Facts) -> Step
     requires facts { AreFactsOf s.now x }
-    ensures is { step_in s.now result ≡ tell (so_far s.now) (owner_demanded (facts_in s.now x)) }
+    ensures is { step_in s.now result ≡ tell (so_far s.now) (owner_demanded (known_of s.now x)) }
     ensures over { IsStepOf s.now result }
 {
     // E24, E25
@@ -267,7 +287,7 @@ fn judge_demand(
     requires scene { IsScene u.now s.now }
     requires want { IsWishOf s.now want }
     requires facts { AreFactsOf s.now x }
-    ensures comes { IfOk result (ComesTo u.now s.now (demanded (unit_of u.now) (wish_of s.now want) (facts_in s.now x) demand)) }
+    ensures comes { IfOk result (ComesTo u.now s.now (demanded (unit_of u.now) (wish_of s.now want) (known_of s.now x) demand)) }
     ensures over { IfOk result (IsStepOf s.now) }
 {
     match demand {

@@ -15,18 +15,18 @@ ghost use Rattle.rule_words.specs.Scenes.{IsScene, said, IsMarkOf, part_in, IsSe
 ghost use Rattle.rule_words.specs.Answers.{answer_in, IsAnswerOf};
 ghost use Rattle.rule_words.specs.Steps.{step_in, IsStepOf};
 ghost use Rattle.rule_words.specs.Wanting.{wanted_of, IsWantedOf};
+ghost use Rattle.rule_words.specs.Wishes.{IsWishOf, wish_of};
 ghost use Rattle.op_rules.specs.Names.{wished, owner_at, selected, owned, selector_rule};
-ghost use Rattle.op_rules.specs.InCode.{wish_of, IsWishOf};
 
-use crate::modes::is_package;
-use crate::name::{blank, is_blank, with_last};
-use crate::operand::{bad, silent};
+use crate::name::{blank, with_last};
 use crate::types::is_basic;
 use go_tree::{Node, NodeRef, Object};
 use gv_base::{Const, NoMemory};
 use package_faces::{ExportForm, Exported};
 use package_objects::part_of;
-use rule_words::{Answer, Seen, Step, Wanted, exported};
+use rule_words::answered::{bad, silent};
+use rule_words::modes::is_package;
+use rule_words::{Answer, Seen, Step, Wanted, exported, is_blank};
 use std::alloc::Global;
 use typed_marks::{Facts, Mark, State, Want};
 use typed_tree::{Mode, NO_SUCH_FIELD_OR_METHOD, NOT_EXPORTED_BY_PACKAGE};

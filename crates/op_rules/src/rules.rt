@@ -1,56 +1,35 @@
 //! The rule of each form of operand and operator.
-ghost use Rattle.std.specs.Prelude.{◌≡◌, IfOk, option_map, slice_get};
+ghost use Rattle.std.specs.Prelude.{◌≡◌, IfOk, option_map};
 ghost use Rattle.mark_walk.specs.Telling.{tell};
 ghost use Rattle.typed_marks.specs.States.{so_far};
 ghost use Rattle.typed_tree.specs.Basics.{HasBasics};
 ghost use Rattle.unit_read.specs.Subjects.{unit_of};
-ghost use Rattle.rule_words.specs.Parts.{part_at};
-ghost use Rattle.rule_words.specs.Scenes.{IsScene, told_by, IfFound, type_in, IsTypeOf, MayBeTypeOf, part_in, parts_in, IsSeenOf, AreSeenOf};
+ghost use Rattle.rule_words.specs.Scenes.{IsScene, told_by, IfFound, type_in, IsTypeOf, MayBeTypeOf, parts_in, AreSeenOf};
 ghost use Rattle.rule_words.specs.Answers.{answer_in, IsAnswerOf};
 ghost use Rattle.rule_words.specs.Steps.{step_in, IsStepOf};
 ghost use Rattle.rule_words.specs.Wanting.{wanted_of, IsWantedOf};
+ghost use Rattle.rule_words.specs.Wishes.{IsWishOf, wish_of};
 ghost use Rattle.op_rules.specs.Rules.{literal_mark, literal_rule, dotted_rule, paren_rule, unary_rule, binary_rule, form_rule, freed, freed_ask, free_ask, freed_rule, op_rule};
-ghost use Rattle.op_rules.specs.InCode.{wish_of, IsWishOf};
 
 use crate::binary::judge_binary;
 use crate::forms::{Form, Literal, binary_in, form_of, unary_in};
 use crate::name::{judge_name, used, wished};
-use crate::operand::{outside, silent};
 use crate::qualified::judge_selector;
-use crate::types::takes_default;
 use crate::unary::judge_unary;
 use go_tree::{Node, NodeRef};
 use gv_base::NoMemory;
+use rule_words::answered::{outside, silent};
+use rule_words::good::part_at;
+use rule_words::types::takes_default;
 use rule_words::{Answer, Seen, Step, Wanted, under_of};
 use std::alloc::Global;
 use type_model::TypeId;
 use type_questions::Found;
-use typed_marks::{Item, Mark, State, Want};
+use typed_marks::{Item, State, Want};
 use typed_tree::{Limit, judge_int, judge_rune, judge_text};
 use unit_read::Subject;
 
 // ---- parts
-
-fn seen_at(parts: &[Seen], i: usize) -> Option<Seen>
-    ensures { result ≡ slice_get parts.now i }
-{
-    parts.get(i).copied()
-}
-
-/// A part; one that isn't there is Silent.
-fn part(s: &State, parts: &[Seen], i: usize) -> Seen
-    requires { AreSeenOf s.now parts.now }
-    ensures is { part_in s.now result ≡ part_at (parts_in s.now parts.now) i }
-    ensures over { IsSeenOf s.now result }
-{
-    match seen_at(parts, i) {
-        Some(part) => part,
-        None => Seen {
-            mark: Mark::Silent,
-            under: None,
-        },
-    }
-}
 
 // ---- forms
 
@@ -115,7 +94,7 @@ fn judge_dotted(
     ensures is { IfOk result (λ step. step_in s.now step ≡ tell (so_far s.now) (dotted_rule (unit_of u.now) at node.now (parts_in s.now parts.now) (wanted_of s.now w))) }
     ensures over { IfOk result (IsStepOf s.now) }
 {
-    let a = part(s, parts, 0);
+    let a = part_at(s, parts, 0);
     let step = judge_selector(alloc, u, s, at, node, a, w)?;
     Ok(step)
 }
@@ -128,7 +107,7 @@ fn judge_paren(s: &State, parts: &[Seen], want: Want) -> Step
     ensures is { step_in s.now result ≡ tell (so_far s.now) (paren_rule (parts_in s.now parts.now) (wish_of s.now want)) }
     ensures over { IsStepOf s.now result }
 {
-    let a = part(s, parts, 0);
+    let a = part_at(s, parts, 0);
     used(s, want, a.mark)
 }
 
@@ -149,7 +128,7 @@ fn judge_unary_node(
     ensures over { IfOk result (IsStepOf s.now) }
 {
     let op = unary_in(u, at.file, node);
-    let a = part(s, parts, 0);
+    let a = part_at(s, parts, 0);
     let step = judge_unary(alloc, s, op, a, want)?;
     Ok(step)
 }
@@ -171,8 +150,8 @@ fn judge_binary_node(
     ensures over { IfOk result (IsStepOf s.now) }
 {
     let op = binary_in(u, at.file, node);
-    let a = part(s, parts, 0);
-    let b = part(s, parts, 1);
+    let a = part_at(s, parts, 0);
+    let b = part_at(s, parts, 1);
     let step = judge_binary(alloc, s, op, a, b, want)?;
     Ok(step)
 }

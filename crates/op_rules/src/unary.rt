@@ -1,30 +1,32 @@
 //! Unary expressions `+x -x !x ^x` (Go 1.17, "Arithmetic operators", "Logical operators").
 ghost use Rattle.std.specs.Prelude.{◌≡◌, IfOk};
 ghost use Rattle.mark_walk.specs.Telling.{tell};
-ghost use Rattle.type_rel.specs.Terms.{kind_of};
 ghost use Rattle.typed_tree.specs.Basics.{HasBasics};
 ghost use Rattle.typed_tree.specs.Operands.{takes_alone};
 ghost use Rattle.typed_marks.specs.States.{so_far};
 ghost use Rattle.rule_words.specs.Scenes.{type_in, IsTypeOf, part_in, IsSeenOf};
 ghost use Rattle.rule_words.specs.Answers.{answer_in, IsAnswerOf};
 ghost use Rattle.rule_words.specs.Steps.{step_in, IsStepOf};
-ghost use Rattle.op_rules.specs.Types.{is_of};
+ghost use Rattle.rule_words.specs.Types.{is_of};
+ghost use Rattle.rule_words.specs.Wishes.{IsWishOf, wish_of};
 ghost use Rattle.op_rules.specs.Unary.{value_of_one, one_valued, unary_mark, unary_of_part, unary_with, unary_by};
-ghost use Rattle.op_rules.specs.InCode.{operand_in, IsOperandOf, wish_of, IsWishOf};
+ghost use Rattle.op_rules.specs.InCode.{operand_in, IsOperandOf};
 
-use crate::operand::{Operand, bad, operand_at, silent, value_at};
+use crate::operand::{Operand, operand_at};
 use crate::operators::{mark_of, takes_address, takes_alone};
-use crate::types::kind_of;
 use crate::values::{computed, folded};
 use const_eval::{ConstAnswer, Operator, unary};
 use gv_base::{Const, NoMemory};
+use rule_words::answered::{bad, silent};
+use rule_words::types::kind_of;
+use rule_words::values::value_at;
 use rule_words::{Answer, Seen, Step};
 use std::alloc::Global;
 use type_model::TypeId;
 use typed_marks::{State, Want};
 use typed_tree::OPERATOR_NOT_DEFINED;
 
-#[tactic(auto, unfolding(crate::specs::Types::is_of))]
+#[tactic(auto, unfolding(rule_words::specs::Types::is_of))]
 fn is_defined(s: &State, op: Operator, at: TypeId) -> bool
     requires basics { HasBasics s.now.table }
     requires within { IsTypeOf s.now at }

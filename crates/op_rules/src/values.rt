@@ -4,20 +4,21 @@ ghost use Rattle.typed_tree.specs.Basics.{HasBasics};
 ghost use Rattle.typed_marks.specs.Meanings.{constant_at};
 ghost use Rattle.rule_words.specs.Scenes.{type_in, IsTypeOf};
 ghost use Rattle.rule_words.specs.Answers.{answer_in, IsAnswerOf};
+ghost use Rattle.rule_words.specs.Wishes.{IsWishOf, wish_of};
 ghost use Rattle.op_rules.specs.Operands.{fits_at, valued, wide, folded, computed, is_zero_integer, is_zero};
-ghost use Rattle.op_rules.specs.InCode.{wish_of, IsWishOf};
 
 use crate::kinds::holds;
-use crate::operand::{bad, outside, silent, value_at};
-use crate::types::{is_untyped, kind_of};
 use const_eval::ConstAnswer;
 use gv_base::Const;
+use rule_words::answered::{bad, outside, silent};
+use rule_words::types::{is_untyped, kind_of};
+use rule_words::values::value_at;
 use rule_words::{Answer, last_of, operand};
 use type_model::TypeId;
 use typed_marks::{ConstId, State, Want};
 use typed_tree::{CONSTANT_OVERFLOW, DIVISION_BY_ZERO, Limit, Mode};
 
-#[tactic(auto, unfolding(crate::specs::Types::is_of))]
+#[tactic(auto, unfolding(rule_words::specs::Types::is_of))]
 fn fits_at(s: &State, c: &Const, at: TypeId) -> bool
     requires basics { HasBasics s.now.table }
     requires at { IsTypeOf s.now at }

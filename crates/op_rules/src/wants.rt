@@ -3,19 +3,19 @@ ghost use Rattle.std.specs.Prelude.{◌≡◌, ◌-◌, option_map};
 ghost use Rattle.mark_walk.specs.Telling.{tell};
 ghost use Rattle.typed_tree.specs.Basics.{HasBasics};
 ghost use Rattle.typed_marks.specs.States.{so_far};
-ghost use Rattle.unit_read.specs.Subjects.{unit_of, IsRead};
+ghost use Rattle.unit_read.specs.Subjects.{unit_of};
 ghost use Rattle.rule_words.specs.Scenes.{IsScene, told_by, IfFound, said, IsMarkOf, type_in, MayBeTypeOf};
 ghost use Rattle.rule_words.specs.Words.{wanted_in};
-ghost use Rattle.op_rules.specs.Wants.{before, whole, unchecked_by, whole_handed, handing_on, count_by, count_wants, shifted_in, operand_in, operand_over, operand_with, operand_in_whole, operand_beside, operand_wants, is_count, operator_wants, operator_asked, file_of, binary_wants, form_wants, op_wants};
-ghost use Rattle.op_rules.specs.InCode.{wish_of, IsWishOf};
+ghost use Rattle.rule_words.specs.Wishes.{IsWishOf, wish_of};
+ghost use Rattle.op_rules.specs.Wants.{whole, unchecked_by, whole_handed, handing_on, count_by, count_wants, shifted_in, operand_in, operand_over, operand_with, operand_in_whole, operand_beside, operand_wants, is_count, operator_wants, operator_asked, binary_wants, form_wants, op_wants};
 
 use crate::forms::{Form, binary_in, form_of};
 use crate::operators::shifts;
 use crate::wishes::{default_type, operand_wish, shifted_wish, unchecked_type};
 use const_eval::Operator;
 use go_tree::Node;
-use package_objects::part_of;
-use rule_words::{look, mark_under};
+use rule_words::wishes::before;
+use rule_words::{file_of, look, mark_under};
 use type_model::TypeId;
 use type_questions::Found;
 use typed_marks::{Item, Mark, Stage, State, Want};
@@ -23,19 +23,6 @@ use typed_tree::Want as Demand;
 use unit_read::{Place, Subject};
 
 // ---- marks
-
-/// A part before anything is wanted of it.
-#[tactic(auto, unfolding(crate::specs::Wants::before))]
-fn before(u: &Subject, s: &State, block: usize, around: &Node, slot: usize) -> Found<Mark, Item>
-    requires scene { IsScene u.now s.now }
-    ensures is { told_by (said s.now) result ≡ tell (so_far s.now) (before (unit_of u.now) block around.now slot) }
-    ensures over { IfFound result (IsMarkOf s.now) }
-{
-    match part_of(around, slot) {
-        Some(n) => look(u, s, Stage::Before, block, n),
-        None => Found::Is(Mark::Silent),
-    }
-}
 
 /// What is wanted of the whole.
 #[tactic(auto, unfolding(crate::specs::Wants::whole))]
@@ -328,17 +315,6 @@ pub fn operator_asked(
     match op {
         Some(op) => operator_wants(u, s, block, p, around, op),
         None => Found::Is(Mark::Wants(Demand::Operand, Want::Free)),
-    }
-}
-
-#[tactic(auto, unfolding(crate::specs::Wants::file_of))]
-fn file_of(u: &Subject, block: usize) -> u32
-    requires { IsRead u.now }
-    ensures { result ≡ file_of (unit_of u.now) block }
-{
-    match u.passage_at(block) {
-        Some(passage) => passage.file,
-        None => 0,
     }
 }
 

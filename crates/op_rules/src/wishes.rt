@@ -1,46 +1,20 @@
 //! Which types the places of operands want (Go 1.17, "Operators", "Constant expressions").
 ghost use Rattle.std.specs.Prelude.{◌≡◌, ◌&&◌, option_map};
-ghost use Rattle.type_rel.specs.Kinds.{is_untyped, is_integer};
 ghost use Rattle.typed_tree.specs.Basics.{HasBasics};
-ghost use Rattle.typed_marks.specs.Meanings.{constant_at};
 ghost use Rattle.rule_words.specs.Scenes.{said, IsMarkOf, type_in, IsTypeOf, MayBeTypeOf};
-ghost use Rattle.op_rules.specs.Types.{is_of};
-ghost use Rattle.op_rules.specs.Wishes.{default_of, fitting_default, unchecked, checked, unchecked_type, default_type, has_value, shifted_by, shifted_over, shifted_wish, is_shifted, mixed, one_is_shifted, untyped_wish, typed_wish, beside_wish, by_beside, handed, operand_wish};
-ghost use Rattle.op_rules.specs.InCode.{wish_of, IsWishOf, facts_in, AreFactsOf};
+ghost use Rattle.rule_words.specs.Good.{AreFactsOf, known_of};
+ghost use Rattle.rule_words.specs.Values.{has_value};
+ghost use Rattle.rule_words.specs.Wishes.{IsWishOf, wish_of};
+ghost use Rattle.op_rules.specs.Wishes.{unchecked, checked, unchecked_type, default_type, shifted_by, shifted_over, shifted_wish, mixed, one_is_shifted, untyped_wish, typed_wish, beside_wish, by_beside, handed, operand_wish};
 
-use crate::operand::value_at;
 use crate::operators::compares;
-use crate::types::{are_alike, basic_type, common, is_untyped, kind_of, takes_default};
+use crate::types::{are_alike, common};
 use const_eval::Operator;
-use gv_base::Kind;
-use rule_words::default_kind;
+use rule_words::types::{is_untyped, takes_default};
+use rule_words::values::{has_value, is_shifted};
+use rule_words::wishes::{default_of, fitting_default};
 use type_model::TypeId;
-use type_rel::{has_integers, is_free};
-use typed_marks::{ConstId, Facts, Mark, State, Want};
-
-fn default_of(s: &State, of: TypeId) -> Want
-    requires basics { HasBasics s.now.table }
-    requires of { IsTypeOf s.now of }
-    ensures is { wish_of s.now result ≡ default_of (type_in s.now of) }
-    ensures within { IsWishOf s.now result }
-{
-    match kind_of(s, of) {
-        Some(kind) => Want::Takes(basic_type(s, default_kind(kind))),
-        None => Want::Free,
-    }
-}
-
-fn fitting_default(s: &State, of: TypeId) -> Want
-    requires basics { HasBasics s.now.table }
-    requires of { IsTypeOf s.now of }
-    ensures is { wish_of s.now result ≡ fitting_default (type_in s.now of) }
-    ensures within { IsWishOf s.now result }
-{
-    match kind_of(s, of) {
-        Some(kind) => Want::Fits(basic_type(s, default_kind(kind))),
-        None => Want::Free,
-    }
-}
+use typed_marks::{Facts, Mark, State, Want};
 
 /// What the whole takes, or the default of this type; nothing is tested here.
 #[tactic(auto, unfolding(crate::specs::Wishes::unchecked))]
@@ -115,17 +89,8 @@ pub fn default_type(s: &State, own: Mark) -> Want
 
 // ---- shifts
 
-fn has_value(s: &State, value: Option<ConstId>) -> bool
-    ensures { result ≡ has_value (constant_at s.now.constants.items value) }
-{
-    match value_at(s, value) {
-        Some(_) => true,
-        None => false,
-    }
-}
-
 fn have_values(s: &State, x: Facts, y: Facts) -> bool
-    ensures { result ≡ (has_value (facts_in s.now x).value && has_value (facts_in s.now y).value) }
+    ensures { result ≡ (has_value (known_of s.now x).value && has_value (known_of s.now y).value) }
 {
     has_value(s, x.value) && has_value(s, y.value)
 }
@@ -136,7 +101,7 @@ fn shifted_by(s: &State, whole: Want, x: Facts, count: Facts) -> Want
     requires whole { IsWishOf s.now whole }
     requires first { AreFactsOf s.now x }
     requires second { AreFactsOf s.now count }
-    ensures is { wish_of s.now result ≡ shifted_by (wish_of s.now whole) (facts_in s.now x) (facts_in s.now count) }
+    ensures is { wish_of s.now result ≡ shifted_by (wish_of s.now whole) (known_of s.now x) (known_of s.now count) }
     ensures within { IsWishOf s.now result }
 {
     if have_values(s, x, count) {
@@ -152,7 +117,7 @@ fn shifted_over(s: &State, whole: Want, count: Mark, x: Facts) -> Want
     requires whole { IsWishOf s.now whole }
     requires count { IsMarkOf s.now count }
     requires own { AreFactsOf s.now x }
-    ensures is { wish_of s.now result ≡ shifted_over (wish_of s.now whole) (said s.now count) (facts_in s.now x) }
+    ensures is { wish_of s.now result ≡ shifted_over (wish_of s.now whole) (said s.now count) (known_of s.now x) }
     ensures within { IsWishOf s.now result }
 {
     match count {
@@ -187,40 +152,12 @@ pub fn shifted_wish(s: &State, own: Mark, count: Mark, whole: Want) -> Want
 
 // ---- other binary operators
 
-fn is_untyped_integer_kind(kind: Kind) -> bool
-    ensures { result ≡ (is_untyped kind && is_integer kind) }
-{
-    is_free(kind) && has_integers(kind)
-}
-
-#[tactic(auto, unfolding(crate::specs::Types::is_of))]
-fn is_untyped_integer(s: &State, of: TypeId) -> bool
-    requires basics { HasBasics s.now.table }
-    requires of { IsTypeOf s.now of }
-    ensures { result ≡ is_of (λ kind. is_untyped kind && is_integer kind) (type_in s.now of) }
-{
-    match kind_of(s, of) {
-        Some(kind) => is_untyped_integer_kind(kind),
-        None => false,
-    }
-}
-
-/// An untyped integer that is no constant: a shift whose count is none.
-#[tactic(auto, unfolding(crate::specs::Wishes::is_shifted))]
-pub fn is_shifted(s: &State, x: Facts) -> bool
-    requires basics { HasBasics s.now.table }
-    requires facts { AreFactsOf s.now x }
-    ensures { result ≡ is_shifted (facts_in s.now x) }
-{
-    is_untyped_integer(s, x.of) && !has_value(s, x.value)
-}
-
 #[tactic(auto, unfolding(crate::specs::Wishes::one_is_shifted))]
 fn one_is_shifted(s: &State, x: Facts, y: Facts) -> bool
     requires basics { HasBasics s.now.table }
     requires first { AreFactsOf s.now x }
     requires second { AreFactsOf s.now y }
-    ensures { result ≡ one_is_shifted (facts_in s.now x) (facts_in s.now y) }
+    ensures { result ≡ one_is_shifted (known_of s.now x) (known_of s.now y) }
 {
     is_shifted(s, x) || is_shifted(s, y)
 }
@@ -247,7 +184,7 @@ fn untyped_wish(s: &State, whole: Want, x: Facts, y: Facts) -> Want
     requires whole { IsWishOf s.now whole }
     requires first { AreFactsOf s.now x }
     requires second { AreFactsOf s.now y }
-    ensures is { wish_of s.now result ≡ untyped_wish (wish_of s.now whole) (facts_in s.now x) (facts_in s.now y) }
+    ensures is { wish_of s.now result ≡ untyped_wish (wish_of s.now whole) (known_of s.now x) (known_of s.now y) }
     ensures within { IsWishOf s.now result }
 {
     let of = mixed(s, x.of, y.of);
@@ -281,7 +218,7 @@ fn beside_wish(s: &State, whole: Want, y: Facts, under: Option<TypeId>, x: Facts
     requires beside { AreFactsOf s.now y }
     requires under { MayBeTypeOf s.now under }
     requires own { AreFactsOf s.now x }
-    ensures is { wish_of s.now result ≡ beside_wish (wish_of s.now whole) (facts_in s.now y) (option_map (type_in s.now) under) (facts_in s.now x) }
+    ensures is { wish_of s.now result ≡ beside_wish (wish_of s.now whole) (known_of s.now y) (option_map (type_in s.now) under) (known_of s.now x) }
     ensures within { IsWishOf s.now result }
 {
     if is_untyped(s, y.of) {
@@ -298,7 +235,7 @@ fn by_beside(s: &State, whole: Want, beside: Mark, under: Option<TypeId>, x: Fac
     requires beside { IsMarkOf s.now beside }
     requires under { MayBeTypeOf s.now under }
     requires own { AreFactsOf s.now x }
-    ensures is { wish_of s.now result ≡ by_beside (wish_of s.now whole) (said s.now beside) (option_map (type_in s.now) under) (facts_in s.now x) }
+    ensures is { wish_of s.now result ≡ by_beside (wish_of s.now whole) (said s.now beside) (option_map (type_in s.now) under) (known_of s.now x) }
     ensures within { IsWishOf s.now result }
 {
     match beside {

@@ -13,13 +13,13 @@ use Rattle.rule_words.specs.declared.read.How.TheVariants as h
 use Rattle.rule_words.specs.Asking.{Rule}
 use Rattle.rule_words.specs.Parts.{Part, part_at}
 use Rattle.rule_words.specs.Words.{Wanted}
+use Rattle.rule_words.specs.Files.{file_of}
+use Rattle.rule_words.specs.Wishes.{nothing_wanted}
 use Rattle.op_rules.specs.Binary.{binary_by}
 use Rattle.op_rules.specs.Wants.{operator_asked}
 use Rattle.variable_rules.specs.Forms.{name_count, value_count}
 use Rattle.typed_tree.specs.declared.rule.TheConstants.{WRONG_NUMBER_OF_OPERANDS, BAD_SELECT_CASE}
-use Rattle.assign_rules.specs.Around.{file_of}
 use Rattle.assign_rules.specs.Selecting.{is_bad_case}
-use Rattle.assign_rules.specs.Words.{nothing_wanted}
 use Rattle.operator_statements.specs.Operators.{operator_of}
 
 abbrev pub is_operation : NodeKind → Bool

@@ -9,14 +9,13 @@ ghost use Rattle.rule_words.specs.Wanting.{wanted_of, IsWantedOf};
 ghost use Rattle.operator_statements.specs.Rules.{is_operation, operation_reads, is_pair, operated_rule, paired_rule, operation_rule, right_wants, value_wants, operation_wants};
 
 use crate::operators::operator_of;
-use assign_rules::around::file_of;
 use assign_rules::selecting::is_bad_case;
-use assign_rules::words::nothing_wanted;
 use go_tree::{Node, NodeKind, NodeRef};
 use gv_base::NoMemory;
 use op_rules::{judge_binary, operator_asked};
 use rule_words::good::{broken, part_at};
-use rule_words::{How, Seen, Step, Wanted};
+use rule_words::wishes::nothing_wanted;
+use rule_words::{How, Seen, Step, Wanted, file_of};
 use std::alloc::Global;
 use type_questions::Found;
 use typed_marks::{Item, Mark, State, Want};

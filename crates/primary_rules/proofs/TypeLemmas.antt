@@ -1,26 +1,8 @@
--- Interface types; literals between parentheses.
+-- Literals between parentheses.
 use Rattle.std.proofs.Common.{◌≡◌, ℕ, zero, suc, ◌-◌, ◌<◌, List, Bool, true, false, not, if◌then◌else◌, refl, sym, ap, ◌∙◌, arith}
 use Rattle.go_tree.specs.declared.tree.Node.{Node}
-use Rattle.op_rules.specs.Types.{is_interface}
-use Rattle.type_model.specs.Declarations.{Declarations}
-use Rattle.type_model.specs.GoTypes.{GoType, BasicType, DefinedType, PointerTo, SliceOf, ArrayOf, MapOf, ChanOf, FuncOf, StructOf, InterfaceOf}
-use Rattle.type_rel.specs.Answers.{IsInterface}
-use Rattle.primary_rules.specs.Addresses.{is_composite, is_paren, passes, is_literal}
-
-pub interface_known : (ds : Declarations) (of : GoType) → is_interface of ≡ true → IsInterface ds of
-unfolding is_interface
-interface_known ds (BasicType kind) is = absurd cc
-interface_known ds (DefinedType name) is = absurd cc
-interface_known ds (PointerTo of) is = absurd cc
-interface_known ds (SliceOf of) is = absurd cc
-interface_known ds (ArrayOf size of) is = absurd cc
-interface_known ds (MapOf key of) is = absurd cc
-interface_known ds (ChanOf direction of) is = absurd cc
-interface_known ds (FuncOf of) is = absurd cc
-interface_known ds (StructOf fields) is = absurd cc
-interface_known ds (InterfaceOf methods) is = (methods, refl)
-
--- ---- parentheses
+use Rattle.primary_rules.specs.Addresses.{is_composite, passes, is_literal}
+use Rattle.rule_words.specs.Nodes.{is_paren}
 
 pub literal_on : (nodes : List Node) (n : ℕ) → 0 < n → not (passes is_paren nodes n) ≡ false → is_literal nodes n ≡ is_literal nodes (n - 1)
 literal_on nodes zero behind is = absurd (omega arith)

@@ -15,6 +15,7 @@ use Rattle.rule_words.specs.Answers.{typed}
 use Rattle.rule_words.specs.Asking.{Rule, under_ask}
 use Rattle.rule_words.specs.Parts.{Part}
 use Rattle.rule_words.specs.Words.{need, test}
+use Rattle.rule_words.specs.Nodes.{is_paren}
 use Rattle.typed_tree.specs.declared.rule.TheConstants.{CANNOT_TAKE_ADDRESS, NOT_A_POINTER}
 use Rattle.primary_rules.specs.Operands.{is_variable, standing}
 use Rattle.primary_rules.specs.Shapes.{Shape, Texts, Slices, Arrays, Maps, Pointers, Channels, Interfaces, Others, shape_of}
@@ -47,10 +48,6 @@ unfoldable pub star_rule : Unit → Part → Rule
 star_rule u p = need p.mark (star_of u)
 
 -- ---- `&x`
-
-abbrev pub is_paren : NodeKind → Bool
-is_paren k.Paren = true
-is_paren _ = false
 
 abbrev pub is_composite : NodeKind → Bool
 is_composite k.Composite = true

@@ -12,6 +12,7 @@ use Rattle.unit_read.specs.declared.place.Place.{Place}
 use Rattle.unit_read.specs.Units.{Unit, nodes_at, place_at}
 use Rattle.op_rules.specs.Forms.{operator_in}
 use Rattle.primary_rules.specs.Addresses.{passes}
+use Rattle.rule_words.specs.Nodes.{deepest}
 
 -- `chan T`
 abbrev pub is_open : NodeKind → Bool
@@ -45,10 +46,6 @@ is_arrow u file node = is_unary node.kind && not (is_some (operator_in unary_ope
 
 unfoldable pub is_arrow_at : Unit → ℕ → ℕ → Bool
 is_arrow_at u file n = option_map_or (is_arrow u file) (slice_get (nodes_at u file) n) false
-
--- nodes nest no deeper
-unfoldable pub deepest : ℕ
-deepest = 256
 
 abbrev pub arrow_by : (ℕ → Bool) → Unit → ℕ → Place → Bool
 arrow_by further u file p = if is_sending (kind_at (nodes_at u file) p.around) then further p.around else is_arrow_at u file p.around

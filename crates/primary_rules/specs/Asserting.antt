@@ -10,7 +10,7 @@ use Rattle.typed_marks.specs.Meanings.{Known, Wrong}
 use Rattle.rule_words.specs.Asking.{Rule}
 use Rattle.rule_words.specs.Parts.{Part}
 use Rattle.rule_words.specs.Words.{need, need_type, test}
-use Rattle.op_rules.specs.Types.{is_interface}
+use Rattle.rule_words.specs.Types.{is_interface}
 use Rattle.type_answers.specs.Asked.{implements_ask, need_told}
 use Rattle.typed_tree.specs.declared.rule.TheConstants.{NOT_AN_INTERFACE, IMPOSSIBLE_TYPE}
 use Rattle.primary_rules.specs.Operands.{Operand, operand_at, need_operand, standing}

@@ -1,10 +1,8 @@
 -- Operands and types of primary expressions in code, with types and constants by number.
 use Rattle.std.specs.Prelude.{◌≡◌, ◌<◌, length, Option, Some, None, option_map, IfSome}
 use Rattle.typed_marks.specs.declared.state.State.{State}
-use Rattle.typed_marks.specs.declared.mark.Facts.{Facts}
 use Rattle.typed_marks.specs.declared.mark.Want.{Want}
-use Rattle.typed_marks.specs.Meanings.{Known, Wish, known_in, wish_in, constant_at, AreWithin, IsValueWithin, IsWantWithin}
-use Rattle.type_model.specs.Tables.{types_in, count}
+use Rattle.typed_marks.specs.Meanings.{Wish, wish_in, constant_at, IsValueWithin, IsWantWithin}
 use Rattle.rule_words.specs.Parts.{Part}
 use Rattle.rule_words.specs.Answers.{answer_in, IsAnswerOf}
 use Rattle.rule_words.specs.Scenes.{type_in, IsTypeOf, part_in, IsSeenOf}
@@ -34,12 +32,6 @@ pub record IsOperandOf (s : State) (x : InCode) : Type 0 where
   pub value : IsValueWithin (length s.constants.items) x.value
   pub last : IsTypeOf s x.last
   pub under : IsTypeOf s x.under
-
-abbrev pub facts_in : State → Facts → Known
-facts_in s x = known_in (types_in s.table) s.constants.items x
-
-abbrev pub AreFactsOf : State → Facts → Type 0
-AreFactsOf s x = AreWithin (count s.table) (length s.constants.items) x
 
 -- ---- types
 

@@ -15,7 +15,7 @@ use Rattle.unit_read.specs.Units.{Unit}
 use Rattle.rule_words.specs.Asking.{Rule, under_ask}
 use Rattle.rule_words.specs.Parts.{Part}
 use Rattle.rule_words.specs.Words.{test}
-use Rattle.op_rules.specs.Types.{is_of, counted}
+use Rattle.rule_words.specs.Types.{counted, is_of}
 use Rattle.typed_tree.specs.declared.rule.TheConstants.{CANNOT_INDEX, BAD_INDEX, INDEX_OUT_OF_RANGE}
 use Rattle.primary_rules.specs.Operands.{Operand, operand_at, need_operand, is_variable, part_mode, standing}
 use Rattle.primary_rules.specs.Shapes.{Shape, Texts, Slices, Arrays, Maps, Pointers, Channels, Interfaces, Others, shape_of}

@@ -20,17 +20,16 @@ use Rattle.unit_read.specs.declared.place.Place.{Place}
 use Rattle.unit_read.specs.Units.{Unit, nodes_at}
 use Rattle.rule_words.specs.Asking.{Rule, mark_ask, mark_under}
 use Rattle.rule_words.specs.Words.{wanted_in}
+use Rattle.rule_words.specs.Files.{file_of}
+use Rattle.rule_words.specs.Wishes.{wants}
 use Rattle.op_rules.specs.Forms.{operator_in}
 use Rattle.op_rules.specs.Unary.{takes_address}
-use Rattle.op_rules.specs.Wants.{file_of, op_wants}
+use Rattle.op_rules.specs.Wants.{op_wants}
 use Rattle.primary_rules.specs.declared.forms.Form.{Form}
 use Rattle.primary_rules.specs.declared.forms.Form.TheVariants as f
 use Rattle.primary_rules.specs.Addresses.{passes}
 use Rattle.primary_rules.specs.Forms.{form_of}
 use Rattle.primary_rules.specs.Shapes.{Shape, Texts, Slices, Arrays, Maps, Pointers, Channels, Interfaces, Others, shape_of}
-
-abbrev pub wants : Demand → Wish → Rule
-wants demand wish = done (Wishes demand wish)
 
 -- ---- indexes
 

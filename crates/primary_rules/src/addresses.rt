@@ -6,15 +6,19 @@ ghost use Rattle.typed_tree.specs.Basics.{HasBasics};
 ghost use Rattle.unit_read.specs.Subjects.{unit_of};
 ghost use Rattle.rule_words.specs.Scenes.{IsScene, said, IsMarkOf, type_in, IsTypeOf, MayBeTypeOf, part_in, IsSeenOf};
 ghost use Rattle.rule_words.specs.Steps.{step_in, IsStepOf};
+ghost use Rattle.rule_words.specs.Good.{AreFactsOf, known_of};
+ghost use Rattle.rule_words.specs.Nodes.{is_paren};
 ghost use Rattle.type_answers.specs.Coming.{ComesTo};
-ghost use Rattle.primary_rules.specs.InCode.{facts_in, AreFactsOf, shape_in, IsShapeOf};
-ghost use Rattle.primary_rules.specs.Addresses.{indirect_shape, indirect_under, indirect, star_of, star_rule, is_paren, is_composite, passes, is_literal, part_is_literal, address_of, address_rule};
+ghost use Rattle.primary_rules.specs.InCode.{shape_in, IsShapeOf};
+ghost use Rattle.primary_rules.specs.Addresses.{indirect_shape, indirect_under, indirect, star_of, star_rule, is_composite, passes, is_literal, part_is_literal, address_of, address_rule};
 
-use crate::operand::{bad, is_type, is_variable, silent, standing};
+use crate::operand::{is_variable, standing};
 use crate::shape::{Shape, shape_of};
 use go_tree::{Node, NodeKind};
 use package_objects::part_of;
-use rule_words::{Answer, Seen, Step};
+use rule_words::answered::{bad, silent};
+use rule_words::modes::is_type;
+use rule_words::{Answer, Seen, Step, is_paren};
 use type_answers::ask_under;
 use type_model::{Term, TypeId};
 use type_questions::Found;
@@ -59,7 +63,7 @@ fn indirect_under(u: &Subject, s: &State, under: Option<TypeId>) -> Step
 fn indirect(u: &Subject, s: &State, x: Facts) -> Step
     requires scene { IsScene u.now s.now }
     requires facts { AreFactsOf s.now x }
-    ensures comes { ComesTo u.now s.now (indirect (unit_of u.now) (facts_in s.now x)) result }
+    ensures comes { ComesTo u.now s.now (indirect (unit_of u.now) (known_of s.now x)) result }
     ensures over { IsStepOf s.now result }
 {
     match ask_under(u, s, x.last) {
@@ -72,7 +76,7 @@ fn indirect(u: &Subject, s: &State, x: Facts) -> Step
 fn star_of(u: &Subject, s: &State, x: Facts) -> Step
     requires scene { IsScene u.now s.now }
     requires facts { AreFactsOf s.now x }
-    ensures comes { ComesTo u.now s.now (star_of (unit_of u.now) (facts_in s.now x)) result }
+    ensures comes { ComesTo u.now s.now (star_of (unit_of u.now) (known_of s.now x)) result }
     ensures over { IsStepOf s.now result }
 {
     if is_type(x.mode) {
@@ -100,15 +104,6 @@ pub fn judge_star(u: &Subject, s: &State, p: Seen) -> Step
 }
 
 // ---- `&x`
-
-fn is_paren(kind: NodeKind) -> bool
-    ensures { result ≡ is_paren kind }
-{
-    match kind {
-        NodeKind::Paren => true,
-        _ => false,
-    }
-}
 
 fn is_composite(kind: NodeKind) -> bool
     ensures { result ≡ is_composite kind }
@@ -163,7 +158,7 @@ fn part_is_literal(nodes: &[Node], node: &Node) -> bool
 
 fn address_of(s: &State, literal: bool, x: Facts) -> Step
     requires { AreFactsOf s.now x }
-    ensures is { step_in s.now result ≡ tell (so_far s.now) (address_of literal (facts_in s.now x)) }
+    ensures is { step_in s.now result ≡ tell (so_far s.now) (address_of literal (known_of s.now x)) }
     ensures over { IsStepOf s.now result }
 {
     let _ = s;

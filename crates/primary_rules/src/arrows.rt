@@ -4,11 +4,12 @@ ghost use Rattle.const_tree.specs.Operators.{unary_operator};
 ghost use Rattle.unit_read.specs.Subjects.{unit_of, IsRead};
 ghost use Rattle.op_rules.specs.Forms.{operator_in};
 ghost use Rattle.primary_rules.specs.Addresses.{passes};
-ghost use Rattle.primary_rules.specs.Arrows.{is_open, is_sending, takes_arrow, part_takes_arrow, is_unary, is_arrow, is_arrow_at, deepest, has_arrow, may_have_arrow, is_receiving};
+ghost use Rattle.primary_rules.specs.Arrows.{is_open, is_sending, takes_arrow, part_takes_arrow, is_unary, is_arrow, is_arrow_at, has_arrow, may_have_arrow, is_receiving};
 
 use crate::rules::unary_in;
 use go_tree::{Node, NodeKind, NodeRef};
 use package_objects::{kind_of, part_of};
+use rule_words::deepest;
 use unit_read::Subject;
 
 fn is_open(kind: NodeKind) -> bool
@@ -108,14 +109,6 @@ fn is_arrow_at(u: &Subject, file: u32, n: u32) -> bool
         Some(node) => is_arrow(u, file, node),
         None => false,
     }
-}
-
-/// Nodes nest no deeper.
-#[tactic(auto, unfolding(crate::specs::Arrows::deepest))]
-fn deepest() -> usize
-    ensures { result ≡ deepest }
-{
-    256
 }
 
 /// An arrow comes to a node from what is around it, in so many steps at most.

@@ -4,47 +4,27 @@ ghost use Rattle.mark_walk.specs.Telling.{tell};
 ghost use Rattle.type_model.specs.Tables.{declarations_in};
 ghost use Rattle.type_rel.specs.Answers.{IsInterface};
 ghost use Rattle.typed_marks.specs.States.{so_far};
-ghost use Rattle.typed_tree.specs.Basics.{HasBasics};
 ghost use Rattle.unit_read.specs.Subjects.{unit_of};
 ghost use Rattle.rule_words.specs.Scenes.{IsScene, said, IsMarkOf, type_in, IsTypeOf, MayBeTypeOf, part_in, IsSeenOf};
 ghost use Rattle.rule_words.specs.Steps.{step_in, IsStepOf};
-ghost use Rattle.op_rules.specs.Types.{is_interface};
+ghost use Rattle.rule_words.specs.Good.{AreFactsOf, known_of};
 ghost use Rattle.type_answers.specs.Coming.{ComesTo};
-ghost use Rattle.primary_rules.specs.InCode.{operand_in, IsOperandOf, facts_in, AreFactsOf};
+ghost use Rattle.primary_rules.specs.InCode.{operand_in, IsOperandOf};
 ghost use Rattle.primary_rules.specs.Asserting.{asserted, implemented, assert_told, assert_implements, assert_type, assert_known, assert_to, assert_operand, assert_rule};
 
-use crate::operand::{Operand, bad, operand_at, silent, standing};
+use crate::operand::{Operand, operand_at, standing};
 use gv_base::NoMemory;
+use rule_words::answered::{bad, silent};
+use rule_words::types::is_interface;
 use rule_words::{Seen, Step};
 use std::alloc::Global;
 use type_answers::ask_implements;
-use type_model::{Term, TypeId};
+use type_model::TypeId;
 use type_questions::{Found, Reached};
 use type_rel::Implements;
 use typed_marks::{Facts, Mark, State};
 use typed_tree::{IMPOSSIBLE_TYPE, Mode, NOT_AN_INTERFACE};
 use unit_read::Subject;
-
-/// An interface type.
-#[tactic(auto, unfolding(op_rules::specs::Types::is_interface))]
-pub fn is_interface(s: &State, t: TypeId) -> bool
-    requires basics { HasBasics s.now.table }
-    requires within { IsTypeOf s.now t }
-    ensures is { result ≡ is_interface (type_in s.now t) }
-{
-    match s.table.term(t) {
-        Term::Basic(_) => false,
-        Term::Defined(_) => false,
-        Term::Pointer(_) => false,
-        Term::Slice(_) => false,
-        Term::Array(_, _) => false,
-        Term::Map(_, _) => false,
-        Term::Chan(_, _) => false,
-        Term::Func(_) => false,
-        Term::Struct(_) => false,
-        Term::Interface(_) => true,
-    }
-}
 
 /// A value of the type, or that and whether the assertion holds.
 fn asserted(s: &State, of: TypeId) -> Step
@@ -117,7 +97,7 @@ fn assert_type(
     requires facts { AreFactsOf s.now y }
     requires under { IsTypeOf s.now under }
     requires known { IsInterface (declarations_in s.now.table) (type_in s.now x.under) }
-    ensures comes { IfOk result (ComesTo u.now s.now (assert_type (operand_in s.now x) (facts_in s.now y) (type_in s.now under))) }
+    ensures comes { IfOk result (ComesTo u.now s.now (assert_type (operand_in s.now x) (known_of s.now y) (type_in s.now under))) }
     ensures over { IfOk result (IsStepOf s.now) }
 {
     if is_interface(s, under) {
@@ -140,7 +120,7 @@ fn assert_known(
     requires under { MayBeTypeOf s.now under }
     requires facts { AreFactsOf s.now y }
     requires known { IsInterface (declarations_in s.now.table) (type_in s.now x.under) }
-    ensures comes { IfOk result (ComesTo u.now s.now (assert_known (operand_in s.now x) (option_map (type_in s.now) under) (facts_in s.now y))) }
+    ensures comes { IfOk result (ComesTo u.now s.now (assert_known (operand_in s.now x) (option_map (type_in s.now) under) (known_of s.now y))) }
     ensures over { IfOk result (IsStepOf s.now) }
 {
     match under {

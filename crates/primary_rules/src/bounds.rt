@@ -9,10 +9,11 @@ ghost use Rattle.primary_rules.specs.Slicing.{bound_part, bound_parts, is_index_
 
 use crate::forms::Bounds;
 use crate::indexing::is_index;
-use crate::operand::{Operand, value_at};
+use crate::operand::Operand;
 use gv_base::Const;
 use rule_words::Seen;
 use rule_words::good::part_at;
+use rule_words::values::value_at;
 use typed_marks::{ConstId, State};
 
 /// The indexes of a slice expression, each as it was read; those that are left out are None.

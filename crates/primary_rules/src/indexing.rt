@@ -11,18 +11,18 @@ ghost use Rattle.unit_read.specs.Subjects.{unit_of};
 ghost use Rattle.rule_words.specs.Asking.{under_ask};
 ghost use Rattle.rule_words.specs.Scenes.{IsScene, type_in, IsTypeOf, MayBeTypeOf, part_in, IsSeenOf};
 ghost use Rattle.rule_words.specs.Steps.{step_in, IsStepOf};
-ghost use Rattle.op_rules.specs.Types.{is_of};
+ghost use Rattle.rule_words.specs.Types.{is_of};
 ghost use Rattle.type_answers.specs.Coming.{ComesTo};
 ghost use Rattle.primary_rules.specs.InCode.{operand_in, IsOperandOf, shape_in, IsShapeOf, elements_in};
 ghost use Rattle.primary_rules.specs.Indexing.{indexes_by, is_index, text_length, constant_length, is_below, lies_below, is_in_range, elements, index_operand, index_part, pointed_shape, index_pointed, index_shape, index_by, index_rule};
 
-use crate::operand::{
-    Operand, bad, counted, fits_in, is_integer, is_untyped, is_variable, operand_at, part_mode,
-    silent, standing, value_at,
-};
+use crate::operand::{Operand, is_variable, operand_at, part_mode, standing};
 use crate::shape::{Shape, shape_of};
 use gv_base::{Const, Kind};
+use rule_words::answered::{bad, silent};
 use rule_words::good::basic_type;
+use rule_words::types::{counted, is_integer, is_untyped};
+use rule_words::values::{fits_in, value_at};
 use rule_words::{Seen, Step};
 use type_answers::ask_under;
 use type_model::TypeId;

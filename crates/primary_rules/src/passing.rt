@@ -7,8 +7,9 @@ ghost use Rattle.type_model.specs.Tables.{types_in};
 ghost use Rattle.typed_tree.specs.Basics.{HasBasics};
 ghost use Rattle.unit_read.specs.Subjects.{unit_of};
 ghost use Rattle.rule_words.specs.Scenes.{IsScene, IfFound, type_in, IsTypeOf, MayBeTypeOf};
+ghost use Rattle.rule_words.specs.Good.{AreFactsOf, known_of};
 ghost use Rattle.type_answers.specs.Coming.{FoundBy};
-ghost use Rattle.primary_rules.specs.InCode.{facts_in, AreFactsOf, passing_in, IsPassingOf};
+ghost use Rattle.primary_rules.specs.InCode.{passing_in, IsPassingOf};
 ghost use Rattle.primary_rules.specs.Selecting.{embedded_type, passed_field, passed_by, pass_ask, passes_ask, is_pointer_type, path_ask, through, through_ask, addressable_ask};
 
 use crate::operand::is_variable;
@@ -212,7 +213,7 @@ fn ask_through(u: &Subject, s: &State, of: TypeId, path: &[u32]) -> Found<bool, 
 pub fn ask_addressable(u: &Subject, s: &State, x: Facts, path: &[u32]) -> Found<bool, Item>
     requires scene { IsScene u.now s.now }
     requires facts { AreFactsOf s.now x }
-    ensures { FoundBy u.now s.now (λ b. b) (addressable_ask (unit_of u.now) (facts_in s.now x) path.now) result }
+    ensures { FoundBy u.now s.now (λ b. b) (addressable_ask (unit_of u.now) (known_of s.now x) path.now) result }
 {
     if is_variable(x.mode) {
         return Found::Is(true);

@@ -5,12 +5,15 @@ ghost use Rattle.typed_marks.specs.States.{so_far};
 ghost use Rattle.unit_read.specs.Subjects.{unit_of};
 ghost use Rattle.rule_words.specs.Scenes.{IsScene, type_in, IsTypeOf, MayBeTypeOf, part_in, IsSeenOf};
 ghost use Rattle.rule_words.specs.Steps.{step_in, IsStepOf};
+ghost use Rattle.rule_words.specs.Good.{AreFactsOf, known_of};
 ghost use Rattle.type_answers.specs.Coming.{ComesTo};
-ghost use Rattle.primary_rules.specs.InCode.{facts_in, AreFactsOf, shape_in, IsShapeOf};
+ghost use Rattle.primary_rules.specs.InCode.{shape_in, IsShapeOf};
 ghost use Rattle.primary_rules.specs.Receiving.{received, receive_shape, receive_under, receive, arrow_of, receive_of, receive_rule};
 
-use crate::operand::{bad, is_type, silent, standing};
+use crate::operand::standing;
 use crate::shape::{Shape, shape_of};
+use rule_words::answered::{bad, silent};
+use rule_words::modes::is_type;
 use rule_words::{Seen, Step};
 use type_answers::ask_under;
 use type_model::{Dir, TypeId};
@@ -66,7 +69,7 @@ fn receive_under(u: &Subject, s: &State, under: Option<TypeId>) -> Step
 fn receive(u: &Subject, s: &State, x: Facts) -> Step
     requires scene { IsScene u.now s.now }
     requires facts { AreFactsOf s.now x }
-    ensures comes { ComesTo u.now s.now (receive (unit_of u.now) (facts_in s.now x)) result }
+    ensures comes { ComesTo u.now s.now (receive (unit_of u.now) (known_of s.now x)) result }
     ensures over { IsStepOf s.now result }
 {
     match ask_under(u, s, x.last) {
@@ -78,7 +81,7 @@ fn receive(u: &Subject, s: &State, x: Facts) -> Step
 /// The type to which an arrow goes: E10 where it has none to go to.
 fn arrow_of(s: &State, takes: bool, x: Facts) -> Step
     requires { AreFactsOf s.now x }
-    ensures is { step_in s.now result ≡ tell (so_far s.now) (arrow_of takes (facts_in s.now x)) }
+    ensures is { step_in s.now result ≡ tell (so_far s.now) (arrow_of takes (known_of s.now x)) }
     ensures over { IsStepOf s.now result }
 {
     if takes {
@@ -92,7 +95,7 @@ fn arrow_of(s: &State, takes: bool, x: Facts) -> Step
 fn receive_of(u: &Subject, s: &State, takes: bool, x: Facts) -> Step
     requires scene { IsScene u.now s.now }
     requires facts { AreFactsOf s.now x }
-    ensures comes { ComesTo u.now s.now (receive_of (unit_of u.now) takes (facts_in s.now x)) result }
+    ensures comes { ComesTo u.now s.now (receive_of (unit_of u.now) takes (known_of s.now x)) result }
     ensures over { IsStepOf s.now result }
 {
     if is_type(x.mode) {

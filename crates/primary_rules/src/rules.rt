@@ -4,15 +4,14 @@ ghost use Rattle.const_tree.specs.Operators.{unary_operator};
 ghost use Rattle.mark_walk.specs.Telling.{tell};
 ghost use Rattle.typed_marks.specs.States.{so_far};
 ghost use Rattle.unit_read.specs.Subjects.{unit_of};
-ghost use Rattle.unit_read.specs.Units.{is_blank};
 ghost use Rattle.rule_words.specs.Scenes.{IsScene, said, IsMarkOf, parts_in, AreSeenOf};
 ghost use Rattle.rule_words.specs.Steps.{IsStepOf};
 ghost use Rattle.rule_words.specs.Wanting.{wanted_of, IsWantedOf};
+ghost use Rattle.rule_words.specs.Good.{AreFactsOf, known_of};
 ghost use Rattle.op_rules.specs.Forms.{operator_in};
 ghost use Rattle.op_rules.specs.Rules.{op_rule};
 ghost use Rattle.op_rules.specs.Unary.{takes_address};
 ghost use Rattle.type_answers.specs.Coming.{ComesTo};
-ghost use Rattle.primary_rules.specs.InCode.{facts_in, AreFactsOf};
 ghost use Rattle.primary_rules.specs.Rules.{name_in, is_apart, owner_rule, owned_rule, selector_rule, operated_rule, unary_by, unary_rule, form_rule, primary_rule};
 ghost use Rattle.primary_rules.specs.Selecting.{select_rule};
 
@@ -22,7 +21,6 @@ use crate::asserting::judge_assert;
 use crate::bounds::bound_parts;
 use crate::forms::{Form, form_of};
 use crate::indexing::judge_index;
-use crate::operand::{is_package, silent};
 use crate::receiving::judge_receive;
 use crate::selecting::judge_select;
 use crate::slicing::judge_slice;
@@ -31,19 +29,15 @@ use const_tree::unary_operator;
 use go_tree::{Node, NodeRef};
 use gv_base::NoMemory;
 use op_rules::judge_op;
+use rule_words::answered::silent;
 use rule_words::good::part_at;
-use rule_words::{Seen, Step, Wanted};
+use rule_words::modes::is_package;
+use rule_words::{Seen, Step, Wanted, is_blank};
 use std::alloc::Global;
 use typed_marks::{Facts, Mark, State};
 use unit_read::Subject;
 
 // ---- selectors
-
-fn is_blank(name: &[u8]) -> bool
-    ensures { result ≡ is_blank name.now }
-{
-    name == b"_".as_slice()
-}
 
 fn judge_member(
     alloc: Global,
@@ -55,7 +49,7 @@ fn judge_member(
 ) -> Result<Step, NoMemory>
     requires scene { IsScene u.now s.now }
     requires facts { AreFactsOf s.now x }
-    ensures comes { IfOk result (ComesTo u.now s.now (select_rule (unit_of u.now) (name_in (unit_of u.now) at node.now) (facts_in s.now x))) }
+    ensures comes { IfOk result (ComesTo u.now s.now (select_rule (unit_of u.now) (name_in (unit_of u.now) at node.now) (known_of s.now x))) }
     ensures over { IfOk result (IsStepOf s.now) }
 {
     let name = u.spelled_text(at.file, node.last);
@@ -64,7 +58,7 @@ fn judge_member(
 }
 
 fn is_apart(u: &Subject, s: &State, at: NodeRef, node: &Node, x: Facts) -> bool
-    ensures { result ≡ is_apart (unit_of u.now) at node.now (facts_in s.now x) }
+    ensures { result ≡ is_apart (unit_of u.now) at node.now (known_of s.now x) }
 {
     let _ = s;
     is_blank(u.spelled(at.file, node.last)) || is_package(x.mode)
@@ -86,7 +80,7 @@ fn judge_owner(
     requires parts { AreSeenOf s.now parts.now }
     requires wanted { IsWantedOf s.now w }
     requires facts { AreFactsOf s.now x }
-    ensures comes { IfOk result (ComesTo u.now s.now (owner_rule (unit_of u.now) block at node.now (parts_in s.now parts.now) (wanted_of s.now w) (facts_in s.now x))) }
+    ensures comes { IfOk result (ComesTo u.now s.now (owner_rule (unit_of u.now) block at node.now (parts_in s.now parts.now) (wanted_of s.now w) (known_of s.now x))) }
     ensures over { IfOk result (IsStepOf s.now) }
 {
     if is_apart(u, s, at, node, x) {

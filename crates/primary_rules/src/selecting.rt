@@ -12,15 +12,17 @@ ghost use Rattle.unit_read.specs.Subjects.{unit_of};
 ghost use Rattle.rule_words.specs.Answers.{answer_in, IsAnswerOf};
 ghost use Rattle.rule_words.specs.Scenes.{IsScene, type_in, IsTypeOf};
 ghost use Rattle.rule_words.specs.Steps.{step_in, IsStepOf};
+ghost use Rattle.rule_words.specs.Good.{AreFactsOf, known_of};
 ghost use Rattle.type_answers.specs.Answering.{listed_methods, IsSelectedBelow, IsSelectionBelow, AreSelectedBelow};
 ghost use Rattle.type_answers.specs.Coming.{ComesTo};
-ghost use Rattle.primary_rules.specs.InCode.{facts_in, AreFactsOf};
 ghost use Rattle.primary_rules.specs.Selecting.{field_mark, select_field, selected_field, is_named, has_method, in_set, set_told, set_asked, by_address, function_mark, method_value, with_receiver, method_expression, selected_method, selected_part, selected, select_told, select_rule};
 
-use crate::operand::{bad, is_type, is_variable, part_mode, silent, standing};
+use crate::operand::{is_variable, part_mode, standing};
 use crate::passing::ask_addressable;
 use gv_base::{NoMemory, Row};
 use method_sets::{Selected, Selection};
+use rule_words::answered::{bad, silent};
+use rule_words::modes::is_type;
 use rule_words::{Answer, Step};
 use std::alloc::Global;
 use type_answers::{ask_methods, ask_selection, is_unknown};
@@ -55,7 +57,7 @@ fn select_field(u: &Subject, s: &State, x: Facts, path: &[u32], of: TypeId) -> S
     requires scene { IsScene u.now s.now }
     requires facts { AreFactsOf s.now x }
     requires of { IsTypeOf s.now of }
-    ensures comes { ComesTo u.now s.now (select_field (unit_of u.now) (facts_in s.now x) path.now (type_in s.now of)) result }
+    ensures comes { ComesTo u.now s.now (select_field (unit_of u.now) (known_of s.now x) path.now (type_in s.now of)) result }
     ensures over { IsStepOf s.now result }
 {
     match ask_addressable(u, s, x, path) {
@@ -68,7 +70,7 @@ fn selected_field(u: &Subject, s: &State, x: Facts, path: &[u32], of: TypeId) ->
     requires scene { IsScene u.now s.now }
     requires facts { AreFactsOf s.now x }
     requires of { IsTypeOf s.now of }
-    ensures comes { ComesTo u.now s.now (selected_field (unit_of u.now) (facts_in s.now x) path.now (type_in s.now of)) result }
+    ensures comes { ComesTo u.now s.now (selected_field (unit_of u.now) (known_of s.now x) path.now (type_in s.now of)) result }
     ensures over { IsStepOf s.now result }
 {
     // E20
@@ -164,7 +166,7 @@ fn set_asked(
 }
 
 fn by_address(s: &State, x: Facts, pointer: bool) -> bool
-    ensures { result ≡ by_address (facts_in s.now x) pointer }
+    ensures { result ≡ by_address (known_of s.now x) pointer }
 {
     let _ = s;
     pointer && !is_variable(x.mode)
@@ -196,7 +198,7 @@ fn method_value(
     requires scene { IsScene u.now s.now }
     requires facts { AreFactsOf s.now x }
     requires below { SignatureBelow (count s.now.table) of }
-    ensures comes { IfOk result (ComesTo u.now s.now (method_value (selector name.now from.now) (facts_in s.now x) (signature_of (types_in s.now.table) of) pointer)) }
+    ensures comes { IfOk result (ComesTo u.now s.now (method_value (selector name.now from.now) (known_of s.now x) (signature_of (types_in s.now.table) of) pointer)) }
     ensures over { IfOk result (IsStepOf s.now) }
 {
     let unknown = is_unknown(s, &of);
@@ -278,7 +280,7 @@ fn selected_method(
     requires scene { IsScene u.now s.now }
     requires facts { AreFactsOf s.now x }
     requires below { SignatureBelow (count s.now.table) of }
-    ensures comes { IfOk result (ComesTo u.now s.now (selected_method (selector name.now from.now) (facts_in s.now x) (signature_of (types_in s.now.table) of) pointer)) }
+    ensures comes { IfOk result (ComesTo u.now s.now (selected_method (selector name.now from.now) (known_of s.now x) (signature_of (types_in s.now.table) of) pointer)) }
     ensures over { IfOk result (IsStepOf s.now) }
 {
     if is_type(x.mode) {
@@ -304,7 +306,7 @@ fn selected_part(
     requires scene { IsScene u.now s.now }
     requires facts { AreFactsOf s.now x }
     requires below { IsSelectedBelow s.now.table kind }
-    ensures comes { IfOk result (ComesTo u.now s.now (selected_part (unit_of u.now) (selector name.now from.now) (facts_in s.now x) path.now (selected_in s.now.table kind))) }
+    ensures comes { IfOk result (ComesTo u.now s.now (selected_part (unit_of u.now) (selector name.now from.now) (known_of s.now x) path.now (selected_in s.now.table kind))) }
     ensures over { IfOk result (IsStepOf s.now) }
 {
     match kind {
@@ -328,7 +330,7 @@ fn selected(
     requires scene { IsScene u.now s.now }
     requires facts { AreFactsOf s.now x }
     requires below { IsSelectionBelow s.now.table selection }
-    ensures comes { IfOk result (ComesTo u.now s.now (selected (unit_of u.now) (selector name.now from.now) (facts_in s.now x) (chosen_in s.now.table selection))) }
+    ensures comes { IfOk result (ComesTo u.now s.now (selected (unit_of u.now) (selector name.now from.now) (known_of s.now x) (chosen_in s.now.table selection))) }
     ensures over { IfOk result (IsStepOf s.now) }
 {
     match selection {
@@ -355,7 +357,7 @@ fn select_told(
     requires scene { IsScene u.now s.now }
     requires facts { AreFactsOf s.now x }
     requires below { AreSelectedBelow s.now.table (Found.Is told) }
-    ensures comes { IfOk result (ComesTo u.now s.now (select_told (unit_of u.now) (selector name.now from.now) (facts_in s.now x) (seen_as (chosen_in s.now.table) told))) }
+    ensures comes { IfOk result (ComesTo u.now s.now (select_told (unit_of u.now) (selector name.now from.now) (known_of s.now x) (seen_as (chosen_in s.now.table) told))) }
     ensures over { IfOk result (IsStepOf s.now) }
 {
     match told {
@@ -379,7 +381,7 @@ pub fn judge_select(
 ) -> Result<Step, NoMemory>
     requires scene { IsScene u.now s.now }
     requires facts { AreFactsOf s.now x }
-    ensures comes { IfOk result (ComesTo u.now s.now (select_rule (unit_of u.now) (selector name.now from.now) (facts_in s.now x))) }
+    ensures comes { IfOk result (ComesTo u.now s.now (select_rule (unit_of u.now) (selector name.now from.now) (known_of s.now x))) }
     ensures over { IfOk result (IsStepOf s.now) }
 {
     let found = ask_selection(alloc, u, s, x.of, name, from)?;

@@ -15,8 +15,9 @@ ghost use Rattle.primary_rules.specs.Slicing.{good_bound, bound_at, bounded, wit
 
 use crate::bounds::{Chosen, Parts, are_in_order, are_indexes, are_within};
 use crate::indexing::constant_length;
-use crate::operand::{Operand, bad, is_variable, operand_at, silent, standing};
+use crate::operand::{Operand, is_variable, operand_at, standing};
 use crate::shape::{Shape, shape_of};
+use rule_words::answered::{bad, silent};
 use rule_words::{Answer, Seen, Step};
 use type_answers::ask_under;
 use type_model::{Term, TypeId};

@@ -3,9 +3,8 @@ ghost use Rattle.std.specs.Prelude.{◌≡◌};
 ghost use Rattle.mark_walk.specs.Telling.{tell};
 ghost use Rattle.const_tree.specs.Operators.{unary_operator};
 ghost use Rattle.typed_marks.specs.States.{so_far};
-ghost use Rattle.unit_read.specs.Subjects.{unit_of, IsRead};
+ghost use Rattle.unit_read.specs.Subjects.{unit_of};
 ghost use Rattle.rule_words.specs.Scenes.{IsScene, told_by, IfFound, said, IsMarkOf};
-ghost use Rattle.op_rules.specs.Wants.{file_of};
 ghost use Rattle.primary_rules.specs.Addresses.{passes};
 ghost use Rattle.primary_rules.specs.Wants.{is_channel_type, arrow_demand, operator_wants, unary_asked, unary_wants};
 
@@ -15,6 +14,7 @@ use const_eval::Operator;
 use go_tree::{Node, NodeKind};
 use op_rules::want_op;
 use package_objects::part_of;
+use rule_words::file_of;
 use type_questions::Found;
 use typed_marks::{Item, Mark, State};
 use typed_tree::Want as Demand;
@@ -50,18 +50,6 @@ fn arrow_demand(nodes: &[Node], part: Option<u32>) -> Demand
         Demand::Type
     } else {
         Demand::Operand
-    }
-}
-
-/// The file of a block.
-#[tactic(auto, unfolding(op_rules::specs::Wants::file_of))]
-fn file_of(u: &Subject, block: usize) -> u32
-    requires { IsRead u.now }
-    ensures { result ≡ file_of (unit_of u.now) block }
-{
-    match u.passage_at(block) {
-        Some(passage) => passage.file,
-        None => 0,
     }
 }
 

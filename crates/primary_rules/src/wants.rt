@@ -11,7 +11,6 @@ ghost use Rattle.primary_rules.specs.InCode.{shape_in, IsShapeOf};
 ghost use Rattle.primary_rules.specs.Wants.{int_wish, shape_wants, index_wanted, index_beside, before_part, key_wants, index_wants, slice_wants, assert_wants, wants_type, stands_for_type, star_demand, star_beside, star_own, star_asked, star_wanted, star_wants, paren_asked, paren_wanted, paren_wants, form_wants, primary_wants};
 
 use crate::forms::{Form, form_of};
-use crate::operand::is_type;
 use crate::shape::{Shape, shape_of};
 use crate::unary_wants::unary_wants;
 use go_tree::Node;
@@ -19,6 +18,7 @@ use gv_base::Kind;
 use op_rules::want_op;
 use package_objects::part_of;
 use rule_words::good::basic_type;
+use rule_words::modes::is_type;
 use rule_words::{look, mark_under, wanted_by};
 use type_model::TypeId;
 use type_questions::Found;

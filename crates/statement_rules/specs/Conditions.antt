@@ -11,9 +11,10 @@ use Rattle.unit_read.specs.Units.{Unit, nodes_at}
 use Rattle.rule_words.specs.Asking.{Rule, mark_ask, under_ask}
 use Rattle.rule_words.specs.Good.{given}
 use Rattle.rule_words.specs.Words.{need_type}
+use Rattle.rule_words.specs.Types.{is_of}
 use Rattle.typed_tree.specs.declared.rule.TheConstants.{CONDITION_IS_NOT_BOOLEAN}
 use Rattle.assign_rules.specs.Kinds.{condition_of}
-use Rattle.assign_rules.specs.Words.{holds, held_if, is_of}
+use Rattle.assign_rules.specs.Words.{holds, held_if}
 
 -- E76: "the value of a boolean expression"
 abbrev pub condition_under : GoType → Rule

@@ -15,13 +15,14 @@ use Rattle.unit_read.specs.declared.place.Place.{Place}
 use Rattle.unit_read.specs.Units.{Unit, nodes_at}
 use Rattle.rule_words.specs.Asking.{Rule, mark_ask}
 use Rattle.rule_words.specs.Good.{given, known_told}
+use Rattle.rule_words.specs.Wishes.{nothing_wanted, wants}
 use Rattle.variable_rules.specs.Forms.{bare}
 use Rattle.variable_rules.specs.Several.{results_of, given_to}
 use Rattle.typed_tree.specs.declared.rule.TheConstants.{WRONG_NUMBER_OF_RESULTS}
 use Rattle.assign_rules.specs.Around.{function_of}
 use Rattle.assign_rules.specs.Kinds.{is_call}
 use Rattle.assign_rules.specs.Sharing.{all_returned, shared_told}
-use Rattle.assign_rules.specs.Words.{held_if, placed_good, wants, nothing_wanted, loose_operand}
+use Rattle.assign_rules.specs.Words.{held_if, placed_good, loose_operand}
 
 -- ---- the function
 

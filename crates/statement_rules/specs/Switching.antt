@@ -1,8 +1,6 @@
 -- Expression switches (Go 1.17, "Expression switches", "Comparison operators").
-use Rattle.std.specs.Prelude.{ℕ, zero, suc, ◌==◌, ◌&&◌, ◌||◌, not, Bool, true, false, if◌then◌else◌, List, Option, Some, None, option_and_then, slice_get}
+use Rattle.std.specs.Prelude.{ℕ, zero, suc, ◌==◌, ◌||◌, not, Bool, false, if◌then◌else◌, List, Option, Some, None, option_and_then, slice_get}
 use Rattle.std.specs.Option.{option_map_or}
-use Rattle.gv_base.specs.declared.constant.Const.{Const}
-use Rattle.gv_base.specs.declared.constant.Kind.{Kind}
 use Rattle.gv_base.specs.declared.constant.Kind.TheVariants as kind
 use Rattle.go_tree.specs.declared.tree.Node.{Node}
 use Rattle.go_tree.specs.declared.tree.NodeRef.{NodeRef}
@@ -10,7 +8,7 @@ use Rattle.object_order.specs.Spots.{place}
 use Rattle.package_objects.specs.Declares.{part, kind_at}
 use Rattle.mark_walk.specs.Asks.{done, bind}
 use Rattle.type_model.specs.GoTypes.{GoType, BasicType}
-use Rattle.type_rel.specs.Kinds.{is_untyped, is_integer}
+use Rattle.type_rel.specs.Kinds.{is_untyped}
 use Rattle.typed_tree.specs.declared.place.Want.TheVariants as demand
 use Rattle.typed_tree.specs.declared.rule.TheConstants.{MISMATCHED_OPERANDS, NOT_COMPARABLE, SECOND_DEFAULT}
 use Rattle.typed_marks.specs.declared.item.Stage.TheVariants as s
@@ -22,10 +20,13 @@ use Rattle.unit_read.specs.Units.{Unit, nodes_at, place_at}
 use Rattle.rule_words.specs.Asking.{Asks, Rule, mark_ask, under_ask}
 use Rattle.rule_words.specs.Good.{known_told}
 use Rattle.rule_words.specs.Words.{need_type}
+use Rattle.rule_words.specs.Types.{is_interface, is_of, takes_default}
+use Rattle.rule_words.specs.Values.{assigned_type}
+use Rattle.rule_words.specs.Wishes.{wants}
 use Rattle.assign_rules.specs.Around.{around_of}
 use Rattle.assign_rules.specs.Kinds.{tag_of, is_default}
 use Rattle.assign_rules.specs.Single.{value_fault, unless, fitting}
-use Rattle.assign_rules.specs.Words.{held_if, placed_good, is_of, is_interface, takes_default, wants, loose_operand}
+use Rattle.assign_rules.specs.Words.{held_if, placed_good, loose_operand}
 
 -- ---- E85: "there can be at most one default case"
 
@@ -86,20 +87,6 @@ case_wants u block file clause n = bind (tag_ask u block file clause) (case_told
 
 -- ---- E33, E35: "x == t must be valid"
 
-abbrev pub has_value : Option Const → Bool
-has_value None = false
-has_value (Some c) = true
-
-abbrev pub is_free_integer : Kind → Bool
-is_free_integer kind = is_untyped kind && is_integer kind
-
--- a shift that isn't constant has the type that its operand took
-abbrev pub is_shifted : Known → Bool
-is_shifted x = is_of is_free_integer x.of && not (has_value x.value)
-
-abbrev pub compared_type : Known → GoType
-compared_type x = if is_shifted x then x.last else x.of
-
 -- E35: both are comparable
 abbrev pub second_if : Known → Bool → Rule
 second_if x b = if b then done (Right x) else done (Wrong NOT_COMPARABLE)
@@ -117,7 +104,7 @@ abbrev pub first_told : Known → GoType → Reached Bool → Rule
 first_told x tag told = need_told told (first_if x tag)
 
 unfoldable pub both_compared : Known → GoType → Rule
-both_compared x tag = bind (comparable_ask (compared_type x)) (first_told x tag)
+both_compared x tag = bind (comparable_ask (assigned_type x)) (first_told x tag)
 
 -- nil and untyped constants are compared with what they are assignable to
 abbrev pub compared : Known → GoType → Rule
@@ -146,7 +133,7 @@ abbrev pub one_told : Unit → Known → GoType → Reached Bool → Rule
 one_told u x tag told = need_told told (one_if u x tag)
 
 abbrev pub against_under : Unit → Known → GoType → GoType → Rule
-against_under u x tag under = bind (compared_ask (is_interface under) (compared_type x) x.value tag) (one_told u x tag)
+against_under u x tag under = bind (compared_ask (is_interface under) (assigned_type x) x.value tag) (one_told u x tag)
 
 abbrev pub against_told : Unit → Known → GoType → Option GoType → Rule
 against_told u x tag under = need_type under (against_under u x tag)

@@ -21,9 +21,12 @@ use Rattle.unit_read.specs.Units.{Unit, nodes_at, name_at, is_blank}
 use Rattle.rule_words.specs.Asking.{Rule, mark_ask, under_ask}
 use Rattle.rule_words.specs.Good.{known_told, given}
 use Rattle.rule_words.specs.Words.{need_type}
+use Rattle.rule_words.specs.Types.{is_interface}
+use Rattle.rule_words.specs.Wishes.{nothing_wanted, wants}
+use Rattle.typed_tree.specs.Places.{is_nil_mode, is_type}
 use Rattle.assign_rules.specs.Around.{around_of}
 use Rattle.assign_rules.specs.Kinds.{guard_of, part_kind, is_bind, is_type_list}
-use Rattle.assign_rules.specs.Words.{held_if, placed_good, variable, is_interface, is_nil_mode, is_type_mode, wants, nothing_wanted}
+use Rattle.assign_rules.specs.Words.{held_if, placed_good, variable}
 
 -- ---- the statement
 
@@ -122,7 +125,7 @@ abbrev pub value_or : Known → Rule
 value_or x = if is_nil_mode x.mode then done (Right x) else done (Wrong NOT_A_TYPE)
 
 abbrev pub type_known : Unit → ℕ → ℕ → ℕ → Known → Rule
-type_known u block file clause x = if is_type_mode x.mode then type_beside u block file clause x else value_or x
+type_known u block file clause x = if is_type x.mode then type_beside u block file clause x else value_or x
 
 abbrev pub type_in_clause : Unit → ℕ → ℕ → Meaning → ℕ → Rule
 type_in_clause u block file m clause = placed_good (type_known u block file clause) m

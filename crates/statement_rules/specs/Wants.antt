@@ -8,7 +8,8 @@ use Rattle.package_objects.specs.Declares.{items, part}
 use Rattle.unit_read.specs.declared.place.Place.{Place}
 use Rattle.unit_read.specs.Units.{Unit, nodes_at}
 use Rattle.rule_words.specs.Asking.{Rule}
-use Rattle.assign_rules.specs.Around.{file_of}
+use Rattle.rule_words.specs.Files.{file_of}
+use Rattle.rule_words.specs.Wishes.{free_operand, nothing_wanted}
 use Rattle.assign_rules.specs.Assigning.{assign_wants}
 use Rattle.assign_rules.specs.Kinds.{condition_of, tag_slot}
 use Rattle.assign_rules.specs.Ranging.{range_wants}
@@ -16,7 +17,6 @@ use Rattle.statement_rules.specs.Returning.{return_wants}
 use Rattle.assign_rules.specs.Sending.{send_wants}
 use Rattle.statement_rules.specs.Switching.{case_wants}
 use Rattle.statement_rules.specs.TypeSwitching.{type_wants}
-use Rattle.assign_rules.specs.Words.{nothing_wanted, free_operand}
 
 abbrev pub if_it : Bool → Rule
 if_it b = if b then free_operand else nothing_wanted

@@ -7,11 +7,12 @@ ghost use Rattle.rule_words.specs.Scenes.{IsScene, type_in, IsTypeOf, MayBeTypeO
 ghost use Rattle.rule_words.specs.Steps.{IsStepOf};
 ghost use Rattle.statement_rules.specs.Switching.{other_if, other_told, other_under, other_way, untyped_or, one_if, one_told, against_under, against_told, against};
 
-use crate::comparing::{compared, compared_type};
-use assign_rules::words::{is_interface, is_untyped, takes_default};
+use crate::comparing::compared;
 use gv_base::NoMemory;
 use rule_words::Step;
 use rule_words::good::{broken, silent};
+use rule_words::types::{is_interface, is_untyped, takes_default};
+use rule_words::values::assigned_type;
 use std::alloc::Global;
 use type_answers::{ask_compared, ask_under};
 use type_model::TypeId;
@@ -189,7 +190,7 @@ fn against_under(
     ensures comes { IfOk result (ComesTo u.now s.now (against_under (unit_of u.now) (known_of s.now x) (type_in s.now tag) (type_in s.now under))) }
     ensures over { IfOk result (IsStepOf s.now) }
 {
-    let of = compared_type(s, x);
+    let of = assigned_type(s, x);
     let methods = is_interface(s, under);
     let found = ask_compared(alloc, u, s, methods, of, x.value, tag)?;
     match found {

@@ -12,9 +12,10 @@ ghost use Rattle.rule_words.specs.Steps.{step_in, IsStepOf};
 ghost use Rattle.statement_rules.specs.TypeSwitching.{implemented, implements_told, implements_rule, type_under, type_told, type_against, guard_under, guard_told, guard_known, guard_placed, guard_part, type_beside, value_or, type_known, type_in_clause, case_type_rule};
 
 use crate::type_switching::{clause_around, guard_around};
-use assign_rules::words::{is_interface, is_nil_mode, is_type_mode};
 use gv_base::NoMemory;
 use rule_words::good::{broken, good, known, silent};
+use rule_words::modes::{is_nil_mode, is_type};
+use rule_words::types::is_interface;
 use rule_words::{Answer, Step};
 use std::alloc::Global;
 use type_answers::{ask_implements, ask_mark, ask_under};
@@ -295,7 +296,7 @@ fn type_known(
     ensures comes { IfOk result (ComesTo u.now s.now (type_known (unit_of u.now) block file clause (known_of s.now x))) }
     ensures over { IfOk result (IsStepOf s.now) }
 {
-    if is_type_mode(x.mode) {
+    if is_type(x.mode) {
         let step = type_beside(alloc, u, s, block, file, clause, x)?;
         return Ok(step);
     }

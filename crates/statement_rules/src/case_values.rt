@@ -11,9 +11,9 @@ ghost use Rattle.statement_rules.specs.Switching.{against, fitted, case_fitted, 
 use crate::agreeing::against;
 use crate::switching::tag_type;
 use assign_rules::single::{ask_fits, value_fault};
-use assign_rules::words::takes_default;
 use gv_base::NoMemory;
 use rule_words::good::{broken, good, silent};
+use rule_words::types::takes_default;
 use rule_words::{Answer, Step};
 use std::alloc::Global;
 use type_answers::ask_under;

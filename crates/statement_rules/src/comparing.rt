@@ -1,84 +1,26 @@
 //! Values of clauses, compared with the tag (Go 1.17, "Expression switches", "Comparison operators").
 ghost use Rattle.std.specs.Prelude.{◌≡◌, IfOk};
-ghost use Rattle.std.specs.Option.{option_copied};
 ghost use Rattle.mark_walk.specs.Telling.{tell};
-ghost use Rattle.type_rel.specs.Kinds.{is_untyped, is_integer};
-ghost use Rattle.typed_tree.specs.Basics.{HasBasics};
-ghost use Rattle.typed_marks.specs.Meanings.{constant_at};
 ghost use Rattle.typed_marks.specs.States.{so_far};
 ghost use Rattle.type_answers.specs.Coming.{ComesTo};
 ghost use Rattle.unit_read.specs.Subjects.{unit_of};
 ghost use Rattle.rule_words.specs.Good.{known_of, AreFactsOf};
 ghost use Rattle.rule_words.specs.Scenes.{IsScene, type_in, IsTypeOf};
 ghost use Rattle.rule_words.specs.Steps.{step_in, IsStepOf};
-ghost use Rattle.statement_rules.specs.Switching.{is_free_integer, is_shifted, compared_type, second_if, second_told, second_compared, first_if, first_told, both_compared, compared, has_value};
-ghost use Rattle.assign_rules.specs.Words.{is_of};
+ghost use Rattle.statement_rules.specs.Switching.{second_if, second_told, second_compared, first_if, first_told, both_compared, compared};
 
-use assign_rules::words::{is_untyped, kind_of};
-use gv_base::{Const, Kind, NoMemory};
+use gv_base::NoMemory;
 use rule_words::Step;
 use rule_words::good::{broken, good, silent};
+use rule_words::types::is_untyped;
+use rule_words::values::assigned_type;
 use std::alloc::Global;
 use type_answers::ask_comparable;
 use type_model::TypeId;
 use type_questions::{Found, Reached};
-use type_rel::{has_integers, is_free};
-use typed_marks::{ConstId, Facts, State};
+use typed_marks::{Facts, State};
 use typed_tree::NOT_COMPARABLE;
 use unit_read::Subject;
-
-fn value_at(s: &State, value: Option<ConstId>) -> Option<&Const>
-    ensures { option_copied result ≡ constant_at s.now.constants.items value }
-{
-    match value {
-        Some(id) => s.constants.get(id.0 as usize),
-        None => None,
-    }
-}
-
-fn has_value(s: &State, x: Facts) -> bool
-    ensures { result ≡ has_value (known_of s.now x).value }
-{
-    match value_at(s, x.value) {
-        Some(_) => true,
-        None => false,
-    }
-}
-
-fn is_free_integer(kind: Kind) -> bool
-    ensures { result ≡ is_free_integer kind }
-{
-    is_free(kind) && has_integers(kind)
-}
-
-#[tactic(auto, unfolding(assign_rules::specs::Words::is_of))]
-fn is_free_type(s: &State, t: TypeId) -> bool
-    requires basics { HasBasics s.now.table }
-    requires within { IsTypeOf s.now t }
-    ensures { result ≡ is_of is_free_integer (type_in s.now t) }
-{
-    match kind_of(s, t) {
-        Some(kind) => is_free_integer(kind),
-        None => false,
-    }
-}
-
-fn is_shifted(s: &State, x: Facts) -> bool
-    requires basics { HasBasics s.now.table }
-    requires facts { AreFactsOf s.now x }
-    ensures { result ≡ is_shifted (known_of s.now x) }
-{
-    is_free_type(s, x.of) && !has_value(s, x)
-}
-
-pub fn compared_type(s: &State, x: Facts) -> TypeId
-    requires basics { HasBasics s.now.table }
-    requires facts { AreFactsOf s.now x }
-    ensures is { type_in s.now result ≡ compared_type (known_of s.now x) }
-    ensures within { IsTypeOf s.now result }
-{
-    if is_shifted(s, x) { x.last } else { x.of }
-}
 
 // ---- E35
 
@@ -183,7 +125,7 @@ fn both_compared(
     ensures comes { IfOk result (ComesTo u.now s.now (both_compared (known_of s.now x) (type_in s.now tag))) }
     ensures over { IfOk result (IsStepOf s.now) }
 {
-    let of = compared_type(s, x);
+    let of = assigned_type(s, x);
     let found = ask_comparable(alloc, u, s, of)?;
     match found {
         Found::Is(told) => {

@@ -13,11 +13,12 @@ ghost use Rattle.statement_rules.specs.Returning.{result_wants, even_wants, resu
 use crate::returning::{count_of, returned_call};
 use assign_rules::around::function_of;
 use assign_rules::sharing::many_of;
-use assign_rules::words::{loose_operand, nothing_wanted, operand};
+use assign_rules::words::loose_operand;
 use go_tree::Node;
 use package_objects::{item, part_of};
 use rule_words::good::known;
 use rule_words::look;
+use rule_words::wishes::{nothing_wanted, operand};
 use type_model::TypeId;
 use type_questions::Found;
 use typed_marks::{Facts, Item, Mark, Stage, State, Want};

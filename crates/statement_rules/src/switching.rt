@@ -11,11 +11,13 @@ ghost use Rattle.statement_rules.specs.Switching.{is_default_at, any_before, def
 
 use assign_rules::around::around_of;
 use assign_rules::kinds::{is_default, tag_of};
-use assign_rules::words::{held_if, loose_operand, operand, takes_default};
+use assign_rules::words::{held_if, loose_operand};
 use go_tree::{Node, NodeRef};
 use gv_base::Kind;
 use package_objects::{kind_of, node_of, part_of};
 use rule_words::good::{basic_type, known, silent};
+use rule_words::types::takes_default;
+use rule_words::wishes::operand;
 use rule_words::{Step, look, under_of};
 use type_model::TypeId;
 use type_questions::Found;

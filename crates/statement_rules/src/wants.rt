@@ -9,14 +9,14 @@ ghost use Rattle.statement_rules.specs.Wants.{if_it, is_part, is_condition_at, c
 use crate::return_wants::want_return;
 use crate::switching::want_case;
 use crate::type_switching::want_type;
-use assign_rules::around::file_of;
 use assign_rules::assign_wants::want_assign;
 use assign_rules::kinds::{condition_of, tag_slot};
 use assign_rules::range_rules::want_range;
 use assign_rules::sending::want_send;
-use assign_rules::words::{nothing_wanted, operand};
 use go_tree::{Node, NodeKind};
 use package_objects::{item, part_of};
+use rule_words::file_of;
+use rule_words::wishes::{nothing_wanted, operand};
 use type_questions::Found;
 use typed_marks::{Item, Mark, State, Want};
 use unit_read::{Place, Subject};

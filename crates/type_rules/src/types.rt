@@ -3,7 +3,6 @@ ghost use Rattle.std.specs.Prelude.{◌≡◌};
 ghost use Rattle.mark_walk.specs.Telling.{tell};
 ghost use Rattle.typed_marks.specs.Meanings.{constant_at};
 ghost use Rattle.typed_marks.specs.States.{so_far};
-ghost use Rattle.typed_tree.specs.Places.{is_type};
 ghost use Rattle.rule_words.specs.Scenes.{part_in, IsSeenOf};
 ghost use Rattle.rule_words.specs.Steps.{step_in, IsStepOf};
 ghost use Rattle.rule_words.specs.Good.{known_of, AreFactsOf};
@@ -15,15 +14,6 @@ use rule_words::{Seen, Step};
 use type_model::{Dir, Term};
 use typed_marks::{ConstId, Facts, State};
 use typed_tree::{BAD_ARRAY_LENGTH, Mode};
-
-pub fn is_type(mode: Mode) -> bool
-    ensures { result ≡ is_type mode }
-{
-    match mode {
-        Mode::TypeName => true,
-        _ => false,
-    }
-}
 
 pub fn pointing(s: &State, p: Seen) -> Step
     requires { IsSeenOf s.now p }

@@ -9,6 +9,7 @@ use Rattle.go_tree.specs.declared.tree.NodeKind.TheVariants as k
 use Rattle.package_objects.specs.Declares.{items, part}
 use Rattle.unit_read.specs.Units.{Unit, first_spelled}
 use Rattle.rule_words.specs.declared.read.How.{How}
+use Rattle.rule_words.specs.Nodes.{deepest, is_paren}
 
 -- in which slot the values stand: behind the names, or behind the names and the type
 abbrev pub value_slot : NodeKind → Option ℕ
@@ -39,10 +40,6 @@ is_one_for_many nodes slot node = value_count nodes slot node == 1 && nat_le 2 (
 
 -- ---- what may give several values
 
-abbrev pub is_paren : NodeKind → Bool
-is_paren k.Paren = true
-is_paren _ = false
-
 abbrev pub first_part : Node → ℕ → ℕ
 first_part node n = option_map_or (λ (p : ℕ). p) (part node 0) n
 
@@ -56,10 +53,6 @@ inside_at nodes n = option_map_or (λ (node : Node). inside node n) (slice_get n
 abbrev pub peeled : List Node → ℕ → ℕ → ℕ
 peeled nodes zero n = n
 peeled nodes (suc i) n = inside_at nodes (peeled nodes i n)
-
--- nodes nest no deeper than 250
-unfoldable pub deepest : ℕ
-deepest = 256
 
 abbrev pub bare : List Node → ℕ → ℕ
 bare nodes n = peeled nodes deepest n

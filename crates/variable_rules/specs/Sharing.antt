@@ -20,9 +20,10 @@ use Rattle.unit_read.specs.declared.place.Place.{Place}
 use Rattle.unit_read.specs.Units.{Unit, nodes_at}
 use Rattle.rule_words.specs.Asking.{Asks, Rule, mark_ask, under_ask}
 use Rattle.rule_words.specs.Good.{known_told}
+use Rattle.rule_words.specs.Files.{file_of}
 use Rattle.variable_rules.specs.Forms.{name_count, value_slot, shared_value}
 use Rattle.variable_rules.specs.Several.{results_of}
-use Rattle.variable_rules.specs.Wants.{file_of, type_of}
+use Rattle.variable_rules.specs.Wants.{type_of}
 
 -- ---- where
 

@@ -11,15 +11,12 @@ use Rattle.typed_tree.specs.declared.place.Want.{Want as Demand}
 use Rattle.typed_tree.specs.declared.place.Want.TheVariants as demand
 use Rattle.typed_marks.specs.declared.item.Stage.TheVariants as s
 use Rattle.typed_marks.specs.Meanings.{Known, Wish, Free, Assigned, Meaning, Wishes}
-use Rattle.unit_read.specs.declared.passage.Passage.{Passage}
 use Rattle.unit_read.specs.declared.place.Place.{Place}
-use Rattle.unit_read.specs.Units.{Unit, passage_at, nodes_at}
+use Rattle.unit_read.specs.Units.{Unit, nodes_at}
 use Rattle.rule_words.specs.Asking.{Rule, mark_ask}
 use Rattle.rule_words.specs.Good.{known_told}
+use Rattle.rule_words.specs.Files.{file_of}
 use Rattle.variable_rules.specs.Forms.{value_slot, type_slot, shared_value}
-
-abbrev pub file_of : Unit → ℕ → ℕ
-file_of u block = option_map_or (λ (p : Passage). p.file) (passage_at u block) 0
 
 -- One value that may stand for several names is looked at by the specification; another is a single one.
 abbrev pub value_demand : Option ℕ → Demand

@@ -2,11 +2,11 @@
 ghost use Rattle.std.specs.Prelude.{◌≡◌, ◌&&◌, length, slice_get, option_and_then};
 ghost use Rattle.unit_read.specs.Subjects.{unit_of};
 ghost use Rattle.package_objects.specs.Declares.{items, part};
-ghost use Rattle.variable_rules.specs.Forms.{value_slot, type_slot, variable_reads, name_count, value_count, is_one_for_many, is_paren, first_part, inside, inside_at, peeled, deepest, bare, may_give_several, is_receive, gives_several, gives_several_at, if_several, shared_value};
+ghost use Rattle.variable_rules.specs.Forms.{value_slot, type_slot, variable_reads, name_count, value_count, is_one_for_many, first_part, inside, inside_at, peeled, bare, may_give_several, is_receive, gives_several, gives_several_at, if_several, shared_value};
 
 use go_tree::{Node, NodeKind};
 use package_objects::{count, item, node_of, part_of};
-use rule_words::How;
+use rule_words::{How, deepest, is_paren};
 use unit_read::Subject;
 
 /// In which slot the values stand.
@@ -61,15 +61,6 @@ fn is_one_for_many(nodes: &[Node], slot: usize, node: &Node) -> bool
 
 // ---- what may give several values
 
-pub fn is_paren(kind: NodeKind) -> bool
-    ensures { result ≡ is_paren kind }
-{
-    match kind {
-        NodeKind::Paren => true,
-        _ => false,
-    }
-}
-
 fn first_part(node: &Node, n: u32) -> u32
     ensures { result ≡ first_part node.now n }
 {
@@ -96,13 +87,6 @@ fn inside_at(nodes: &[Node], n: u32) -> u32
         Some(node) => inside(node, n),
         None => n,
     }
-}
-
-#[tactic(auto, unfolding(crate::specs::Forms::deepest))]
-fn deepest() -> usize
-    ensures { result ≡ deepest }
-{
-    256
 }
 
 /// What stands in parentheses.

@@ -10,9 +10,7 @@ mod several;
 mod sharing;
 mod wants;
 
-pub use forms::{
-    bare, is_paren, is_receive, name_count, shared_value, value_count, variable_reads,
-};
+pub use forms::{bare, is_receive, name_count, shared_value, value_count, variable_reads};
 pub use objects::{by_value as object_by_value, judge_variable_object, valued as valued_object};
 pub use rules::judge_variables;
 pub use several::{given_to, results_of};

@@ -15,11 +15,12 @@ ghost use Rattle.variable_rules.specs.Sharing.{is_shared_in, is_shared, with_sec
 use crate::assigning::{all_assigned, by_methods};
 use crate::forms::{name_count, shared_value, value_slot};
 use crate::several::results_of;
-use crate::wants::{file_of, is_type, type_of};
+use crate::wants::type_of;
 use go_tree::Node;
 use gv_base::{Kind, NoMemory};
-use rule_words::Step;
 use rule_words::good::{basic_type, beyond, broken, good, known, silent};
+use rule_words::modes::is_type;
+use rule_words::{Step, file_of};
 use std::alloc::Global;
 use type_answers::{ask_mark, ask_under};
 use type_model::TypeId;

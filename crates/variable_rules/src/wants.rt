@@ -2,34 +2,23 @@
 ghost use Rattle.std.specs.Prelude.{◌≡◌};
 ghost use Rattle.mark_walk.specs.Telling.{tell};
 ghost use Rattle.type_model.specs.Tables.{types_in, count};
-ghost use Rattle.typed_tree.specs.Places.{is_type};
 ghost use Rattle.typed_marks.specs.Meanings.{wish_in, IsWantWithin};
 ghost use Rattle.typed_marks.specs.States.{so_far};
 ghost use Rattle.unit_read.specs.Subjects.{unit_of, IsRead};
 ghost use Rattle.rule_words.specs.Good.{known_of, AreFactsOf};
 ghost use Rattle.rule_words.specs.Scenes.{IsScene, told_by, IfFound, said, IsMarkOf};
-ghost use Rattle.variable_rules.specs.Wants.{file_of, value_demand, demand_in, type_wish, wish_told, typed_told, typed_want, type_of, value_want, slot_want, is_at, other_demand, want_by, variable_wants};
+ghost use Rattle.variable_rules.specs.Wants.{value_demand, demand_in, type_wish, wish_told, typed_told, typed_want, type_of, value_want, slot_want, is_at, other_demand, want_by, variable_wants};
 
 use crate::forms::{shared_value, type_slot, value_slot};
 use go_tree::{Node, NodeKind};
 use package_objects::part_of;
 use rule_words::good::known;
-use rule_words::look;
+use rule_words::modes::is_type;
+use rule_words::{file_of, look};
 use type_questions::Found;
 use typed_marks::{Facts, Item, Mark, Stage, State, Want};
-use typed_tree::{Mode, Want as Demand};
+use typed_tree::Want as Demand;
 use unit_read::{Place, Subject};
-
-/// The file of a block.
-pub fn file_of(u: &Subject, block: usize) -> u32
-    requires { IsRead u.now }
-    ensures { result ≡ file_of (unit_of u.now) block }
-{
-    match u.passage_at(block) {
-        Some(passage) => passage.file,
-        None => 0,
-    }
-}
 
 fn value_demand(shared: Option<u32>) -> Demand
     ensures { result ≡ value_demand shared }
@@ -47,15 +36,6 @@ fn demand_in(u: &Subject, block: usize, slot: usize, around: &Node) -> Demand
     let file = file_of(u, block);
     let shared = shared_value(u, file, u.nodes_at(file), slot, around);
     value_demand(shared)
-}
-
-pub fn is_type(mode: Mode) -> bool
-    ensures { result ≡ is_type mode }
-{
-    match mode {
-        Mode::TypeName => true,
-        _ => false,
-    }
 }
 
 fn type_wish(s: &State, x: Facts) -> Want

@@ -1,11 +1,10 @@
 //! `stringintconv`: integers that are converted to strings of one rune.
 ghost use Rattle.std.specs.Prelude.{◌≡◌, ◌<◌, ◌&&◌, ◌++◌, ◌∷◌, [], Some, None, true, false, option_map, option_and_then, if◌then◌else◌, codes, IfSome, IfOk, OnOk};
-ghost use Rattle.std.specs.Option.{option_map_or, option_copied};
+ghost use Rattle.std.specs.Option.{option_map_or};
 ghost use Rattle.gv_base.specs.Kinds.{is_integer};
 ghost use Rattle.package_objects.specs.Declares.{part};
 ghost use Rattle.type_model.specs.GoTypes.{type_at};
 ghost use Rattle.type_model.specs.Tables.{IsTable, types_in, count};
-ghost use Rattle.typed_marks.specs.Meanings.{constant_at};
 ghost use Rattle.unit_read.specs.Subjects.{flag};
 ghost use Rattle.rule_words.specs.Good.{known_of, AreFactsOf};
 ghost use Rattle.rule_words.specs.Scenes.{type_in, IsTypeOf};
@@ -20,9 +19,10 @@ use fix_apply::{Edit, Fix};
 use go_tree::{Node, NodeRef};
 use gv_base::{Bytes, Const, Kind, NoMemory, Row, fits};
 use package_objects::{node_of, part_of};
+use rule_words::values::value_at;
 use std::alloc::Global;
 use type_model::{Term, TypeId, TypeTable};
-use typed_marks::{ConstId, Facts, State};
+use typed_marks::{Facts, State};
 use unit_read::flag;
 use vet_words::{diagnose, end_of, is_conversion, known_at, spelling, start_of};
 
@@ -173,15 +173,6 @@ fn fits_rune(c: &Const) -> bool
     ensures { result ≡ fits_rune c.now }
 {
     fits(c, Kind::Int32)
-}
-
-fn value_at(s: &State, value: Option<ConstId>) -> Option<&Const>
-    ensures { option_copied result ≡ constant_at s.now.constants.items value }
-{
-    match value {
-        Some(id) => s.constants.get(id.0 as usize),
-        None => None,
-    }
 }
 
 fn value_fits(s: &State, x: Facts) -> bool

@@ -5,7 +5,7 @@ use Rattle.rule_words.specs.Asking.{under_ask}
 use Rattle.rule_words.specs.Scenes.{type_in}
 use Rattle.rule_words.specs.Steps.{step_in}
 use Rattle.assign_rules.specs.Assigning.{counts_told}
-use Rattle.assign_rules.proofs.BindLaws.{says_bind}
+use Rattle.rule_words.proofs.BindLaws.{says_bind}
 use Rattle.assign_rules.proofs.assigning.counts_known.Goals as goal
 
 pub returns-in-Is-clause-is : goal.returns-in-Is-clause-is

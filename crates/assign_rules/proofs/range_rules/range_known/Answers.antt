@@ -4,7 +4,7 @@ use Rattle.rule_words.specs.Steps.{step_in}
 use Rattle.rule_words.specs.Good.{known_of}
 use Rattle.assign_rules.specs.InCode.{ranging_in}
 use Rattle.assign_rules.specs.Ranging.{ranging_ask, range_held}
-use Rattle.assign_rules.proofs.BindLaws.{says_bind, waits_bind}
+use Rattle.rule_words.proofs.BindLaws.{says_bind, waits_bind}
 use Rattle.assign_rules.proofs.range_rules.range_known.Goals as goal
 
 pub returns-in-Is-clause-is : goal.returns-in-Is-clause-is

@@ -6,7 +6,7 @@ use Rattle.rule_words.specs.Scenes.{type_in}
 use Rattle.mark_walk.specs.Telling.{Says}
 use Rattle.assign_rules.specs.InCode.{ranging_in}
 use Rattle.assign_rules.specs.Ranging.{pointed_told}
-use Rattle.assign_rules.proofs.BindLaws.{says_bind}
+use Rattle.rule_words.proofs.BindLaws.{says_bind}
 use Rattle.assign_rules.proofs.ranging.pointed.Goals as goal
 
 pub returns-in-Is-clause-is : goal.returns-in-Is-clause-is

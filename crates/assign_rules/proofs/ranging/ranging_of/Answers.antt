@@ -5,7 +5,7 @@ use Rattle.rule_words.specs.Asking.{under_ask}
 use Rattle.rule_words.specs.Scenes.{told_by, type_in}
 use Rattle.assign_rules.specs.InCode.{ranging_in}
 use Rattle.assign_rules.specs.Ranging.{ranging_told, ranging_ask}
-use Rattle.assign_rules.proofs.BindLaws.{says_bind}
+use Rattle.rule_words.proofs.BindLaws.{says_bind}
 use Rattle.assign_rules.proofs.ranging.ranging_of.Goals as goal
 
 pub returns-in-Is-clause-is : goal.returns-in-Is-clause-is

@@ -4,7 +4,7 @@ use Rattle.unit_read.specs.Subjects.{unit_of}
 use Rattle.rule_words.specs.Asking.{mark_ask}
 use Rattle.rule_words.specs.Scenes.{told_by, said}
 use Rattle.assign_rules.specs.Sending.{sent_by}
-use Rattle.assign_rules.proofs.BindLaws.{says_bind}
+use Rattle.rule_words.proofs.BindLaws.{says_bind}
 use Rattle.assign_rules.proofs.sending.sent_wants.Goals as goal
 
 pub returns-in-Is-clause-is : goal.returns-in-Is-clause-is

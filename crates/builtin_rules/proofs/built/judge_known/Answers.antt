@@ -7,7 +7,7 @@ use Rattle.rule_words.specs.Scenes.{type_in, parts_in}
 use Rattle.rule_words.specs.Steps.{step_in}
 use Rattle.builtin_rules.specs.Builtin.{first_under, shaped_rule, known_rule}
 use Rattle.builtin_rules.specs.Musts.{shape_ask}
-use Rattle.builtin_rules.proofs.BindLaws.{says_bind}
+use Rattle.rule_words.proofs.BindLaws.{says_bind}
 use Rattle.builtin_rules.proofs.built.judge_known.Goals as goal
 
 pub returns-in-Is-clause-is : goal.returns-in-Is-clause-is

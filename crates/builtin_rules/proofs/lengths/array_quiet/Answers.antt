@@ -5,7 +5,7 @@ use Rattle.unit_read.specs.Subjects.{unit_of}
 use Rattle.rule_words.specs.Answers.{answer_in}
 use Rattle.builtin_rules.specs.Builtin.{sized_by}
 use Rattle.builtin_rules.specs.Quiet.{quiet_ask}
-use Rattle.builtin_rules.proofs.BindLaws.{says_bind}
+use Rattle.rule_words.proofs.BindLaws.{says_bind}
 use Rattle.builtin_rules.proofs.lengths.array_quiet.Goals as goal
 
 pub returns-in-Is-clause-is : goal.returns-in-Is-clause-is

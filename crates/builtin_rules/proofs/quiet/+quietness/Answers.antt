@@ -5,7 +5,7 @@ use Rattle.unit_read.specs.Subjects.{unit_of}
 use Rattle.rule_words.specs.Asking.{Asks}
 use Rattle.rule_words.specs.Scenes.{told_by}
 use Rattle.builtin_rules.specs.Quiet.{heard_ask, parts_at, then_parts, quiet_within}
-use Rattle.builtin_rules.proofs.BindLaws.{says_bind, waits_bind}
+use Rattle.rule_words.proofs.BindLaws.{says_bind, waits_bind}
 use Rattle.builtin_rules.proofs.LevelLemmas.{within_none, within_more}
 use Rattle.builtin_rules.proofs.QuietLemmas.{goes_on, stops, all_quiet}
 use Rattle.builtin_rules.proofs.quiet.+quietness.Goals as goal

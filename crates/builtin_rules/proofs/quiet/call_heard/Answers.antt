@@ -3,7 +3,7 @@ use Rattle.mark_walk.specs.Telling.{Says}
 use Rattle.typed_marks.specs.States.{so_far}
 use Rattle.unit_read.specs.Subjects.{unit_of}
 use Rattle.builtin_rules.specs.Quiet.{is_no_call_ask, unless_loud}
-use Rattle.builtin_rules.proofs.BindLaws.{says_bind}
+use Rattle.rule_words.proofs.BindLaws.{says_bind}
 use Rattle.builtin_rules.proofs.quiet.call_heard.Goals as goal
 
 pub returns-in-Is : goal.returns-in-Is

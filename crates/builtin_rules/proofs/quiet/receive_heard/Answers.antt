@@ -4,7 +4,7 @@ use Rattle.unit_read.specs.Subjects.{unit_of}
 use Rattle.mark_walk.specs.Telling.{Says}
 use Rattle.std.specs.Prelude.{Some}
 use Rattle.builtin_rules.specs.Quiet.{is_no_receive_ask, heard_whole}
-use Rattle.builtin_rules.proofs.BindLaws.{says_bind}
+use Rattle.rule_words.proofs.BindLaws.{says_bind}
 use Rattle.builtin_rules.proofs.quiet.receive_heard.Goals as goal
 
 pub returns-in-Is : goal.returns-in-Is

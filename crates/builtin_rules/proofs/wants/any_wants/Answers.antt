@@ -6,9 +6,9 @@ use Rattle.typed_marks.specs.Meanings.{Wish, Wishes}
 use Rattle.typed_marks.specs.States.{so_far}
 use Rattle.unit_read.specs.Subjects.{unit_of}
 use Rattle.rule_words.specs.Scenes.{said}
-use Rattle.builtin_rules.specs.Wishes.{before}
+use Rattle.rule_words.specs.Wishes.{before}
 use Rattle.builtin_rules.specs.Wants.{any_by}
-use Rattle.builtin_rules.proofs.BindLaws.{says_bind}
+use Rattle.rule_words.proofs.BindLaws.{says_bind}
 use Rattle.builtin_rules.proofs.wants.any_wants.Goals as goal
 
 pub returns-in-Is-clause-is : goal.returns-in-Is-clause-is

@@ -1,9 +1,9 @@
 use Rattle.typed_marks.specs.States.{so_far}
 use Rattle.unit_read.specs.Subjects.{unit_of}
 use Rattle.rule_words.specs.Scenes.{told_by, said}
-use Rattle.builtin_rules.specs.Wishes.{before}
+use Rattle.rule_words.specs.Wishes.{before}
 use Rattle.builtin_rules.specs.Wants.{element_wants}
-use Rattle.builtin_rules.proofs.BindLaws.{says_bind}
+use Rattle.rule_words.proofs.BindLaws.{says_bind}
 use Rattle.builtin_rules.proofs.wants.first_element.Goals as goal
 
 pub returns-in-Is-clause-is : goal.returns-in-Is-clause-is

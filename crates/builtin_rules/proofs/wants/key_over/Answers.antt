@@ -5,7 +5,7 @@ use Rattle.unit_read.specs.Subjects.{unit_of}
 use Rattle.rule_words.specs.Asking.{mark_under}
 use Rattle.rule_words.specs.Scenes.{said, type_in}
 use Rattle.builtin_rules.specs.Wants.{key_by}
-use Rattle.builtin_rules.proofs.BindLaws.{says_bind}
+use Rattle.rule_words.proofs.BindLaws.{says_bind}
 use Rattle.builtin_rules.proofs.wants.key_over.Goals as goal
 
 pub returns-in-Is-clause-is : goal.returns-in-Is-clause-is

@@ -1,9 +1,9 @@
 use Rattle.typed_marks.specs.States.{so_far}
 use Rattle.unit_read.specs.Subjects.{unit_of}
 use Rattle.rule_words.specs.Scenes.{told_by, said}
-use Rattle.builtin_rules.specs.Wishes.{before}
+use Rattle.rule_words.specs.Wishes.{before}
 use Rattle.builtin_rules.specs.Wants.{key_over}
-use Rattle.builtin_rules.proofs.BindLaws.{says_bind}
+use Rattle.rule_words.proofs.BindLaws.{says_bind}
 use Rattle.builtin_rules.proofs.wants.key_wants.Goals as goal
 
 pub returns-in-Is-clause-is : goal.returns-in-Is-clause-is

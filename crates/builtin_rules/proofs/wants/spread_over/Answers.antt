@@ -2,9 +2,9 @@ use Rattle.std.proofs.Common.{option_map}
 use Rattle.typed_marks.specs.States.{so_far}
 use Rattle.unit_read.specs.Subjects.{unit_of}
 use Rattle.rule_words.specs.Scenes.{told_by, said, type_in}
-use Rattle.builtin_rules.specs.Wishes.{before}
+use Rattle.rule_words.specs.Wishes.{before}
 use Rattle.builtin_rules.specs.Wants.{spread_own}
-use Rattle.builtin_rules.proofs.BindLaws.{says_bind}
+use Rattle.rule_words.proofs.BindLaws.{says_bind}
 use Rattle.builtin_rules.proofs.wants.spread_over.Goals as goal
 
 pub returns-in-Is-clause-is : goal.returns-in-Is-clause-is

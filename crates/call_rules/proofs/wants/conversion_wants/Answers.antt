@@ -4,7 +4,7 @@ use Rattle.mark_walk.proofs.TellLaws.{told_bind}
 use Rattle.typed_marks.specs.States.{so_far}
 use Rattle.unit_read.specs.Subjects.{unit_of}
 use Rattle.rule_words.specs.Scenes.{said, type_in}
-use Rattle.builtin_rules.specs.Wishes.{before}
+use Rattle.rule_words.specs.Wishes.{before}
 use Rattle.call_rules.specs.Wants.{converted_over, conversion_wants}
 use Rattle.call_rules.proofs.wants.conversion_wants.Goals as goal
 

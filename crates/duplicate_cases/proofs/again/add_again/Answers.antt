@@ -2,9 +2,11 @@ use Rattle.std.proofs.Common.{ℕ, List, ◌||◌, ◌++◌, option_map, sym, ap
 use Rattle.std.specs.Global.{Vec}
 use Rattle.std.specs.Str.{bytes_eq}
 use Rattle.package_objects.proofs.GatherLemmas.{gather_on, gather_all}
-use Rattle.duplicate_cases.specs.InCode.{holds, spelled_at, again_at}
-use Rattle.duplicate_cases.proofs.AgainLemmas.{before_next, items_told, again_told}
+use Rattle.duplicate_cases.specs.InCode.{spelled_at, again_at}
+use Rattle.rule_words.proofs.AgainLemmas.{before_next}
+use Rattle.duplicate_cases.proofs.AgainLemmas.{items_told, again_told}
 use Rattle.duplicate_cases.proofs.again.add_again.Goals as goal
+use Rattle.rule_words.specs.Met.{holds}
 
 pub loop-i-preserved : goal.loop-i-preserved
 loop-i-preserved c =

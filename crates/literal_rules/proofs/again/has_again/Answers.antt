@@ -1,8 +1,9 @@
 use Rattle.std.proofs.Common.{nat_eq}
-use Rattle.literal_rules.specs.Again.{nth_of}
 use Rattle.literal_rules.specs.Sets.{has}
-use Rattle.literal_rules.proofs.AgainLemmas.{again_next, before_next}
+use Rattle.rule_words.proofs.AgainLemmas.{before_next}
+use Rattle.literal_rules.proofs.AgainLemmas.{again_next}
 use Rattle.literal_rules.proofs.again.has_again.Goals as goal
+use Rattle.rule_words.specs.Again.{nth_of}
 
 pub loop-i-preserved : goal.loop-i-preserved
 loop-i-preserved c = record {

@@ -1,5 +1,5 @@
 use Rattle.literal_rules.specs.Again.{is_empty_at}
-use Rattle.literal_rules.proofs.AgainLemmas.{any_on}
+use Rattle.rule_words.proofs.AgainLemmas.{any_on}
 use Rattle.literal_rules.proofs.again.has_empty.Goals as goal
 
 pub loop-i-preserved : goal.loop-i-preserved

@@ -1,8 +1,7 @@
 use Rattle.std.proofs.Common.{ap, sym, ◌∙◌}
-use Rattle.literal_rules.specs.Again.{any_of}
 use Rattle.literal_rules.specs.Items.{is_bad_key}
 use Rattle.literal_rules.specs.InCode.{keys_in}
-use Rattle.literal_rules.proofs.AgainLemmas.{any_on}
+use Rattle.rule_words.proofs.AgainLemmas.{any_on}
 use Rattle.literal_rules.proofs.items.has_bad.Goals as goal
 
 pub loop-i-preserved : goal.loop-i-preserved

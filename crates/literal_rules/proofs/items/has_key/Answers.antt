@@ -1,5 +1,5 @@
 use Rattle.literal_rules.specs.Items.{is_keyed}
-use Rattle.literal_rules.proofs.AgainLemmas.{any_on}
+use Rattle.rule_words.proofs.AgainLemmas.{any_on}
 use Rattle.literal_rules.proofs.items.has_key.Goals as goal
 
 pub loop-i-preserved : goal.loop-i-preserved

@@ -1,10 +1,12 @@
 use Rattle.std.proofs.Common.{ℕ, List, false, ◌||◌, option_map, sym, ap, ◌∙◌}
 use Rattle.std.specs.Global.{Vec}
 use Rattle.std.specs.Str.{bytes_eq}
-use Rattle.literal_rules.specs.Sets.{holds, spelled_key}
-use Rattle.literal_rules.proofs.AgainLemmas.{again_next, before_next}
+use Rattle.literal_rules.specs.Sets.{spelled_key}
+use Rattle.rule_words.proofs.AgainLemmas.{before_next}
+use Rattle.literal_rules.proofs.AgainLemmas.{again_next}
 use Rattle.literal_rules.proofs.KeyLemmas.{items_told}
 use Rattle.literal_rules.proofs.maps.has_spelled_again.Goals as goal
+use Rattle.rule_words.specs.Met.{holds}
 
 pub loop-i-preserved : goal.loop-i-preserved
 loop-i-preserved c =

@@ -7,9 +7,10 @@ use Rattle.typed_marks.specs.States.{so_far}
 use Rattle.unit_read.specs.Subjects.{unit_of}
 use Rattle.literal_rules.specs.Forms.{is_braces}
 use Rattle.literal_rules.specs.Shapes.{braces_ask}
-use Rattle.literal_rules.specs.Wants.{by_shape, element_wanted, nth_field, nodes_in, file_of, pair_wanted}
+use Rattle.literal_rules.specs.Wants.{by_shape, element_wanted, nth_field, nodes_in, pair_wanted}
 use Rattle.literal_rules.specs.InCode.{may_be_literal}
 use Rattle.literal_rules.proofs.wants.plain_want.Goals as goal
+use Rattle.rule_words.specs.Files.{file_of}
 
 pub returns-in-Is-clause-is : goal.returns-in-Is-clause-is
 returns-in-Is-clause-is c =

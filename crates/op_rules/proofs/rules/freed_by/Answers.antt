@@ -5,7 +5,7 @@ use Rattle.typed_marks.specs.States.{so_far}
 use Rattle.unit_read.specs.Subjects.{unit_of}
 use Rattle.rule_words.specs.Asking.{under_ask}
 use Rattle.rule_words.specs.Scenes.{told_by, type_in}
-use Rattle.op_rules.specs.InCode.{wish_of}
+use Rattle.rule_words.specs.Wishes.{wish_of}
 use Rattle.op_rules.specs.Rules.{freed_by, freed_ask}
 use Rattle.op_rules.proofs.rules.freed_by.Goals as goal
 

@@ -4,7 +4,7 @@ use Rattle.mark_walk.proofs.TellLaws.{told_bind}
 use Rattle.typed_marks.specs.States.{so_far}
 use Rattle.unit_read.specs.Subjects.{unit_of}
 use Rattle.rule_words.specs.Scenes.{told_by, parts_in}
-use Rattle.op_rules.specs.InCode.{wish_of}
+use Rattle.rule_words.specs.Wishes.{wish_of}
 use Rattle.op_rules.specs.Rules.{free_ask, freed_rule}
 use Rattle.op_rules.proofs.rules.judge_op.Goals as goal
 

@@ -4,7 +4,8 @@ use Rattle.mark_walk.proofs.TellLaws.{told_bind}
 use Rattle.typed_marks.specs.States.{so_far}
 use Rattle.unit_read.specs.Subjects.{unit_of}
 use Rattle.rule_words.specs.Scenes.{said}
-use Rattle.op_rules.specs.Wants.{before, whole_handed, handing_on}
+use Rattle.rule_words.specs.Wishes.{before}
+use Rattle.op_rules.specs.Wants.{whole_handed, handing_on}
 use Rattle.op_rules.proofs.wants.handing_on.Goals as goal
 
 pub returns-in-Is-clause-is : goal.returns-in-Is-clause-is

@@ -4,7 +4,8 @@ use Rattle.mark_walk.proofs.TellLaws.{told_bind}
 use Rattle.typed_marks.specs.States.{so_far}
 use Rattle.unit_read.specs.Subjects.{unit_of}
 use Rattle.rule_words.specs.Scenes.{said}
-use Rattle.op_rules.specs.Wants.{before, operand_in_whole, operand_beside}
+use Rattle.rule_words.specs.Wishes.{before}
+use Rattle.op_rules.specs.Wants.{operand_in_whole, operand_beside}
 use Rattle.op_rules.proofs.wants.operand_beside.Goals as goal
 
 pub returns-in-Is-clause-is : goal.returns-in-Is-clause-is

@@ -1,7 +1,7 @@
 use Rattle.std.proofs.Common.{sym, ◌∙◌}
 use Rattle.type_model.specs.Tables.{declarations_in}
 use Rattle.rule_words.specs.Scenes.{type_in}
-use Rattle.assign_rules.proofs.InterfaceLemmas.{interface_known}
+use Rattle.rule_words.proofs.InterfaceLemmas.{interface_known}
 use Rattle.statement_rules.proofs.case_types.guard_under.Goals as goal
 
 pub type_against-requires-clause-known : goal.type_against-requires-clause-known

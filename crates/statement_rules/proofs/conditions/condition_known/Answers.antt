@@ -4,7 +4,7 @@ use Rattle.unit_read.specs.Subjects.{unit_of}
 use Rattle.rule_words.specs.Asking.{under_ask}
 use Rattle.rule_words.specs.Scenes.{type_in}
 use Rattle.rule_words.specs.Steps.{step_in}
-use Rattle.assign_rules.proofs.BindLaws.{says_bind}
+use Rattle.rule_words.proofs.BindLaws.{says_bind}
 use Rattle.statement_rules.specs.Conditions.{condition_told}
 use Rattle.statement_rules.proofs.conditions.condition_known.Goals as goal
 

@@ -3,7 +3,7 @@ use Rattle.typed_marks.specs.States.{so_far}
 use Rattle.unit_read.specs.Subjects.{unit_of}
 use Rattle.rule_words.specs.Asking.{mark_ask}
 use Rattle.rule_words.specs.Scenes.{told_by, said}
-use Rattle.assign_rules.proofs.BindLaws.{says_bind}
+use Rattle.rule_words.proofs.BindLaws.{says_bind}
 use Rattle.statement_rules.specs.Returning.{told_wants}
 use Rattle.statement_rules.proofs.return_wants.typed_wants.Goals as goal
 

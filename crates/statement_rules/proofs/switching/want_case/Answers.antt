@@ -2,7 +2,7 @@ use Rattle.std.proofs.Common.{option_map}
 use Rattle.typed_marks.specs.States.{so_far}
 use Rattle.unit_read.specs.Subjects.{unit_of}
 use Rattle.rule_words.specs.Scenes.{told_by, said, type_in}
-use Rattle.assign_rules.proofs.BindLaws.{says_bind, waits_bind}
+use Rattle.rule_words.proofs.BindLaws.{says_bind, waits_bind}
 use Rattle.statement_rules.specs.Switching.{tag_ask, case_told}
 use Rattle.statement_rules.proofs.switching.want_case.Goals as goal
 

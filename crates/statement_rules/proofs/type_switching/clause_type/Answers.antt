@@ -5,7 +5,7 @@ use Rattle.rule_words.specs.Asking.{mark_ask}
 use Rattle.rule_words.specs.Good.{known_of}
 use Rattle.rule_words.specs.Scenes.{said}
 use Rattle.rule_words.specs.Steps.{step_in}
-use Rattle.assign_rules.proofs.BindLaws.{says_bind}
+use Rattle.rule_words.proofs.BindLaws.{says_bind}
 use Rattle.statement_rules.specs.TypeSwitching.{clause_told}
 use Rattle.statement_rules.proofs.type_switching.clause_type.Goals as goal
 

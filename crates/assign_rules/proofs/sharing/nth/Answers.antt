@@ -1,6 +1,0 @@
-use Rattle.type_model.specs.Tables.{count}
-use Rattle.assign_rules.proofs.RestLemmas.{below_at}
-use Rattle.assign_rules.proofs.sharing.nth.Goals as goal
-
-pub returns-clause-within : goal.returns-clause-within
-returns-clause-within c = below_at (count c.args.s.now.table) c.args.types.now c.args.i c.id_nth.result c.id_nth.ensures c.requires.below

@@ -1,8 +1,0 @@
-use Rattle.std.proofs.Common.{ap, is_some, ◌∙◌}
-use Rattle.std.specs.Str.{bytes_eq}
-use Rattle.duplicate_cases.specs.InCode.{kept}
-use Rattle.duplicate_cases.proofs.AgainLemmas.{kept_on}
-use Rattle.duplicate_cases.proofs.again.meet_spelled.Goals as goal
-
-pub returns-clause-notes : goal.returns-clause-notes
-returns-clause-notes c = λ k. ap is_some (c.in_ok-keep.ensures k) ∙ kept_on (bytes_eq c.args.key.items k) 0 (kept c.args.met.now k)
