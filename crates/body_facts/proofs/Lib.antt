@@ -3,3 +3,7 @@ pub mod ValueLemmas
 pub mod OneLemmas
 pub mod BodyLemmas
 pub mod PlaceLemmas
+pub mod StandingLemmas
+pub mod AskingLemmas
+pub mod PastLemmas
+pub mod PanicLemmas

@@ -60,6 +60,10 @@ callee_rule p node n own =
 abbrev pub AreCallees : List Node → List (Option ℕ) → Type 0
 AreCallees nodes found = IsHandedDown callee_rule None nodes found
 
+-- n is one of so many nodes, and denotes `panic`
+abbrev pub DenotesPanic : Unit → ℕ → ℕ → ℕ → Type 0
+DenotesPanic u f count n = (n < count) × (is_panic (object_at u (place f n)) ≡ true)
+
 -- n is the function of the call t, and denotes `panic`
 abbrev pub Panics : Unit → ℕ → List (Option ℕ) → ℕ → ℕ → Type 0
 Panics u f found n t = (is_panic (object_at u (place f n)) ≡ true) × (get_or found n None ≡ Some t)

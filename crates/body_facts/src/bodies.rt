@@ -18,14 +18,14 @@ use late_list::LateFault;
 use std::alloc::Global;
 use unit_read::Subject;
 
-fn tree_at<'a>(u: &Subject<'a>, k: usize) -> &'a FileTree
+pub(crate) fn tree_at<'a>(u: &Subject<'a>, k: usize) -> &'a FileTree
     requires { k < length u.now.trees.now }
     ensures { slice_get (unit_of u.now).trees k ≡ Some result.now }
 {
     &u.trees[k]
 }
 
-fn text_at<'a>(u: &Subject<'a>, k: usize) -> &'a [u8]
+pub(crate) fn text_at<'a>(u: &Subject<'a>, k: usize) -> &'a [u8]
     requires { k < length u.now.texts.now }
     ensures { slice_get (unit_of u.now).texts k ≡ Some result.now }
 {

@@ -1,12 +1,12 @@
 //! What names denote and declare in a file, by node.
-ghost use Rattle.std.specs.Prelude.{◌≡◌, ◌<◌, ◌≤◌, ◌^◌, ◌==◌, ℕ, if◌then◌else◌, IfOk, Some, None, length, get_or};
+ghost use Rattle.std.specs.Prelude.{◌≡◌, ◌<◌, ◌≤◌, ◌^◌, ◌==◌, ◌↔◌, ℕ, true, false, if◌then◌else◌, IfOk, Some, None, length, replicate, get_or};
 ghost use Rattle.go_tree.specs.declared.tree.Node.{Node};
 ghost use Rattle.object_order.specs.Spots.{place};
 ghost use Rattle.node_values.specs.Parents.{AreParents};
 ghost use Rattle.node_values.specs.Trees.{IsTree};
 ghost use Rattle.unit_read.specs.Subjects.{unit_of, IsRead, cell};
 ghost use Rattle.unit_read.specs.Units.{object_at};
-ghost use Rattle.body_facts.specs.NameTables.{AreValues, local_in, meant_at, is_panic, is_paren, is_call, is_first, callee_rule, AreCallees, Panics, ArePanics};
+ghost use Rattle.body_facts.specs.NameTables.{AreValues, local_in, meant_at, is_panic, is_paren, is_call, is_first, callee_rule, AreCallees, DenotesPanic, Panics, ArePanics};
 
 use go_tree::{Node, NodeKind, NodeRef, Object};
 use gv_base::NoMemory;
@@ -200,7 +200,28 @@ impl<'a> Targets for Panicking<'a> {
     }
 }
 
-/// Which nodes are calls of `panic`.
+/// Whether a node denotes `panic`.
+fn any_panics(u: &Subject, file: u32, count: usize) -> bool
+    requires read { IsRead u.now }
+    requires few { count ≤ 2 ^ 32 }
+    ensures { (result ≡ true) ↔ ((n : ℕ) × DenotesPanic (unit_of u.now) file count n) }
+{
+    for n in 0..count {
+        if denotes_panic(u, file, n) {
+            return true;
+        }
+    }
+    false
+}
+
+fn all_false(alloc: Global, count: usize) -> Result<Vec<bool>, NoMemory>
+    ensures { IfOk result (λ flags. flags.items ≡ replicate count false) }
+{
+    let flags = vec![in alloc; false; count]?;
+    Ok(flags)
+}
+
+/// Which nodes are calls of `panic`. In most files nothing denotes it.
 pub(crate) fn panics_of(
     alloc: Global,
     u: &Subject,
@@ -214,6 +235,10 @@ pub(crate) fn panics_of(
     requires parents { AreParents nodes.now (length nodes.now) parents.now }
     ensures { IfOk result (λ flags. ArePanics (unit_of u.now) file nodes.now flags.items) }
 {
+    if !any_panics(u, file, nodes.len()) {
+        let none = all_false(alloc, nodes.len())?;
+        return Ok(none);
+    }
     let callees = callees_of(alloc, nodes, parents)?;
     let rule = Panicking {
         u,

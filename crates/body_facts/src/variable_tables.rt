@@ -17,7 +17,7 @@ use node_values::{Hands, hand_down};
 use std::alloc::Global;
 use unit_read::{Place, Subject};
 
-fn is_declaring(kind: NodeKind) -> bool
+pub(crate) fn is_declaring(kind: NodeKind) -> bool
     ensures { result ≡ is_declaring kind }
 {
     matches!(

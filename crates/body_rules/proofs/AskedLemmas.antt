@@ -1,47 +1,49 @@
 -- A node of which no rule is asked has no fault.
-use Rattle.std.proofs.Common.{◌≡◌, ℕ, ◌||◌, ◌&&◌, not, nat_lt, cond, if◌then◌else◌, Bool, true, false, List, length, Option, Some, None, option_and_then, slice_get, refl, sym, ap, ◌∙◌}
+use Rattle.std.proofs.Common.{◌≡◌, ℕ, ◌||◌, ◌&&◌, not, cond, if◌then◌else◌, Bool, true, false, List, Option, Some, None, option_and_then, slice_get, refl, sym, ap, ◌∙◌}
 use Rattle.std.specs.Option.{option_map_or}
 use Rattle.gv_base.proofs.Lists.{nothing_there}
 use Rattle.gv_base.specs.declared.place.Place.{Place}
 use Rattle.go_tree.specs.declared.tree.Node.{Node}
-use Rattle.go_tree.specs.declared.tree.NodeKind.{NodeKind}
-use Rattle.go_tree.specs.Kinds.{is_function}
 use Rattle.go_tree.proofs.NodeLemmas.{differ}
 use Rattle.late_list.specs.declared.late.LateRule.{LateRule}
 use Rattle.late_list.specs.declared.late.LateRule.TheVariants as r
 use Rattle.body_rules.specs.declared.branches.Branch.{Branch}
 use Rattle.body_rules.specs.declared.branches.Branch.TheVariants as w
 use Rattle.body_rules.specs.Branches.{branch_of}
-use Rattle.body_rules.specs.Endings.{flag_of, kind_of, from_last}
-use Rattle.body_rules.specs.Files.{IsFaultIn, returns_by, lacks_label, bare_parts, has_none, is_nil, is_none, body_of, goto_label, is_undefined, branch_at, falls_at}
+use Rattle.body_rules.specs.Endings.{flag_of, from_last}
+use Rattle.body_rules.specs.Files.{IsFaultIn, returns_by, lacks_label, is_nil, is_none, body_of, goto_label, is_undefined, branch_at, falls_at}
 use Rattle.body_rules.specs.Given.{Given}
 use Rattle.body_rules.specs.Jumps.{label_of}
-use Rattle.body_rules.specs.Kinds.{is_body, is_jump, is_break, is_continue, is_goto, is_fall}
+use Rattle.body_rules.specs.Kinds.{is_jump, is_break, is_continue, is_goto, is_fall}
 use Rattle.body_rules.specs.Asked.{acts, acts_at, is_marked, is_asked}
+
+pub either : (a b : Bool) → b ≡ true → true ≡ (a || b)
+either true b e = refl
+either false b e = sym e
 
 neither : (a b : Bool) → (a || b) ≡ false → (a ≡ false) × (b ≡ false)
 neither true b e = absurd (differ true e refl)
 neither false b e = (refl, e)
 
 -- what doesn't act is nothing of these
-pub record IsIdle (kind : NodeKind) : Type 0 where
-  pub function : is_function kind ≡ false
-  pub jump : is_jump kind ≡ false
-  pub «break» : is_break kind ≡ false
-  pub «continue» : is_continue kind ≡ false
-  pub goto : is_goto kind ≡ false
-  pub fall : is_fall kind ≡ false
+pub record IsIdle (nodes : List Node) (node : Node) : Type 0 where
+  pub returns : returns_by nodes node.kind node.parts ≡ false
+  pub jump : is_jump node.kind ≡ false
+  pub «break» : is_break node.kind ≡ false
+  pub «continue» : is_continue node.kind ≡ false
+  pub goto : is_goto node.kind ≡ false
+  pub fall : is_fall node.kind ≡ false
 
-idle : (kind : NodeKind) → acts kind ≡ false → IsIdle kind
-idle kind e =
-    let one = neither (is_function kind) (is_jump kind || is_fall kind) e in
-    let two = neither (is_jump kind) (is_fall kind) one.1 in
-    let three = neither (is_break kind) (is_continue kind || is_goto kind) two.0 in
-    let four = neither (is_continue kind) (is_goto kind) three.1 in
-    record { function = one.0; jump = two.0; «break» = three.0; «continue» = four.0; goto = four.1; fall = two.1 }
+idle : (nodes : List Node) (node : Node) → acts nodes node ≡ false → IsIdle nodes node
+idle nodes node e =
+    let one = neither (returns_by nodes node.kind node.parts) (is_jump node.kind || is_fall node.kind) e in
+    let two = neither (is_jump node.kind) (is_fall node.kind) one.1 in
+    let three = neither (is_break node.kind) (is_continue node.kind || is_goto node.kind) two.0 in
+    let four = neither (is_continue node.kind) (is_goto node.kind) three.1 in
+    record { returns = one.0; jump = two.0; «break» = three.0; «continue» = four.0; goto = four.1; fall = two.1 }
 
-idle_at : (f : Given) (n : ℕ) (node : Node) → acts_at f n ≡ false → slice_get f.nodes n ≡ Some node → IsIdle node.kind
-idle_at f n node e there = idle node.kind (sym (ap (λ (o : Option Node). option_map_or (λ (x : Node). acts x.kind) o false) there) ∙ e)
+idle_at : (f : Given) (n : ℕ) (node : Node) → acts_at f n ≡ false → slice_get f.nodes n ≡ Some node → IsIdle f.nodes node
+idle_at f n node e there = idle f.nodes node (sym (ap (λ (o : Option Node). option_map_or (acts f.nodes) o false) there) ∙ e)
 
 no_body : (f : Given) (n b : ℕ) → acts_at f n ≡ false → body_of f n ≡ Some b → ⊥
 no_body f n b e is = by (slice_get f.nodes n) refl where
@@ -50,11 +52,7 @@ no_body f n b e is = by (slice_get f.nodes n) refl where
 
   by : (o : Option Node) → slice_get f.nodes n ≡ o → ⊥
   by None there = nothing_there b (sym (ap (option_and_then in_node) there) ∙ is)
-  by (Some node) there = nothing_there b (
-      sym (ap (λ (x : Bool). cond (x && (nat_lt (bare_parts node.kind) (length node.parts) && (is_body (kind_of f.nodes (from_last node.parts 1)) && not (has_none f.nodes (from_last node.parts 2))))) (Some (from_last node.parts 1)) None)
-      (idle_at f n node e there).function)
-      ∙ (sym (ap (option_and_then in_node) there) ∙ is)
-      )
+  by (Some node) there = nothing_there b (sym (ap (λ (x : Bool). cond x (Some (from_last node.parts 1)) None) (idle_at f n node e there).returns) ∙ (sym (ap (option_and_then in_node) there) ∙ is))
 
 no_goto : (f : Given) (n l : ℕ) → acts_at f n ≡ false → goto_label f n ≡ Some l → ⊥
 no_goto f n l e is = by (slice_get f.nodes n) refl where

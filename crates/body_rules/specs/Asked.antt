@@ -1,19 +1,18 @@
 -- Of which nodes late rules are asked: of the others none has a fault.
-use Rattle.std.specs.Prelude.{ℕ, ◌||◌, Bool, false, slice_get}
+use Rattle.std.specs.Prelude.{ℕ, ◌||◌, Bool, false, List, slice_get}
 use Rattle.std.specs.Option.{option_map_or}
 use Rattle.go_tree.specs.declared.tree.Node.{Node}
-use Rattle.go_tree.specs.declared.tree.NodeKind.{NodeKind}
-use Rattle.go_tree.specs.Kinds.{is_function}
 use Rattle.body_rules.specs.Endings.{flag_of}
+use Rattle.body_rules.specs.Files.{returns_by}
 use Rattle.body_rules.specs.Given.{Given}
 use Rattle.body_rules.specs.Kinds.{is_jump, is_fall}
 
--- a function, a jump or a `fallthrough`
-abbrev pub acts : NodeKind → Bool
-acts kind = is_function kind || (is_jump kind || is_fall kind)
+-- a function with results and a body, a jump or a `fallthrough`
+abbrev pub acts : List Node → Node → Bool
+acts nodes node = returns_by nodes node.kind node.parts || (is_jump node.kind || is_fall node.kind)
 
 abbrev pub acts_at : Given → ℕ → Bool
-acts_at f n = option_map_or (λ (node : Node). acts node.kind) (slice_get f.nodes n) false
+acts_at f n = option_map_or (acts f.nodes) (slice_get f.nodes n) false
 
 -- a node of which something is given
 abbrev pub is_marked : Given → ℕ → Bool

@@ -15,3 +15,4 @@ mod view;
 
 pub use file::File;
 pub use late::late_faults;
+pub use nodes::acts;

@@ -106,29 +106,6 @@ pub(crate) fn falls_at(f: &File, n: usize) -> bool
     }
 }
 
-/// A function, a jump or a `fallthrough`.
-fn acts(kind: NodeKind) -> bool
-    ensures { result ≡ acts kind }
-{
-    if is_function(kind) {
-        return true;
-    }
-    if is_jump(kind) {
-        return true;
-    }
-    is_fall(kind)
-}
-
-/// Whether a node is one of these.
-pub(crate) fn acts_at(f: &File, n: usize) -> bool
-    ensures { result ≡ acts_at (given f.now) n }
-{
-    match f.nodes.get(n) {
-        Some(node) => acts(node.kind),
-        None => false,
-    }
-}
-
 // ---- functions with results
 
 fn bare_parts(kind: NodeKind) -> usize
@@ -206,5 +183,30 @@ pub(crate) fn brace_of(f: &File, n: usize) -> Place
     match body_of(f, n) {
         Some(b) => end_of(f, b),
         None => end_of(f, 0),
+    }
+}
+
+// ---- of which nodes rules are asked
+
+/// A function with results and a body, a jump or a `fallthrough`.
+pub fn acts(nodes: &[Node], node: &Node) -> bool
+    ensures { result ≡ acts nodes.now node.now }
+{
+    if returns_by(nodes, node.kind, node.parts.as_slice()) {
+        return true;
+    }
+    if is_jump(node.kind) {
+        return true;
+    }
+    is_fall(node.kind)
+}
+
+/// Whether a node is one of these.
+pub(crate) fn acts_at(f: &File, n: usize) -> bool
+    ensures { result ≡ acts_at (given f.now) n }
+{
+    match f.nodes.get(n) {
+        Some(node) => acts(f.nodes, node),
+        None => false,
     }
 }

@@ -17,8 +17,10 @@ use Rattle.unit_read.specs.Rows.{AreRows}
 use Rattle.unit_read.specs.Subjects.{cell}
 use Rattle.unit_read.specs.Units.{Unit, node_at}
 use Rattle.bind.specs.Answers.{AreSmall, AreSpelled}
+use Rattle.body_facts.specs.Asking.{Asks}
 use Rattle.body_facts.specs.Bodies.{AreBodies}
 use Rattle.body_facts.specs.Facts.{IsBodyFault}
+use Rattle.body_facts.proofs.AskingLemmas.{unasked_body}
 use Rattle.check_pkg.specs.declared.references.Counted.TheVariants as counts
 use Rattle.check_pkg.specs.declared.refusal.Fault.{Fault}
 use Rattle.check_pkg.specs.declared.refusal.Fault.TheVariants.{Rule as RuleFault}
@@ -29,7 +31,7 @@ use Rattle.check_pkg.specs.Packages.{text_of}
 use Rattle.check_pkg.specs.References.{reads_at, counted_at}
 use Rattle.check_pkg.proofs.Lists.{stands_in, contains_at}
 use Rattle.check_pkg.proofs.FaultLemmas.{same_refusal}
-use Rattle.check_pkg.proofs.GainLemmas.{gains_push, gains_as}
+use Rattle.check_pkg.proofs.GainLemmas.{gains_none, gains_push, gains_as}
 use Rattle.check_pkg.proofs.ReferenceLemmas.{counted_are}
 
 -- one fault
@@ -52,6 +54,10 @@ faults_gain u marks methods rows found given old new bare filled same are gains 
 
       exactly : (y : LateFault) → Contains found y ↔ IsBodyFault u (reads_at u marks) y
       exactly y = subst (λ (m : NodeRef → Option NodeRef). Contains found y ↔ IsBodyFault u m y) (fun_ext (counted_are u marks (cell methods) nothing counts.Uses rows filled)) (are y)
+
+-- where nothing may be a fault of a body nothing is gained
+pub no_bodies_gain : (u : Unit) (marks : Item → Meaning) (list : List Refusal) → AreBodies u.texts u.trees → (Asks u.trees → ⊥) → Gains (IsRefusedInBody u marks) list list
+no_bodies_gain u marks list bodies none = gains_none (IsRefusedInBody u marks) list list refl (λ x (y, fault, is). unasked_body u (reads_at u marks) y bodies none fault)
 
 -- ---- the files of a package
 

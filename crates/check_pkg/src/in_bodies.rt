@@ -11,7 +11,7 @@ ghost use Rattle.check_pkg.specs.InBodies.{rule_of, IsOfFault, NthOfFault, IsRef
 
 use crate::references::{Counted, counted_rows};
 use crate::refusal::{Fault, Refusal};
-use body_facts::body_faults;
+use body_facts::{asks_bodies, body_faults};
 use gv_base::NoMemory;
 use late_list::{LateFault, LateRule, rule_number};
 use std::alloc::Global;
@@ -46,7 +46,7 @@ fn refuse_faults(found: &[LateFault], list: &mut Vec<Refusal>) -> Result<(), NoM
     Ok(())
 }
 
-/// Adds what the late rules of bodies refuse.
+/// Adds what the late rules of bodies refuse. Where nothing of the package may be a fault of a body, what its names mean is never asked.
 pub fn refuse_bodies(
     alloc: Global,
     u: &Subject,
@@ -58,6 +58,10 @@ pub fn refuse_bodies(
     requires bodies { AreBodies (texts_of u.now.texts.now) u.now.trees.now }
     ensures { OnOk result (Gains (IsRefusedInBody (unit_of u.now) (filled Quiet (so_far s.now))) list.old.items list.new.items) }
 {
+    let asks = asks_bodies(alloc, u)?;
+    if !asks {
+        return Ok(());
+    }
     let methods = Vec::new(alloc);
     let meant = counted_rows(alloc, u, s, &methods, Counted::Uses)?;
     let found = body_faults(alloc, u, &meant)?;
