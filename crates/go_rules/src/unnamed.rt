@@ -1,10 +1,11 @@
 //! Nodes of a file at which no defined type is declared, all of them together: a search for each would look at all types of the file.
-ghost use Rattle.std.specs.Prelude.{◌≡◌, true, false, IfOk, length, replicate, set};
+ghost use Rattle.std.specs.Prelude.{◌≡◌, true, false, IfOk, replicate, set};
+ghost use Rattle.std.specs.Option.{option_map_or};
 ghost use Rattle.unit_read.specs.Units.{is_defined_node};
 ghost use Rattle.unit_read.specs.Subjects.{unit_of, IsRead};
 ghost use Rattle.elaborate.specs.Types.{AreQuietTypes};
 ghost use Rattle.go_rules.specs.Stages.{rule};
-ghost use Rattle.go_rules.specs.Unnamed.{unset, unset_by, unset_at, unnamed, unnamed_passage, unnamed_in};
+ghost use Rattle.go_rules.specs.Unnamed.{type_named, unnamed, unnamed_passage, unnamed_in};
 
 use go_tree::{Node, NodeKind};
 use gv_base::NoMemory;
@@ -29,31 +30,23 @@ fn clear(flags: &mut Vec<bool>, n: usize)
     }
 }
 
-fn unset(flags: &mut Vec<bool>, part: Option<u32>)
-    ensures { flags.new.items ≡ unset part flags.old.items }
+fn clear_if(flags: &mut Vec<bool>, name: Option<u32>)
+    ensures { flags.new.items ≡ option_map_or (λ n. set flags.old.items n false) name flags.old.items }
 {
-    match part {
+    match name {
         Some(n) => clear(flags, n as usize),
         None => {}
     }
 }
 
-/// The flag of the name of a type goes, where a node defines one.
-fn unset_by(flags: &mut Vec<bool>, node: &Node)
-    ensures { flags.new.items ≡ unset_by flags.old.items node.now }
+/// The name of the type that a node defines.
+fn type_named(node: &Node) -> Option<u32>
+    ensures { result ≡ type_named node.now }
 {
     if is_defined_node(node.kind) {
-        unset(flags, part_of(node, 0));
+        return part_of(node, 0);
     }
-}
-
-fn unset_at(flags: &mut Vec<bool>, nodes: &[Node], n: usize)
-    ensures { flags.new.items ≡ unset_at nodes.now n flags.old.items }
-{
-    match nodes.get(n) {
-        Some(node) => unset_by(flags, node),
-        None => {}
-    }
+    None
 }
 
 fn all_set(alloc: Global, count: usize) -> Result<Vec<bool>, NoMemory>
@@ -69,7 +62,7 @@ fn unnamed(alloc: Global, nodes: &[Node]) -> Result<Vec<bool>, NoMemory>
 {
     let mut flags = all_set(alloc, nodes.len())?;
     for n in 0..nodes.len() {
-        unset_at(&mut flags, nodes, n);
+        clear_if(&mut flags, type_named(&nodes[n]));
     }
     Ok(flags)
 }
