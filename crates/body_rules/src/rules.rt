@@ -249,7 +249,8 @@ fn is_asked(f: &File, n: usize) -> bool
 
 /// Whether some rule may find a fault of a node.
 fn may_fail(v: &View, n: usize) -> bool
-    ensures { result ≡ false → (rule : LateRule) → (place : Place) → IsFaultIn (given v.now.file.now) rule n place → ⊥ }
+    ensures is { result ≡ is_asked (given v.now.file.now) n }
+    ensures none { result ≡ false → (rule : LateRule) → (place : Place) → IsFaultIn (given v.now.file.now) rule n place → ⊥ }
 {
     is_asked(v.file, n)
 }
@@ -260,6 +261,8 @@ impl<'a> Finds for View<'a> {
     ghost count = { λ v. length v.file.now.nodes.now };
 
     ghost IsFault = { λ v. IsFaultIn (given v.file.now) };
+
+    ghost asked = { λ v. is_asked (given v.file.now) };
 
     fn count(&self) -> usize {
         self.file.nodes.len()

@@ -1,5 +1,5 @@
 //! The late rules, and a view of a file that answers them.
-ghost use Rattle.std.specs.Prelude.{◌≡◌, ◌<◌, ℕ, false};
+ghost use Rattle.std.specs.Prelude.{◌≡◌, ◌<◌, ℕ, Bool, false};
 ghost use Rattle.late_list.specs.Late.{rule_number, IsAnswer};
 ghost use Rattle.gv_base.specs.declared.place.Place.{Place};
 ghost use Rattle.late_list.specs.declared.late.LateRule.{LateRule};
@@ -81,13 +81,17 @@ pub trait Finds {
     /// The place at which a rule finds a fault of a node.
     ghost IsFault: { Self → LateRule → ℕ → Place → Type 0 };
 
+    /// Of which nodes rules are asked.
+    ghost asked: { Self → ℕ → Bool };
+
     fn count(&self) -> usize
         ensures { result ≡ count self.now };
 
     /// Whether rules are asked of a node. Of the others, which are most, none finds anything.
     fn is_asked(&self, n: usize) -> bool
         requires { IsState self.now }
-        ensures { result ≡ false → (rule : LateRule) → (place : Place) → IsFault self.now rule n place → ⊥ };
+        ensures is { result ≡ asked self.now n }
+        ensures none { result ≡ false → (rule : LateRule) → (place : Place) → IsFault self.now rule n place → ⊥ };
 
     fn find(&self, rule: LateRule, n: usize) -> Option<Place>
         requires { IsState self.now }
