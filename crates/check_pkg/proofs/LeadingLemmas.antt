@@ -36,7 +36,7 @@ use Rattle.value_circles.specs.Bodies.{name_slot, body_entry, named_body, body_o
 use Rattle.value_circles.specs.Circles.{first_named, RefersTo, world_of, IsInitialCircle}
 use Rattle.value_circles.specs.Values.{is_vars, value_slot, value_of, roots, valued_entry, nth_entry, valued, spec_entries, spec_at, nth_spec, specs_of, top_entries, nth_top, tree_entries, file_entries, value_entries}
 use Rattle.check_pkg.specs.Initial.{IsInitialFault}
-use Rattle.check_pkg.specs.Leading.{has_names, has_names_at, StandsNamed, AreNamedRows, tells_type, has_type, has_owner, selects, may_select, leads_on, IsIn, is_vars as declares_vars, AreStillFiles}
+use Rattle.check_pkg.specs.Leading.{has_names, has_names_at, StandsNamed, AreNamedRows, tells_type, has_type, has_owner, selects, may_select, leads_on, IsIn, is_vars as declares_vars, LeadsInFile}
 use Rattle.check_pkg.specs.References.{reference_at, IsReference, AreReferences}
 use Rattle.check_pkg.proofs.FirstLemmas.{of_some, of_if, of_one, append_cases, among_in, first_is, first_in}
 use Rattle.check_pkg.proofs.Lists.{contains_at}
@@ -88,7 +88,7 @@ part_then : (nodes : List Node) (p q n : ℕ) → IsPart nodes p q → Holds nod
 part_then nodes p q n is (by_part more) = deep (by_part is) more
 part_then nodes p q n is (deep held more) = deep (part_then nodes p q _ is held) more
 
-holds_in : (nodes : List Node) (p q n : ℕ) → Holds nodes p q → IsIn nodes q n → Holds nodes p n
+pub holds_in : (nodes : List Node) (p q n : ℕ) → Holds nodes p q → IsIn nodes q n → Holds nodes p n
 holds_in nodes p q n held (inl same) = subst (λ (x : ℕ). Holds nodes p x) (sym same) held
 holds_in nodes p q n (by_part is) (inr more) = part_then nodes p q n is more
 holds_in nodes p q n (deep {q = r} held is) (inr more) = holds_in nodes p r n held (inr (part_then nodes r q n is more))
@@ -313,9 +313,6 @@ or_left : (a b : Bool) → a ≡ true → (a || b) ≡ true
 or_left true b e = refl
 or_left false b e = absurd cc
 
-differ : (b : Bool) → b ≡ false → b ≡ true → ⊥
-differ b p q = cc
-
 module _ (u : Unit) (marks : Item → Meaning) (rows : List (Vec Bool)) (named : AreNamedRows u.trees (length u.trees) rows) where
   flagged : (at : NodeRef) → IsDeclared u.trees at → flag rows at ≡ true
   flagged at is =
@@ -329,7 +326,7 @@ module _ (u : Unit) (marks : Item → Meaning) (rows : List (Vec Bool)) (named :
     by (inl ref) = or_left (option_map_or (flag rows) (reference_at u marks n) false) (may_select u marks n) (ap (λ (o : Option NodeRef). option_map_or (flag rows) o false) ref ∙ flagged z declared)
     by (inr (none, selected)) = or_right (option_map_or (flag rows) (reference_at u marks n) false) (may_select u marks n) (told_select u marks n selected.0 selected.1)
 
-  module _ (still : AreStillFiles u marks (flag rows) (length u.trees)) (meant : NodeRef → Option NodeRef) (refer : AreReferences u marks meant) (at : NodeRef)
+  module _ (none : (f m : ℕ) → LeadsInFile u marks (flag rows) f m → ⊥) (meant : NodeRef → Option NodeRef) (refer : AreReferences u marks meant) (at : NodeRef)
       (variable : IsNamed (value_entries (opened_trees u.trees)) at) where
     abbrev w : World
     w = world_of (opened_trees u.trees) meant (body_entries u.trees)
@@ -342,13 +339,12 @@ module _ (u : Unit) (marks : Item → Meaning) (rows : List (Vec Bool)) (named :
         let from_node : from.node ≡ root.root.node = sym (ap (λ (x : NodeRef). x.node) root.at_is) in
         let (n_file, inside) = within_is u.trees meant (body_entries u.trees) v.f v.tree v.has_tree from n from_file within in
         let held = holds_in v.tree.nodes v.n from.node n.node (subst (λ (x : ℕ). Holds v.tree.nodes v.n x) (sym from_node) (v.holds root.root root.among)) inside in
-        let quiet = still v.f v.tree (slice_get_within u.trees v.f v.tree v.has_tree) v.has_tree v.i v.n (slice_get_within v.tree.tops v.i v.n v.top) v.top v.node v.node_there v.vars n.node (inr held) in
         let loud = refers meant refer n z mention.meant (entry_declared u.trees z mention.entry mention.declared) in
-        differ (leads_on u marks (flag rows) n) (ap (λ (f : ℕ). leads_on u marks (flag rows) (place f n.node)) n_file ∙ quiet) loud
+        none v.f n.node (v.tree, v.has_tree, v.i, (v.n, v.top, (v.node, v.node_there, v.vars, (inr held, ap (λ (f : ℕ). leads_on u marks (flag rows) (place f n.node)) (sym n_file) ∙ loud))))
 
     no_path : Leads (RefersTo w) at at → ⊥
     no_path ([], edge) = no_step at edge
     no_path (z ∷ via, (edge, rest)) = no_step z edge
 
-  pub no_circle : AreStillFiles u marks (flag rows) (length u.trees) → (at : NodeRef) → IsInitialFault u marks at → ⊥
-  no_circle still at (meant, refer, circle) = no_path still meant refer at circle.variable circle.reaches
+  pub no_circle : ((f m : ℕ) → LeadsInFile u marks (flag rows) f m → ⊥) → (at : NodeRef) → IsInitialFault u marks at → ⊥
+  no_circle none at (meant, refer, circle) = no_path none meant refer at circle.variable circle.reaches

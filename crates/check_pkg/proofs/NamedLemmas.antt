@@ -1,11 +1,13 @@
 -- Flags of parts of what may have names.
-use Rattle.std.proofs.Common.{◌≡◌, ℕ, ◌<◌, ◌+◌, ◌⊎◌, ◌↔◌, Bool, true, false, List, [], ◌∷◌, ◌++◌, length, get_or, slice_get, slice_index_or, Some, refl, sym, ap, ◌∙◌, subst, inl, inr, arith}
+use Rattle.std.proofs.Common.{◌≡◌, ℕ, ◌<◌, ◌≤◌, ◌+◌, ◌⊎◌, ◌↔◌, Bool, true, false, List, [], ◌∷◌, ◌++◌, length, get_or, slice_get, slice_index_or, Option, Some, None, refl, sym, ap, ◌∙◌, subst, inl, inr, arith}
 use Rattle.std.specs.Global.{Vec}
 use Rattle.std.specs.List.{Contains}
+use Rattle.std.specs.Option.{option_map_or}
 use Rattle.std.proofs.lemmas.Bool.{cases_lt}
 use Rattle.std.proofs.lemmas.List.{length_push}
 use Rattle.std.proofs.lemmas.List.Elements.{Contains-get_or}
 use Rattle.std.proofs.lemmas.Option.{slice_get_within}
+use Rattle.go_tree.proofs.NodeLemmas.{differ}
 use Rattle.go_tree.specs.declared.tree.FileTree.{FileTree}
 use Rattle.go_tree.specs.declared.tree.Node.{Node}
 use Rattle.go_tree.specs.declared.tree.NodeRef.{NodeRef}
@@ -17,7 +19,8 @@ use Rattle.typed_marks.specs.Meanings.{Meaning}
 use Rattle.unit_read.specs.Units.{Unit}
 use Rattle.unit_read.proofs.EnvironmentLemmas.{same_some, push_cases}
 use Rattle.check_pkg.specs.Elsewhere.{IsFlagRow}
-use Rattle.check_pkg.specs.Leading.{has_names_at, FlagsNamed, AreNamedRows, leads_on, IsIn, IsStill, AreStillParts, is_vars, IsStillTop, AreStillTops, AreStillFiles}
+use Rattle.check_pkg.specs.Leading.{has_names_at, FlagsNamed, AreNamedRows, leads_on, IsIn, LeadsIn, is_vars}
+use Rattle.check_pkg.proofs.LeadingLemmas.{holds_in}
 use Rattle.check_pkg.proofs.Lists.{stands_in}
 
 -- what a node is a part of is told
@@ -48,7 +51,7 @@ named_more trees rows new k tree row was there flags now = record {
   ];
 }
 
--- ---- what is still
+-- ---- what leads on
 
 -- what holds of the first few things holds of one more
 pub each_more : {X : Type 0} (P : ℕ → X → Type 0) (xs : List X) (k : ℕ) (x : X) → slice_get xs k ≡ Some x → P k x → ((i : ℕ) (y : X) → i < k → slice_get xs i ≡ Some y → P i y)
@@ -60,6 +63,10 @@ each_more P xs k x there holds before i y low is = elim (cases_lt i k) [
       subst (λ j. P j y) here (subst (λ z. P k z) (same_some (slice_get xs k) x y there (ap (slice_get xs) here ∙ is)) holds)
 ]
 
+-- what holds of as many things as there are holds of all
+pub each_of : {X : Type 0} (P : ℕ → X → Type 0) (xs : List X) (k : ℕ) → length xs ≤ k → ((i : ℕ) (y : X) → i < k → slice_get xs i ≡ Some y → P i y) → (i : ℕ) (y : X) → slice_get xs i ≡ Some y → P i y
+each_of P xs k past before i y is = before i y (let low = slice_get_within xs i y is in omega arith) is
+
 module _ (u : Unit) (marks : Item → Meaning) (named : NodeRef → Bool) (f : ℕ) (nodes : List Node) where
   -- what a node holds is one of its parts, or lies in one
   held_part : (n m : ℕ) → Holds nodes n m → (x : ℕ) × IsPart nodes n x × IsIn nodes x m
@@ -69,13 +76,25 @@ module _ (u : Unit) (marks : Item → Meaning) (named : NodeRef → Bool) (f : �
     on {x} (inl same) = inr (by_part (subst (λ (y : ℕ). IsPart nodes y m) same is))
     on {x} (inr more) = inr (deep more is)
 
-  pub node_still : (n : ℕ) (node : Node) (k : ℕ) → slice_get nodes n ≡ Some node → leads_on u marks named (place f n) ≡ false → length node.parts ≡ k → AreStillParts u marks named f nodes node.parts k → IsStill u marks named f nodes n
-  node_still n node k there quiet all parts m (inl same) = ap (λ (x : ℕ). leads_on u marks named (place f x)) same ∙ quiet
-  node_still n node k there quiet all parts m (inr held) =
+  -- what leads on in a part does so in the node
+  pub leads_part : (n p m : ℕ) → IsPart nodes n p → LeadsIn u marks named f nodes p m → LeadsIn u marks named f nodes n m
+  leads_part n p m has (inside, leads) = (inr (holds_in nodes n p m (by_part has) inside), leads)
+
+  -- nothing does in a node where nothing does in its parts
+  pub none_leads : (n : ℕ) (node : Node) (k : ℕ) → slice_get nodes n ≡ Some node → leads_on u marks named (place f n) ≡ false → length node.parts ≡ k
+      → ((j p : ℕ) → j < k → slice_get node.parts j ≡ Some p → (m : ℕ) → LeadsIn u marks named f nodes p m → ⊥) → (m : ℕ) → LeadsIn u marks named f nodes n m → ⊥
+  none_leads n node k there quiet all parts m (inl same, leads) = differ (leads_on u marks named (place f m)) (ap (λ (x : ℕ). leads_on u marks named (place f x)) same ∙ quiet) leads
+  none_leads n node k there quiet all parts m (inr held, leads) =
       let (x, has, inside) = held_part n m held in
       let same : has.0 ≡ node = same_some (slice_get nodes n) has.0 node has.1 there in
       let (j, j_at) = stands_in node.parts x (subst (λ (y : Node). Contains y.parts x) same has.2) in
-      parts j x (let low = slice_get_within node.parts j x j_at in omega arith) j_at m inside
+      parts j x (let low = slice_get_within node.parts j x j_at in omega arith) j_at m (inside, leads)
+
+pub vars_there : (nodes : List Node) (n : ℕ) → option_map_or (λ (node : Node). is_vars node.kind) (slice_get nodes n) false ≡ true → (node : Node) × (slice_get nodes n ≡ Some node) × (is_vars node.kind ≡ true)
+vars_there nodes n = by (slice_get nodes n) where
+  by : (o : Option Node) → option_map_or (λ (node : Node). is_vars node.kind) o false ≡ true → (node : Node) × (o ≡ Some node) × (is_vars node.kind ≡ true)
+  by None e = absurd (differ false refl e)
+  by (Some node) e = (node, refl, e)
 
 pub part_read : (nodes : List Node) (n : ℕ) (node : Node) (parts : List ℕ) (i : ℕ) → slice_get nodes n ≡ Some node → parts ≡ node.parts → i < length parts → IsPart nodes n (get_or parts i 0)
 part_read nodes n node parts i there same low = (node, there, subst (λ (xs : List ℕ). Contains xs (get_or parts i 0)) same (Contains-get_or parts i 0 low))

@@ -1,6 +1,6 @@
 -- Where the search for initialisation cycles begins: at what stands in declarations of variables and leads on, to a variable, a function or a method of the
 -- package. Where nothing there does, there is no such cycle. What leads on is told broadly: by where the name stands that is meant, and by what stands before a dot.
-use Rattle.std.specs.Prelude.{◌≡◌, ℕ, ◌<◌, ◌⊎◌, ◌&&◌, ◌||◌, Bool, true, false, not, List, Some, length, slice_get, slice_index_or}
+use Rattle.std.specs.Prelude.{◌≡◌, ℕ, ◌⊎◌, ◌&&◌, ◌||◌, Bool, true, false, not, List, Some, length, slice_get, slice_index_or}
 use Rattle.std.specs.Global.{Vec}
 use Rattle.std.specs.Option.{option_map_or}
 use Rattle.go_tree.specs.declared.tree.FileTree.{FileTree}
@@ -81,26 +81,23 @@ leads_on u marks named at = option_map_or named (reference_at u marks at) false 
 abbrev pub IsIn : List Node → ℕ → ℕ → Type 0
 IsIn nodes n m = (m ≡ n) ⊎ Holds nodes n m
 
--- nothing in the node leads on
-abbrev pub IsStill : Unit → (Item → Meaning) → (NodeRef → Bool) → ℕ → List Node → ℕ → Type 0
-IsStill u marks named f nodes n = (m : ℕ) → IsIn nodes n m → leads_on u marks named (place f m) ≡ false
+-- m is in the node and leads on
+abbrev pub LeadsIn : Unit → (Item → Meaning) → (NodeRef → Bool) → ℕ → List Node → ℕ → ℕ → Type 0
+LeadsIn u marks named f nodes n m = IsIn nodes n m × (leads_on u marks named (place f m) ≡ true)
 
 abbrev pub is_vars : NodeKind → Bool
 is_vars k.Var = true
 is_vars k.VarGroup = true
 is_vars _ = false
 
--- nor does anything where a declaration of variables is
-abbrev pub IsStillTop : Unit → (Item → Meaning) → (NodeRef → Bool) → ℕ → List Node → ℕ → Type 0
-IsStillTop u marks named f nodes n = (node : Node) → slice_get nodes n ≡ Some node → is_vars node.kind ≡ true → IsStill u marks named f nodes n
+-- the node n declares variables, and m leads on in it
+abbrev pub LeadsInVars : Unit → (Item → Meaning) → (NodeRef → Bool) → ℕ → List Node → ℕ → ℕ → Type 0
+LeadsInVars u marks named f nodes n m = (node : Node) × (slice_get nodes n ≡ Some node) × (is_vars node.kind ≡ true) × LeadsIn u marks named f nodes n m
 
--- in the first few declarations of a file, and in the first few files
-abbrev pub AreStillTops : Unit → (Item → Meaning) → (NodeRef → Bool) → ℕ → FileTree → ℕ → Type 0
-AreStillTops u marks named f tree few = (i n : ℕ) → i < few → slice_get tree.tops i ≡ Some n → IsStillTop u marks named f tree.nodes n
+-- m leads on in a declaration of variables of a file, the i-th of its declarations
+abbrev pub LeadsInTop : Unit → (Item → Meaning) → (NodeRef → Bool) → ℕ → FileTree → ℕ → ℕ → Type 0
+LeadsInTop u marks named f tree i m = (n : ℕ) × (slice_get tree.tops i ≡ Some n) × LeadsInVars u marks named f tree.nodes n m
 
-abbrev pub AreStillFiles : Unit → (Item → Meaning) → (NodeRef → Bool) → ℕ → Type 0
-AreStillFiles u marks named few = (f : ℕ) (tree : FileTree) → f < few → slice_get u.trees f ≡ Some tree → AreStillTops u marks named f tree (length tree.tops)
-
--- nor in the first few parts of a node
-abbrev pub AreStillParts : Unit → (Item → Meaning) → (NodeRef → Bool) → ℕ → List Node → List ℕ → ℕ → Type 0
-AreStillParts u marks named f nodes parts few = (j n : ℕ) → j < few → slice_get parts j ≡ Some n → IsStill u marks named f nodes n
+-- m leads on in a declaration of variables of the file f
+abbrev pub LeadsInFile : Unit → (Item → Meaning) → (NodeRef → Bool) → ℕ → ℕ → Type 0
+LeadsInFile u marks named f m = (tree : FileTree) × (slice_get u.trees f ≡ Some tree) × (i : ℕ) × LeadsInTop u marks named f tree i m

@@ -1,5 +1,5 @@
 //! What the marks of items refuse.
-ghost use Rattle.std.specs.Prelude.{◌≡◌, None, true, OnOk};
+ghost use Rattle.std.specs.Prelude.{◌≡◌, ◌↔◌, None, true, OnOk};
 ghost use Rattle.mark_walk.specs.Asks.{filled};
 ghost use Rattle.typed_marks.specs.Meanings.{Quiet};
 ghost use Rattle.typed_marks.specs.States.{so_far, IsState};
@@ -43,7 +43,7 @@ fn fault_of(s: &State, item: Item) -> Option<Fault>
 /// Whether the mark of an item refuses nothing.
 fn is_quiet(s: &State, item: Item) -> bool
     requires { IsState s.now }
-    ensures { result ≡ true → fault_in (filled Quiet (so_far s.now) item) ≡ None }
+    ensures { (result ≡ true) ↔ (fault_in (filled Quiet (so_far s.now) item) ≡ None) }
 {
     match fault_of(s, item) {
         Some(_) => false,
@@ -54,7 +54,7 @@ fn is_quiet(s: &State, item: Item) -> bool
 /// Whether both do, as those of nearly all nodes.
 fn are_quiet(s: &State, placed: Item, object: Item) -> bool
     requires { IsState s.now }
-    ensures { result ≡ true → (fault_in (filled Quiet (so_far s.now) placed) ≡ None) × (fault_in (filled Quiet (so_far s.now) object) ≡ None) }
+    ensures { (result ≡ true) ↔ ((fault_in (filled Quiet (so_far s.now) placed) ≡ None) × (fault_in (filled Quiet (so_far s.now) object) ≡ None)) }
 {
     if !is_quiet(s, placed) {
         return false;

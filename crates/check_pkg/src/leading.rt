@@ -1,5 +1,5 @@
 //! Whether a value of a variable may lead to a variable, a function or a method of the package. Where none does, no variable reaches itself.
-ghost use Rattle.std.specs.Prelude.{◌≡◌, ◌<◌, ◌≤◌, ◌^◌, ℕ, IfOk, Some, false, length, slice_get};
+ghost use Rattle.std.specs.Prelude.{◌≡◌, ◌<◌, ◌≤◌, ◌^◌, ◌↔◌, ℕ, IfOk, Some, true, false, length, slice_get};
 ghost use Rattle.std.specs.Option.{option_map_or};
 ghost use Rattle.go_tree.specs.Pieces.{Spelled};
 ghost use Rattle.mark_walk.specs.Asks.{filled};
@@ -15,7 +15,7 @@ ghost use Rattle.check_pkg.specs.Elsewhere.{IsFlagRow};
 ghost use Rattle.go_tree.specs.declared.tree.NodeRef.{NodeRef as OneNode};
 ghost use Rattle.go_tree.specs.declared.tree.Node.{Node};
 ghost use Rattle.check_pkg.specs.Initial.{IsInitialFault};
-ghost use Rattle.check_pkg.specs.Leading.{has_names, has_names_at, FlagsNamed, AreNamedRows, tells_type, has_type, has_owner, selects, may_select, leads_on, IsStill, is_vars, IsStillTop, AreStillTops, AreStillFiles};
+ghost use Rattle.check_pkg.specs.Leading.{has_names, has_names_at, FlagsNamed, AreNamedRows, tells_type, has_type, has_owner, selects, may_select, leads_on, LeadsIn, is_vars, LeadsInVars, LeadsInTop, LeadsInFile};
 ghost use Rattle.selected_methods.specs.Owners.{is_selector};
 ghost use Rattle.typed_tree.specs.Places.{is_package};
 
@@ -226,7 +226,7 @@ fn leads_within(
     requires state { IsState s.now }
     requires tree { IsTree nodes.now }
     requires node { n < length nodes.now }
-    ensures { result ≡ false → IsStill (unit_of u.now) (filled Quiet (so_far s.now)) (flag rows.now.items) file nodes.now n }
+    ensures { (result ≡ true) ↔ ((m : ℕ) × LeadsIn (unit_of u.now) (filled Quiet (so_far s.now)) (flag rows.now.items) file nodes.now n m) }
 {
     if leads_on(u, s, rows, NodeRef { file, node: n }) {
         return true;
@@ -266,7 +266,7 @@ fn top_leads(
     requires read { IsRead u.now }
     requires state { IsState s.now }
     requires tree { IsTree nodes.now }
-    ensures { result ≡ false → IsStillTop (unit_of u.now) (filled Quiet (so_far s.now)) (flag rows.now.items) file nodes.now n }
+    ensures { (result ≡ true) ↔ ((m : ℕ) × LeadsInVars (unit_of u.now) (filled Quiet (so_far s.now)) (flag rows.now.items) file nodes.now n m) }
 {
     if n as usize >= nodes.len() {
         return false;
@@ -295,7 +295,7 @@ fn file_leads(
     requires read { IsRead u.now }
     requires state { IsState s.now }
     requires spelled { Spelled tree.now.tokens bytes.now tree.now }
-    ensures { result ≡ false → AreStillTops (unit_of u.now) (filled Quiet (so_far s.now)) (flag rows.now.items) file tree.now (length tree.now.tops) }
+    ensures { (result ≡ true) ↔ ((i : ℕ) × (m : ℕ) × LeadsInTop (unit_of u.now) (filled Quiet (so_far s.now)) (flag rows.now.items) file tree.now i m) }
 {
     spelled_nodes(tree, bytes);
     let nodes = tree.nodes.as_slice();
@@ -312,7 +312,7 @@ fn values_lead(u: &Subject, s: &State, rows: &Vec<Vec<bool>>) -> bool
     requires read { IsRead u.now }
     requires state { IsState s.now }
     requires bodies { AreBodies (texts_of u.now.texts.now) u.now.trees.now }
-    ensures { result ≡ false → AreStillFiles (unit_of u.now) (filled Quiet (so_far s.now)) (flag rows.now.items) (length u.now.trees.now) }
+    ensures { (result ≡ true) ↔ ((f : ℕ) × (m : ℕ) × LeadsInFile (unit_of u.now) (filled Quiet (so_far s.now)) (flag rows.now.items) f m) }
 {
     for k in 0..u.trees.len() {
         if file_leads(u, s, rows, tree_at(u, k), text_at(u, k), k as u32) {

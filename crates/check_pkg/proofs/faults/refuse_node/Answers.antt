@@ -21,7 +21,7 @@ pub returns-then-are_quiet : goal.returns-then-are_quiet
 returns-then-are_quiet c =
     let u = unit_of c.args.u.now in
     let marks = filled Quiet (so_far c.args.s.now) in
-    let none = c.are_quiet.ensures c.if-are_quiet.true in
+    let none = c.are_quiet.ensures.0 c.if-are_quiet.true in
     gains_then (RefusesAt u marks c.args.block c.args.p c.args.node Placed) (RefusesAt u marks c.args.block c.args.p c.args.node Object) c.args.list.now.items c.args.list.now.items c.args.list.now.items
     (gains_no_fault (fault_in (marks (item Placed c.args.block c.args.node))) (fault_place u c.args.p c.args.node) c.args.list.now.items none.0)
     (gains_no_fault (fault_in (marks (item Object c.args.block c.args.node))) (fault_place u c.args.p c.args.node) c.args.list.now.items none.1)

@@ -1,3 +1,4 @@
+use Rattle.go_tree.proofs.NodeLemmas.{differ}
 use Rattle.mark_walk.specs.Asks.{filled}
 use Rattle.typed_marks.specs.Meanings.{Quiet}
 use Rattle.typed_marks.specs.States.{so_far}
@@ -6,5 +7,5 @@ use Rattle.check_pkg.proofs.LeadingLemmas.{no_circle}
 use Rattle.check_pkg.proofs.leading.may_circle.Goals as goal
 
 pub returns : goal.returns
-returns c = λ still at fault.
-    no_circle (unit_of c.args.u.now) (filled Quiet (so_far c.args.s.now)) c.in_ok-rows.rows.items c.in_ok-rows.ensures (c.values_lead.ensures still) at fault
+returns c = λ none at fault.
+    no_circle (unit_of c.args.u.now) (filled Quiet (so_far c.args.s.now)) c.in_ok-rows.rows.items c.in_ok-rows.ensures (λ f m leads. differ c.values_lead.result none (c.values_lead.ensures.1 (f, m, leads))) at fault
