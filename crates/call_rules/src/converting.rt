@@ -18,6 +18,7 @@ ghost use Rattle.call_rules.specs.Converting.{unspread, is_convertible, constant
 use builtin_rules::{argument_count, says, value_of};
 use const_eval::{ConstAnswer, convert};
 use gv_base::{Const, Kind, NoMemory};
+use rule_words::answered::bad;
 use rule_words::good::{broken, part_at, silent};
 use rule_words::types::{is_interface, kind_of};
 use rule_words::values::{assigned_type, value_at};
@@ -75,12 +76,6 @@ fn constant_fault(c: &Const, kind: Kind) -> Rule
     }
 }
 
-fn broken(rule: Rule) -> Answer
-    ensures { result ≡ Answer.Mark (Mark.Bad rule) }
-{
-    Answer::Mark(Mark::Bad(rule))
-}
-
 #[tactic(auto, unfolding(crate::specs::Converting::unspread))]
 fn constant_of(s: &State, spread: bool, to: TypeId, c: Const) -> Answer
     requires within { IsTypeOf s.now to }
@@ -90,7 +85,7 @@ fn constant_of(s: &State, spread: bool, to: TypeId, c: Const) -> Answer
     let _ = s;
     // E52
     if spread {
-        return broken(BAD_DOTS);
+        return bad(BAD_DOTS);
     }
     Answer::Constant(to, to, c)
 }
@@ -102,10 +97,10 @@ fn converted(s: &State, spread: bool, to: TypeId, fault: Rule, answer: ConstAnsw
 {
     match answer {
         ConstAnswer::Value(c) => constant_of(s, spread, to, c),
-        ConstAnswer::ZeroDivisor => broken(fault),
-        ConstAnswer::Wide => broken(fault),
-        ConstAnswer::LongText => broken(fault),
-        ConstAnswer::BadOperands => broken(fault),
+        ConstAnswer::ZeroDivisor => bad(fault),
+        ConstAnswer::Wide => bad(fault),
+        ConstAnswer::LongText => bad(fault),
+        ConstAnswer::BadOperands => bad(fault),
     }
 }
 
