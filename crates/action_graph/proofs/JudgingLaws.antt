@@ -33,7 +33,7 @@ same_accepts i k h = ap (face_or i) h
 -- what is seen of a package has its path
 pub accepts_path : (path : List ℕ) (files : List Named) (env : Env) (i : Face) → Judges path files env (Accepts i) → i.path ≡ path
 unfolding Judges
-accepts_path path files env i (p, (of, (c, comes, none, exports, fit))) = fit.path_is ∙ of.path_is
+accepts_path path files env i (p, (of, found)) = found.fit.path_is ∙ of.path_is
 
 -- a text spells one face
 pub one_face : (i k : Face) (text : List ℕ) → IsFaceText i text → IsFaceText k text → i ≡ k

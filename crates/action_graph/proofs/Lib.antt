@@ -10,6 +10,22 @@ mod TokenOrder
 mod UnitNodes
 mod NodeStanding
 pub mod NodeLemmas
+mod ImportNodes
+mod SameUses
+mod StayFaces
+mod StayImports
+mod StayTypes
+mod StayMarks
+mod StaySelected
+mod StayPlaces
+mod StayKinds
+mod StayDecided
+mod StayRefusals
+mod StayExports
+mod StayFit
+mod StayUnits
+pub mod StayLaws
+pub mod MeetLaws
 mod ReadyLemmas
 pub mod RunLaws
 pub mod OutcomeLaws

@@ -1,14 +1,14 @@
 -- A package has one finding: its refusals and what it exports are lists in a strict order.
-use Rattle.std.proofs.Common.{◌≡◌, ℕ, zero, suc, ◌+◌, ◌<◌, ◌↔◌, inl, inr, true, List, [], ◌∷◌, length, Some, slice_get, map, Contains, refl, sym, ap, ◌∙◌, subst, arith}
+use Rattle.std.proofs.Common.{◌≡◌, ℕ, zero, suc, ◌<◌, inl, inr, true, List, [], ◌∷◌, length, Some, slice_get, map, refl, sym, ap, ◌∙◌, subst, arith}
 use Rattle.std.specs.declared.cmp.Ordering.{Ordering}
-use Rattle.std.specs.declared.cmp.Ordering.TheVariants.{Less, Equal, Greater}
+use Rattle.std.specs.declared.cmp.Ordering.TheVariants.{Less, Equal}
 use Rattle.std.specs.Ordering.{nat_cmp, is_lt}
 use Rattle.std.specs.Cmp.Lexicographic.{slice_cmp}
 use Rattle.std.proofs.lemmas.Cmp.{nat_list_cmp_total, tied_itself}
 use Rattle.std.proofs.lemmas.Option.{same_Some, slice_get_within}
 use Rattle.export_text.proofs.ExportLaws.{in_turn, less_of, one_sorted}
 use Rattle.package_faces.specs.Faces.{ObjectOut, Face}
-use Rattle.package_faces.specs.Orders.{rises, object_before}
+use Rattle.package_faces.specs.Orders.{object_before}
 use Rattle.package_faces.specs.Reaching.{IsExportOf}
 use Rattle.typed_marks.specs.declared.item.Item.{Item}
 use Rattle.typed_marks.specs.Meanings.{Meaning}
@@ -19,21 +19,19 @@ use Rattle.parse_file.specs.declared.verdict.FileVerdict.TheVariants.{Parsed}
 use Rattle.parse_file.specs.Verdict.{IsParsed}
 use Rattle.parse_file.proofs.VerdictLaws.{one_verdict}
 use Rattle.bind.specs.Answers.{AreSpelled}
+use Rattle.unit_read.specs.Imports.{bare}
 use Rattle.unit_read.specs.Units.{Unit}
 use Rattle.go_rules.specs.Stages.{rule}
-use Rattle.check_pkg.specs.declared.judging.Checked.{Checked}
-use Rattle.check_pkg.specs.declared.judging.Outcome.TheVariants as outcome
 use Rattle.check_pkg.specs.declared.refusal.Refusal.{Refusal}
-use Rattle.check_pkg.specs.Checks.{IsChecked, IsOutcomeOf as Comes}
-use Rattle.check_pkg.specs.Faults.{Precedes}
+use Rattle.check_pkg.specs.Faults.{IsOrdered, Precedes}
 use Rattle.check_pkg.specs.Interfaces.{HasExports, HasObjects, IsExported, declarations_of, unit_name}
-use Rattle.check_pkg.specs.Packages.{Package}
-use Rattle.check_pkg.specs.Refusals.{IsAnnotation, IsRefused}
+use Rattle.check_pkg.specs.Packages.{IsUnit, Package}
+use Rattle.check_pkg.specs.Refusals.{HasMarks, IsAnnotation, IsRefused}
 use Rattle.check_pkg.proofs.OneUnit.{the_unit}
 use Rattle.action_graph.specs.Nodes.{Named}
 use Rattle.action_graph.specs.Judging.{Judged, Env, AreParsed, IsPackageOf, Finds, line_of, text_of}
 use Rattle.action_graph.specs.Judging.Judged.{Accepts, Refuses}
-use Rattle.action_graph.proofs.OneList.{IsStrict, InOrder, same-list}
+use Rattle.action_graph.proofs.OneList.{IsStrict, same-list}
 
 precedes-trans : (a b c : Refusal) → Precedes a b → Precedes b c → Precedes a c
 precedes-trans a b c p q = elim p [
@@ -57,10 +55,17 @@ precedes : IsStrict Precedes
 precedes = record { trans = precedes-trans; itself = precedes-itself }
 
 -- a unit has one list of marks in order
-one-refused : (u : Unit) (c d : Checked) → IsChecked rule u c → IsChecked rule u d → c.refused.items ≡ d.refused.items
-one-refused u c d one other =
-    same-list Precedes precedes (IsRefused u other.marks.marks) c.refused.items d.refused.items one.ordered other.ordered
-    (one.marks.each other.marks.marks other.marks.annotated) (other.marks.each other.marks.marks other.marks.annotated)
+one-refused : (u : Unit) (xs ys : List Refusal) → HasMarks rule u xs → HasMarks rule u ys → IsOrdered xs → IsOrdered ys → xs ≡ ys
+one-refused u xs ys one other first second =
+    same-list Precedes precedes (IsRefused u other.marks) xs ys first second (one.each other.marks other.annotated.is) (other.each other.marks other.annotated.is)
+
+-- where a unit has no marks, nothing is in a list of them
+none-refused : (u : Unit) (xs : List Refusal) → HasMarks rule u [] → HasMarks rule u xs → xs ≡ []
+none-refused u [] one other = refl
+none-refused u (x ∷ xs) one other =
+    let refused : IsRefused u other.marks x = ((other.each other.marks other.annotated.is) x).0 (zero, omega arith, refl) in
+    let low = ((one.each other.marks other.annotated.is x).1 refused).1 in
+    absurd (omega (arith, low))
 
 -- ---- what is seen of a unit
 
@@ -83,7 +88,7 @@ module _ (u : Unit) (marks : Item → Meaning) (annotated : IsAnnotation rule u 
   -- a unit has one list of exported objects
   pub one-objects : (os ps : List ObjectOut) → HasObjects rule u os → HasObjects rule u ps → os ≡ ps
   one-objects os ps one other =
-      same-list NameBefore names (IsExported u marks) os ps (in_turn object_before os one.rise) (in_turn object_before ps other.rise) (one.each marks annotated) (other.each marks annotated)
+      same-list NameBefore names (IsExported (bare u) marks) os ps (in_turn object_before os one.rise) (in_turn object_before ps other.rise) (one.each marks annotated) (other.each marks annotated)
 
   -- what is seen of a unit is one value
   pub one-seen : (f g : Face) → HasExports rule u f → HasExports rule u g → f ≡ g
@@ -92,28 +97,27 @@ module _ (u : Unit) (marks : Item → Meaning) (annotated : IsAnnotation rule u 
       let first : IsExportOf (declarations_of u marks) u.path (unit_name u) g.objects f = subst (λ (os : List ObjectOut). IsExportOf (declarations_of u marks) u.path (unit_name u) os f) objects (one.reached marks annotated) in
       one_sorted (declarations_of u marks) u.path (unit_name u) g.objects f g first (other.reached marks annotated) one.types other.types one.methods other.methods
 
-module _ (p : Package) (env : Env) (spelled : AreSpelled p.trees p.files) (c d : Checked) (one : Comes rule p env (outcome.Checked c)) (other : Comes rule p env (outcome.Checked d)) where
-  unit-is : one.unit ≡ other.unit
-  unit-is = the_unit p env one.unit other.unit one.is other.is spelled
+module _ (p : Package) (env : Env) (spelled : AreSpelled p.trees p.files) (u v : Unit) (one : IsUnit p env u) (other : IsUnit p env v) where
+  unit-is : u ≡ v
+  unit-is = the_unit p env u v one other spelled
 
-  first : IsChecked rule other.unit c
-  first = subst (λ (u : Unit). IsChecked rule u c) unit-is one.comes
+  marks-here : (xs : List Refusal) → HasMarks rule u xs → HasMarks rule v xs
+  marks-here xs marks = subst (λ (x : Unit). HasMarks rule x xs) unit-is marks
 
-  same-refused : c.refused.items ≡ d.refused.items
-  same-refused = one-refused other.unit c d first other.comes
-
-  same-seen : (f g : Face) → HasExports rule one.unit f → HasExports rule other.unit g → f ≡ g
-  same-seen f g h k =
-      one-seen other.unit other.comes.marks.marks other.comes.marks.annotated f g (subst (λ (u : Unit). HasExports rule u f) unit-is h) k
+  exports-here : (f : Face) → HasExports rule u f → HasExports rule v f
+  exports-here f exports = subst (λ (x : Unit). HasExports rule x f) unit-is exports
 
 -- there is one finding of a package
 pub finds-once : (p : Package) (env : Env) (a b : Judged) → AreSpelled p.trees p.files → Finds p env a → Finds p env b → a ≡ b
-finds-once p env (Accepts f) (Accepts g) spelled (c, comes, none, exports, fit) (d, comes2, none2, exports2, fit2) =
-    ap Accepts (same-seen p env spelled c d comes comes2 f g exports exports2)
-finds-once p env (Accepts f) (Refuses lines) spelled (c, comes, none, exports, fit) (d, comes2, some, are) = absurd (some (sym (same-refused p env spelled c d comes comes2) ∙ none))
-finds-once p env (Refuses lines) (Accepts g) spelled (c, comes, some, is) (d, comes2, none, exports, fit) = absurd (some (same-refused p env spelled c d comes comes2 ∙ none))
-finds-once p env (Refuses lines) (Refuses lines2) spelled (c, comes, some, is) (d, comes2, some2, are) =
-    ap Refuses (is ∙ (ap (λ (list : List Refusal). map line_of list) (same-refused p env spelled c d comes comes2) ∙ sym are))
+finds-once p env (Accepts f) (Accepts g) spelled one other =
+    ap Accepts (one-seen other.unit other.marks.marks other.marks.annotated.is f g (exports-here p env spelled one.unit other.unit one.is other.is f one.exports) other.exports)
+finds-once p env (Accepts f) (Refuses lines) spelled one other =
+    absurd (other.some (none-refused other.unit other.list (marks-here p env spelled one.unit other.unit one.is other.is [] one.marks) other.marks))
+finds-once p env (Refuses lines) (Accepts g) spelled one other =
+    absurd (one.some (none-refused one.unit one.list (marks-here p env spelled other.unit one.unit other.is one.is [] other.marks) one.marks))
+finds-once p env (Refuses lines) (Refuses lines2) spelled one other =
+    let same = one-refused other.unit one.list other.list (marks-here p env spelled one.unit other.unit one.is other.is one.list one.marks) other.marks one.ordered other.ordered in
+    ap Refuses (one.lines_are ∙ (ap (λ (list : List Refusal). map line_of list) same ∙ sym other.lines_are))
 
 tree-is : (a b : FileTree) → Parsed a ≡ Parsed b → a ≡ b
 tree-is a b e = cc

@@ -61,11 +61,11 @@ stands files p at same lies =
 pub lines-stand : (path : List ℕ) (files : List Named) (env : Env) (lines : List MarkLine) (m : MarkLine) → Judges path files env (Refuses lines) → Contains lines m
     → (m.at.file < length files) × (m.at.offset ≤ length (get_or (map text_of files) m.at.file []))
 unfolding Judges
-lines-stand path files env lines m (p, (of, (c, comes, some, are))) member =
-    let refused : List Refusal = c.refused.items in
+lines-stand path files env lines m (p, (of, found)) member =
+    let refused : List Refusal = found.list in
     let here : slice_get lines member.0 ≡ Some m = slice_get-get_or lines member.0 m member.1 ∙ ap Some member.2 in
-    let made = made-of line_of refused member.0 m (ap (λ (l : List MarkLine). slice_get l member.0) (sym are) ∙ here) in
+    let made = made-of line_of refused member.0 m (ap (λ (l : List MarkLine). slice_get l member.0) (sym found.lines_are) ∙ here) in
     let at : made.0.place ≡ m.at = sym (line-at made.0.place made.0.fault) ∙ ap (λ (x : MarkLine). x.at) made.2 in
     let lies : Lies p made.0.place =
-    refusal_stands rule p env comes.unit refused comes.is (package-spelled path files p of) (in-text path files p of) comes.comes.marks made.0 (contained-had refused made.0 member.0 made.1) in
+    refusal_stands rule p env found.unit refused found.is (package-spelled path files p of) (in-text path files p of) found.marks made.0 (contained-had refused made.0 member.0 made.1) in
     stands files p m.at of.files (subst (Lies p) at lies)

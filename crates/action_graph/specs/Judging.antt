@@ -17,16 +17,17 @@ use Rattle.parse_file.specs.Verdict.{IsParsed}
 use Rattle.type_model.specs.Declarations.{Meets}
 use Rattle.type_model.specs.GoTypes.{is_defined}
 use Rattle.bind.specs.Answers.{AreSmall}
+use Rattle.unit_read.specs.Units.{Unit}
 use Rattle.go_rules.specs.Stages.{rule}
-use Rattle.check_pkg.specs.declared.judging.Checked.{Checked}
 use Rattle.check_pkg.specs.declared.judging.Outcome.TheVariants as outcome
 use Rattle.check_pkg.specs.declared.refusal.Fault.{Fault}
 use Rattle.check_pkg.specs.declared.refusal.Fault.TheVariants.{Rule as RuleFault, Limit as LimitFault}
 use Rattle.check_pkg.specs.declared.refusal.Refusal.{Refusal}
 use Rattle.check_pkg.specs.Checks.{IsOutcomeOf as Comes}
-use Rattle.check_pkg.specs.Faults.{limit_number}
+use Rattle.check_pkg.specs.Faults.{IsOrdered, limit_number}
 use Rattle.check_pkg.specs.Interfaces.{HasExports}
-use Rattle.check_pkg.specs.Packages.{Package}
+use Rattle.check_pkg.specs.Packages.{IsUnit, Package}
+use Rattle.check_pkg.specs.Refusals.{HasMarks}
 use Rattle.action_graph.specs.declared.kit.LoadInput.{LoadInput}
 use Rattle.action_graph.specs.declared.kit.Load.{Load}
 use Rattle.action_graph.specs.declared.kit.Load.TheVariants.{Accepted, Refused}
@@ -49,7 +50,7 @@ text_of file = file.1
 
 -- each text with its tree
 abbrev pub AreParsed : List (List ℕ) → List FileTree → Type 0
-AreParsed [] [] = Unit {0}
+AreParsed [] [] = Prim.Unit {0}
 AreParsed [] (tree ∷ trees) = ⊥
 AreParsed (text ∷ texts) [] = ⊥
 AreParsed (text ∷ texts) (tree ∷ trees) = IsParsed text tree × AreParsed texts trees
@@ -81,19 +82,36 @@ pub record IsFit (p : Package) (env : Env) (f : Face) : Type 0 where
   pub plain : (d : DefinedOut) → Contains f.types d → is_defined d.under ≡ false
   pub ends : (d : DefinedOut) → Contains f.types d → Meets (given [] (f ∷ env)) (own_name f.path d.name) d.under → ⊥
 
--- What is found of a package by the typing rules over what is seen of others: nothing refuses it, this is seen of it, and it can be imported;
--- or these refuse it, in order and each once.
+-- nothing refuses the package by the typing rules over what is seen of others, this is seen of it, and it can be imported
+pub record IsAccepted (p : Package) (env : Env) (f : Face) : Type 0 where
+  pub unit : Unit
+  pub «is» : IsUnit p env unit
+  pub marks : HasMarks rule unit []
+  pub exports : HasExports rule unit f
+  pub fit : IsFit p env f
+
+-- these refuse it, in order and each once
+pub record IsRefused (p : Package) (env : Env) (lines : List MarkLine) : Type 0 where
+  pub unit : Unit
+  pub «is» : IsUnit p env unit
+  pub list : List Refusal
+  pub marks : HasMarks rule unit list
+  pub ordered : IsOrdered list
+  pub some : list ≡ [] → ⊥
+  pub lines_are : lines ≡ map line_of list
+
+-- What is found of a package. It rests on the package, on what is seen of others and on the rules alone: no table of types is among it.
 abbrev pub Finds : Package → Env → Judged → Type 0
-Finds p env (Judged.Accepts f) = (c : Checked) × (comes : Comes rule p env (outcome.Checked c)) × (c.refused.items ≡ []) × HasExports rule comes.unit f × IsFit p env f
-Finds p env (Judged.Refuses lines) = (c : Checked) × Comes rule p env (outcome.Checked c) × (c.refused.items ≡ [] → ⊥) × (lines ≡ map line_of c.refused.items)
+Finds p env (Judged.Accepts f) = IsAccepted p env f
+Finds p env (Judged.Refuses lines) = IsRefused p env lines
 
 -- Nothing refuses the package, but what is seen of it can't be told to others: it has no text, since a type of it is local or has more than
 -- 10,000 nodes; or it can't be imported.
 pub record IsUntold (p : Package) (env : Env) : Type 0 where
-  pub checked : Checked
-  pub comes : Comes rule p env (outcome.Checked checked)
-  pub none : checked.refused.items ≡ []
-  pub untold : (f : Face) → HasExports rule comes.unit f → IsFace f → IsFit p env f → ⊥
+  pub unit : Unit
+  pub «is» : IsUnit p env unit
+  pub marks : HasMarks rule unit []
+  pub untold : (f : Face) → HasExports rule unit f → IsFace f → IsFit p env f → ⊥
 
 -- nothing is found of it: over its rules some item waits for itself, or what is seen of it can't be told
 abbrev pub HasNothing : Package → Env → Type 0
@@ -143,7 +161,7 @@ pub record IsSource (path : List ℕ) (files : List Named) : Type 0 where
 
 -- each export text with what is seen of a package as it spells it, the package beside whose path it stands
 abbrev pub AreInterfaces : List Named → Env → Type 0
-AreInterfaces [] [] = Unit {0}
+AreInterfaces [] [] = Prim.Unit {0}
 AreInterfaces [] (i ∷ env) = ⊥
 AreInterfaces (x ∷ xs) [] = ⊥
 AreInterfaces (x ∷ xs) (i ∷ env) = IsFaceText i x.1 × (i.path ≡ x.0) × AreInterfaces xs env
@@ -208,4 +226,4 @@ load_text (Refused marks) = refused_text marks
 -- the package as it was accepted
 abbrev pub IfAccepted : {L : Type 0} → Load L → (L → Type 0) → Type 0
 IfAccepted (Accepted loaded export) P = P loaded
-IfAccepted (Refused marks) P = Unit {0}
+IfAccepted (Refused marks) P = Prim.Unit {0}

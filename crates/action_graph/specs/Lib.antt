@@ -4,6 +4,7 @@ pub mod Work
 pub mod Ready
 pub mod Flags
 pub mod Judging
+pub mod Closed
 pub mod Analyzing
 pub mod Outcomes
 pub mod Standing

@@ -3,6 +3,7 @@ ghost use Rattle.std.specs.Prelude.{◌≡◌, ◌<◌, ◌≤◌, ℕ, List, []
 ghost use Rattle.gv_bytes.specs.Spelling.{items, AreItems};
 ghost use Rattle.action_graph.specs.Marks.{mark, IsMark};
 ghost use Rattle.action_graph.specs.Nodes.{Named, AreNamed, load_texts};
+ghost use Rattle.action_graph.specs.Closed.{Grows, IsClosed, Reserved};
 ghost use Rattle.action_graph.specs.Judging.{Env, Judged, Judges, IsOutcomeOf, Tells, text_of};
 ghost use Rattle.action_graph.specs.Judging.Judged.{Refuses};
 ghost use Rattle.action_graph.specs.Analyzing.{Analyzes, IsRunOutcome, IsRunOutcomeOf};
@@ -35,6 +36,11 @@ pub fn one_outcome()
 /// Each mark that refuses a package stands in one of its files, at its end at most.
 pub fn marks_stand()
     ensures { (path : List ℕ) (files : List Named) (env : Env) (lines : List MarkLine) (m : MarkLine) → Judges path files env (Refuses lines) → Contains lines m → (m.at.file < length files) × (m.at.offset ≤ length (get_or (map text_of files) m.at.file [])) }
+{}
+
+/// What is found of a package over what is seen of some others, where nothing lacks, is found where more is seen of them.
+pub fn findings_stay()
+    ensures { (path : List ℕ) (files : List Named) (env world : Env) (judged : Judged) → IsClosed path files env → Grows env world → Reserved world → Judges path files env judged → Judges path files world judged }
 {}
 
 /// A package has one finding, which has one text; and a text tells one finding.

@@ -15,8 +15,8 @@ pub use choose::ready;
 pub use go_rules::GoRules;
 pub use kit::{Kit, Load, LoadInput, RunInput, RunOf, RunOutcome, Unloaded};
 pub use laws::{
-    findings_stand, marks_stand, one_finding, one_load_input, one_marks_text, one_outcome,
-    one_run_input, one_run_outcome, outcome_is_read,
+    findings_stand, findings_stay, marks_stand, one_finding, one_load_input, one_marks_text,
+    one_outcome, one_run_input, one_run_outcome, outcome_is_read,
 };
 pub use marks::{MarkLine, read_marks, write_marks};
 pub use outcome::{facts_in, findings_in, write_outcome};

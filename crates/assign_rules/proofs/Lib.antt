@@ -1,5 +1,4 @@
 mod AroundLemmas
-pub mod FoundLaws
 mod RestLemmas
 mod SpecificationFacts
 pub mod TypeLemmas

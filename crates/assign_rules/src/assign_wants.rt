@@ -1,10 +1,9 @@
 //! What the places of values in assignments want.
 ghost use Rattle.std.specs.Prelude.{◌≡◌};
 ghost use Rattle.mark_walk.specs.Telling.{tell, Says};
-ghost use Rattle.typed_marks.specs.States.{so_far};
 ghost use Rattle.unit_read.specs.Subjects.{unit_of, IsRead};
 ghost use Rattle.rule_words.specs.Good.{known_of, AreFactsOf};
-ghost use Rattle.rule_words.specs.Scenes.{IsScene, told_by, IfFound, said, IsMarkOf};
+ghost use Rattle.rule_words.specs.Scenes.{sight, IsScene, told_by, IfFound, said, IsMarkOf};
 ghost use Rattle.assign_rules.specs.Assigning.{takes_any, target_wants, target_told, aimed_wants, value_for, value_beside, uneven_wants, value_wants, own_wants, right_wants, assign_wants};
 
 use crate::around::is_ignored;
@@ -35,7 +34,7 @@ pub fn takes_any(u: &Subject, file: u32, nodes: &[Node], kind: NodeKind, n: u32)
 
 fn target_wants(s: &State, x: Facts) -> Mark
     requires { AreFactsOf s.now x }
-    ensures is { Says (said s.now result) ≡ tell (so_far s.now) (target_wants (known_of s.now x)) }
+    ensures is { Says (said s.now result) ≡ tell (sight s.now) (target_wants (known_of s.now x)) }
     ensures over { IsMarkOf s.now result }
 {
     let _ = s;
@@ -45,7 +44,7 @@ fn target_wants(s: &State, x: Facts) -> Mark
 fn target_told(u: &Subject, s: &State, block: usize, n: u32, m: Mark) -> Found<Mark, Item>
     requires scene { IsScene u.now s.now }
     requires mark { IsMarkOf s.now m }
-    ensures is { told_by (said s.now) result ≡ tell (so_far s.now) (target_told (unit_of u.now) block n (said s.now m)) }
+    ensures is { told_by (said s.now) result ≡ tell (sight s.now) (target_told (unit_of u.now) block n (said s.now m)) }
     ensures over { IfFound result (IsMarkOf s.now) }
 {
     match known(s, m) {
@@ -56,7 +55,7 @@ fn target_told(u: &Subject, s: &State, block: usize, n: u32, m: Mark) -> Found<M
 
 fn aimed_wants(u: &Subject, s: &State, block: usize, n: u32, t: u32) -> Found<Mark, Item>
     requires { IsScene u.now s.now }
-    ensures is { told_by (said s.now) result ≡ tell (so_far s.now) (aimed_wants (unit_of u.now) block n t) }
+    ensures is { told_by (said s.now) result ≡ tell (sight s.now) (aimed_wants (unit_of u.now) block n t) }
     ensures over { IfFound result (IsMarkOf s.now) }
 {
     match look(u, s, Stage::Placed, block, t) {
@@ -76,7 +75,7 @@ fn value_for(
     t: u32,
 ) -> Found<Mark, Item>
     requires { IsScene u.now s.now }
-    ensures is { told_by (said s.now) result ≡ tell (so_far s.now) (value_for (unit_of u.now) block file nodes.now kind n t) }
+    ensures is { told_by (said s.now) result ≡ tell (sight s.now) (value_for (unit_of u.now) block file nodes.now kind n t) }
     ensures over { IfFound result (IsMarkOf s.now) }
 {
     if takes_any(u, file, nodes, kind, t) {
@@ -97,7 +96,7 @@ fn value_beside(
     i: usize,
 ) -> Found<Mark, Item>
     requires { IsScene u.now s.now }
-    ensures is { told_by (said s.now) result ≡ tell (so_far s.now) (value_beside (unit_of u.now) block file nodes.now around.now n i) }
+    ensures is { told_by (said s.now) result ≡ tell (sight s.now) (value_beside (unit_of u.now) block file nodes.now around.now n i) }
     ensures over { IfFound result (IsMarkOf s.now) }
 {
     match item(nodes, part_of(around, 0), i) {
@@ -108,7 +107,7 @@ fn value_beside(
 
 fn uneven_wants(u: &Subject, s: &State, block: usize, kind: NodeKind, n: u32) -> Found<Mark, Item>
     requires { IsScene u.now s.now }
-    ensures is { told_by (said s.now) result ≡ tell (so_far s.now) (uneven_wants (unit_of u.now) block kind n) }
+    ensures is { told_by (said s.now) result ≡ tell (sight s.now) (uneven_wants (unit_of u.now) block kind n) }
     ensures over { IfFound result (IsMarkOf s.now) }
 {
     match kind {
@@ -128,7 +127,7 @@ fn value_wants(
     n: u32,
 ) -> Found<Mark, Item>
     requires { IsScene u.now s.now }
-    ensures is { told_by (said s.now) result ≡ tell (so_far s.now) (value_wants (unit_of u.now) block file nodes.now around.now i n) }
+    ensures is { told_by (said s.now) result ≡ tell (sight s.now) (value_wants (unit_of u.now) block file nodes.now around.now i n) }
     ensures over { IfFound result (IsMarkOf s.now) }
 {
     if name_count(nodes, around) == value_count(nodes, 1, around) {
@@ -148,7 +147,7 @@ fn own_wants(
     i: usize,
 ) -> Found<Mark, Item>
     requires { IsScene u.now s.now }
-    ensures is { told_by (said s.now) result ≡ tell (so_far s.now) (own_wants (unit_of u.now) block file nodes.now around.now i) }
+    ensures is { told_by (said s.now) result ≡ tell (sight s.now) (own_wants (unit_of u.now) block file nodes.now around.now i) }
     ensures over { IfFound result (IsMarkOf s.now) }
 {
     match item(nodes, part_of(around, 1), i) {
@@ -167,7 +166,7 @@ fn right_wants(
     i: usize,
 ) -> Found<Mark, Item>
     requires { IsScene u.now s.now }
-    ensures is { told_by (said s.now) result ≡ tell (so_far s.now) (right_wants (unit_of u.now) block file nodes.now around.now i) }
+    ensures is { told_by (said s.now) result ≡ tell (sight s.now) (right_wants (unit_of u.now) block file nodes.now around.now i) }
     ensures over { IfFound result (IsMarkOf s.now) }
 {
     let shared = shared_value(u, file, nodes, 1, around);
@@ -188,7 +187,7 @@ pub fn want_assign(
     around: &Node,
 ) -> Found<Mark, Item>
     requires { IsScene u.now s.now }
-    ensures is { told_by (said s.now) result ≡ tell (so_far s.now) (assign_wants (unit_of u.now) block file p around.now) }
+    ensures is { told_by (said s.now) result ≡ tell (sight s.now) (assign_wants (unit_of u.now) block file p around.now) }
     ensures over { IfFound result (IsMarkOf s.now) }
 {
     if p.slot == 1 {

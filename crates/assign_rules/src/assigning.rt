@@ -3,10 +3,9 @@ ghost use Rattle.std.specs.Prelude.{◌≡◌, option_map, ◌||◌, length};
 ghost use Rattle.mark_walk.specs.Telling.{tell};
 ghost use Rattle.package_objects.specs.Declares.{items};
 ghost use Rattle.typed_tree.specs.Basics.{HasBasics};
-ghost use Rattle.typed_marks.specs.States.{so_far};
 ghost use Rattle.unit_read.specs.Subjects.{unit_of, IsRead};
 ghost use Rattle.rule_words.specs.Good.{known_of, AreFactsOf};
-ghost use Rattle.rule_words.specs.Scenes.{IsScene, said, IsMarkOf, type_in, IsTypeOf, MayBeTypeOf};
+ghost use Rattle.rule_words.specs.Scenes.{sight, IsScene, said, IsMarkOf, type_in, IsTypeOf, MayBeTypeOf};
 ghost use Rattle.rule_words.specs.Steps.{step_in, IsStepOf};
 ghost use Rattle.assign_rules.specs.Assigning.{is_target_mode, target_known, target_rule, is_used, is_new, is_new_at, any_new, has_new, shared_mark, shared_told, shared_rule, equal_rule, counted_rule, assign_rule, define_rule, counts_under, counts_told, counts_known, counts_placed, counts_part, step_rule};
 ghost use Rattle.assign_rules.specs.Words.{placed_good};
@@ -39,7 +38,7 @@ fn is_target_mode(mode: Mode) -> bool
 
 fn target_known(s: &State, x: Facts) -> Step
     requires { AreFactsOf s.now x }
-    ensures is { step_in s.now result ≡ tell (so_far s.now) (target_known (known_of s.now x)) }
+    ensures is { step_in s.now result ≡ tell (sight s.now) (target_known (known_of s.now x)) }
     ensures over { IsStepOf s.now result }
 {
     let _ = s;
@@ -52,7 +51,7 @@ fn target_known(s: &State, x: Facts) -> Step
 
 fn target_placed(s: &State, m: Mark) -> Step
     requires { IsMarkOf s.now m }
-    ensures is { step_in s.now result ≡ tell (so_far s.now) (placed_good target_known (said s.now m)) }
+    ensures is { step_in s.now result ≡ tell (sight s.now) (placed_good target_known (said s.now m)) }
     ensures over { IsStepOf s.now result }
 {
     match m {
@@ -69,7 +68,7 @@ fn target_placed(s: &State, m: Mark) -> Step
 pub fn judge_target(u: &Subject, s: &State, file: u32, n: u32, m: Mark) -> Step
     requires basics { HasBasics s.now.table }
     requires mark { IsMarkOf s.now m }
-    ensures is { step_in s.now result ≡ tell (so_far s.now) (target_rule (unit_of u.now) file n (said s.now m)) }
+    ensures is { step_in s.now result ≡ tell (sight s.now) (target_rule (unit_of u.now) file n (said s.now m)) }
     ensures over { IsStepOf s.now result }
 {
     if is_ignored(u, file, u.nodes_at(file), n) {
@@ -136,7 +135,7 @@ pub fn has_new(u: &Subject, file: u32, nodes: &[Node], node: &Node) -> bool
 fn shared_mark(s: &State, many: usize, bad: bool, x: Facts) -> Step
     requires basics { HasBasics s.now.table }
     requires facts { AreFactsOf s.now x }
-    ensures is { step_in s.now result ≡ tell (so_far s.now) (shared_mark many bad (known_of s.now x)) }
+    ensures is { step_in s.now result ≡ tell (sight s.now) (shared_mark many bad (known_of s.now x)) }
     ensures over { IsStepOf s.now result }
 {
     settled_if(s, gives(s, x, many), WRONG_NUMBER_OF_OPERANDS, bad)
@@ -145,7 +144,7 @@ fn shared_mark(s: &State, many: usize, bad: bool, x: Facts) -> Step
 fn shared_told(s: &State, many: usize, bad: bool, m: Mark) -> Step
     requires basics { HasBasics s.now.table }
     requires mark { IsMarkOf s.now m }
-    ensures is { step_in s.now result ≡ tell (so_far s.now) (shared_told many bad (said s.now m)) }
+    ensures is { step_in s.now result ≡ tell (sight s.now) (shared_told many bad (said s.now m)) }
     ensures over { IsStepOf s.now result }
 {
     match known(s, m) {
@@ -156,7 +155,7 @@ fn shared_told(s: &State, many: usize, bad: bool, m: Mark) -> Step
 
 fn shared(u: &Subject, s: &State, block: usize, many: usize, bad: bool, n: u32) -> Step
     requires { IsScene u.now s.now }
-    ensures is { step_in s.now result ≡ tell (so_far s.now) (shared_rule (unit_of u.now) block many bad n) }
+    ensures is { step_in s.now result ≡ tell (sight s.now) (shared_rule (unit_of u.now) block many bad n) }
     ensures over { IsStepOf s.now result }
 {
     match look(u, s, Stage::Placed, block, n) {
@@ -167,7 +166,7 @@ fn shared(u: &Subject, s: &State, block: usize, many: usize, bad: bool, n: u32) 
 
 fn equal(s: &State, names: usize, values: usize, bad: bool) -> Step
     requires { HasBasics s.now.table }
-    ensures is { step_in s.now result ≡ tell (so_far s.now) (equal_rule names values bad) }
+    ensures is { step_in s.now result ≡ tell (sight s.now) (equal_rule names values bad) }
     ensures over { IsStepOf s.now result }
 {
     settled_if(s, names == values, WRONG_NUMBER_OF_OPERANDS, bad)
@@ -183,7 +182,7 @@ fn counted(
     bad: bool,
 ) -> Step
     requires { IsScene u.now s.now }
-    ensures is { step_in s.now result ≡ tell (so_far s.now) (counted_rule (unit_of u.now) block file nodes.now node.now bad) }
+    ensures is { step_in s.now result ≡ tell (sight s.now) (counted_rule (unit_of u.now) block file nodes.now node.now bad) }
     ensures over { IsStepOf s.now result }
 {
     let names = name_count(nodes, node);
@@ -196,7 +195,7 @@ fn counted(
 /// How far the rule of an assignment goes: E73, E86.
 pub fn judge_assign(u: &Subject, s: &State, block: usize, at: NodeRef, node: &Node) -> Step
     requires { IsScene u.now s.now }
-    ensures is { step_in s.now result ≡ tell (so_far s.now) (assign_rule (unit_of u.now) block at node.now) }
+    ensures is { step_in s.now result ≡ tell (sight s.now) (assign_rule (unit_of u.now) block at node.now) }
     ensures over { IsStepOf s.now result }
 {
     let bad = is_bad_case(u, at, node);
@@ -206,7 +205,7 @@ pub fn judge_assign(u: &Subject, s: &State, block: usize, at: NodeRef, node: &No
 /// How far the rule of a short variable declaration goes: E8, E73, E86.
 pub fn judge_define(u: &Subject, s: &State, block: usize, at: NodeRef, node: &Node) -> Step
     requires { IsScene u.now s.now }
-    ensures is { step_in s.now result ≡ tell (so_far s.now) (define_rule (unit_of u.now) block at node.now) }
+    ensures is { step_in s.now result ≡ tell (sight s.now) (define_rule (unit_of u.now) block at node.now) }
     ensures over { IsStepOf s.now result }
 {
     if has_new(u, at.file, u.nodes_at(at.file), node) {
@@ -221,7 +220,7 @@ pub fn judge_define(u: &Subject, s: &State, block: usize, at: NodeRef, node: &No
 fn counts_under(s: &State, bad: bool, under: TypeId) -> Step
     requires basics { HasBasics s.now.table }
     requires under { IsTypeOf s.now under }
-    ensures is { step_in s.now result ≡ tell (so_far s.now) (counts_under bad (type_in s.now under)) }
+    ensures is { step_in s.now result ≡ tell (sight s.now) (counts_under bad (type_in s.now under)) }
     ensures over { IsStepOf s.now result }
 {
     settled_if(s, is_integer(s, under), OPERATOR_NOT_DEFINED, bad)
@@ -230,7 +229,7 @@ fn counts_under(s: &State, bad: bool, under: TypeId) -> Step
 fn counts_told(s: &State, bad: bool, under: Option<TypeId>) -> Step
     requires basics { HasBasics s.now.table }
     requires under { MayBeTypeOf s.now under }
-    ensures is { step_in s.now result ≡ tell (so_far s.now) (counts_told bad (option_map (type_in s.now) under)) }
+    ensures is { step_in s.now result ≡ tell (sight s.now) (counts_told bad (option_map (type_in s.now) under)) }
     ensures over { IsStepOf s.now result }
 {
     match under {
@@ -242,7 +241,7 @@ fn counts_told(s: &State, bad: bool, under: Option<TypeId>) -> Step
 fn counts_known(u: &Subject, s: &State, bad: bool, x: Facts) -> Step
     requires scene { IsScene u.now s.now }
     requires facts { AreFactsOf s.now x }
-    ensures is { step_in s.now result ≡ tell (so_far s.now) (counts_known (unit_of u.now) bad (known_of s.now x)) }
+    ensures is { step_in s.now result ≡ tell (sight s.now) (counts_known (unit_of u.now) bad (known_of s.now x)) }
     ensures over { IsStepOf s.now result }
 {
     match under_of(u, s, x.of) {
@@ -254,7 +253,7 @@ fn counts_known(u: &Subject, s: &State, bad: bool, x: Facts) -> Step
 fn counts_placed(u: &Subject, s: &State, bad: bool, m: Mark) -> Step
     requires scene { IsScene u.now s.now }
     requires mark { IsMarkOf s.now m }
-    ensures is { step_in s.now result ≡ tell (so_far s.now) (counts_placed (unit_of u.now) bad (said s.now m)) }
+    ensures is { step_in s.now result ≡ tell (sight s.now) (counts_placed (unit_of u.now) bad (said s.now m)) }
     ensures over { IsStepOf s.now result }
 {
     match known(s, m) {
@@ -265,7 +264,7 @@ fn counts_placed(u: &Subject, s: &State, bad: bool, m: Mark) -> Step
 
 fn counts_part(u: &Subject, s: &State, block: usize, bad: bool, n: u32) -> Step
     requires { IsScene u.now s.now }
-    ensures is { step_in s.now result ≡ tell (so_far s.now) (counts_part (unit_of u.now) block bad n) }
+    ensures is { step_in s.now result ≡ tell (sight s.now) (counts_part (unit_of u.now) block bad n) }
     ensures over { IsStepOf s.now result }
 {
     match look(u, s, Stage::Placed, block, n) {
@@ -277,7 +276,7 @@ fn counts_part(u: &Subject, s: &State, block: usize, bad: bool, n: u32) -> Step
 /// How far the rule of `++` and `--` goes: E34, E86.
 pub fn judge_step(u: &Subject, s: &State, block: usize, at: NodeRef, node: &Node) -> Step
     requires { IsScene u.now s.now }
-    ensures is { step_in s.now result ≡ tell (so_far s.now) (step_rule (unit_of u.now) block at node.now) }
+    ensures is { step_in s.now result ≡ tell (sight s.now) (step_rule (unit_of u.now) block at node.now) }
     ensures over { IsStepOf s.now result }
 {
     match part_of(node, 0) {

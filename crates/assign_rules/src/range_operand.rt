@@ -180,7 +180,7 @@ fn operand_told(
     }
 }
 
-#[tactic(auto, using(crate::proofs::FoundLaws::says_comes, crate::proofs::FoundLaws::waits_awaited))]
+#[tactic(auto, using(type_answers::proofs::ComingLaws::says_comes, type_answers::proofs::ComingLaws::waits_awaited))]
 fn operand_good(
     alloc: Global,
     u: &Subject,

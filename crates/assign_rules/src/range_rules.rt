@@ -2,10 +2,9 @@
 ghost use Rattle.std.specs.Prelude.{◌≡◌};
 ghost use Rattle.mark_walk.specs.Telling.{tell, Says};
 ghost use Rattle.typed_tree.specs.Basics.{HasBasics};
-ghost use Rattle.typed_marks.specs.States.{so_far};
 ghost use Rattle.unit_read.specs.Subjects.{unit_of};
 ghost use Rattle.rule_words.specs.Good.{known_of, AreFactsOf};
-ghost use Rattle.rule_words.specs.Scenes.{IsScene, said, IsMarkOf};
+ghost use Rattle.rule_words.specs.Scenes.{sight, IsScene, said, IsMarkOf};
 ghost use Rattle.rule_words.specs.Steps.{step_in, IsStepOf};
 ghost use Rattle.assign_rules.specs.InCode.{ranged_in, IsRangedOf, ranging_in, IsRangingOf};
 ghost use Rattle.assign_rules.specs.Ranging.{left_count, operand_slot, permitted, range_counted, range_held, range_known, range_placed, range_operand, range_by, range_rule, range_define_rule, range_wants};
@@ -57,7 +56,7 @@ fn permitted(s: &State, r: Ranged) -> usize
 fn range_counted(s: &State, many: usize, r: Ranged) -> Step
     requires basics { HasBasics s.now.table }
     requires within { IsRangedOf s.now r }
-    ensures is { step_in s.now result ≡ tell (so_far s.now) (range_counted many (ranged_in s.now r)) }
+    ensures is { step_in s.now result ≡ tell (sight s.now) (range_counted many (ranged_in s.now r)) }
     ensures over { IsStepOf s.now result }
 {
     held_if(s, many <= permitted(s, r), TOO_MANY_RANGE_VARIABLES)
@@ -66,7 +65,7 @@ fn range_counted(s: &State, many: usize, r: Ranged) -> Step
 fn range_held(s: &State, many: usize, told: Ranging) -> Step
     requires basics { HasBasics s.now.table }
     requires within { IsRangingOf s.now told }
-    ensures is { step_in s.now result ≡ tell (so_far s.now) (range_held many (ranging_in s.now told)) }
+    ensures is { step_in s.now result ≡ tell (sight s.now) (range_held many (ranging_in s.now told)) }
     ensures over { IsStepOf s.now result }
 {
     match told {
@@ -79,7 +78,7 @@ fn range_held(s: &State, many: usize, told: Ranging) -> Step
 fn range_known(u: &Subject, s: &State, many: usize, x: Facts) -> Step
     requires scene { IsScene u.now s.now }
     requires facts { AreFactsOf s.now x }
-    ensures is { step_in s.now result ≡ tell (so_far s.now) (range_known (unit_of u.now) many (known_of s.now x)) }
+    ensures is { step_in s.now result ≡ tell (sight s.now) (range_known (unit_of u.now) many (known_of s.now x)) }
     ensures over { IsStepOf s.now result }
 {
     match ranging_of(u, s, x) {
@@ -91,7 +90,7 @@ fn range_known(u: &Subject, s: &State, many: usize, x: Facts) -> Step
 fn range_placed(u: &Subject, s: &State, many: usize, m: Mark) -> Step
     requires scene { IsScene u.now s.now }
     requires mark { IsMarkOf s.now m }
-    ensures is { step_in s.now result ≡ tell (so_far s.now) (range_placed (unit_of u.now) many (said s.now m)) }
+    ensures is { step_in s.now result ≡ tell (sight s.now) (range_placed (unit_of u.now) many (said s.now m)) }
     ensures over { IsStepOf s.now result }
 {
     match known(s, m) {
@@ -102,7 +101,7 @@ fn range_placed(u: &Subject, s: &State, many: usize, m: Mark) -> Step
 
 fn range_operand(u: &Subject, s: &State, block: usize, many: usize, n: u32) -> Step
     requires { IsScene u.now s.now }
-    ensures is { step_in s.now result ≡ tell (so_far s.now) (range_operand (unit_of u.now) block many n) }
+    ensures is { step_in s.now result ≡ tell (sight s.now) (range_operand (unit_of u.now) block many n) }
     ensures over { IsStepOf s.now result }
 {
     match look(u, s, Stage::Placed, block, n) {
@@ -113,7 +112,7 @@ fn range_operand(u: &Subject, s: &State, block: usize, many: usize, n: u32) -> S
 
 fn range_by(u: &Subject, s: &State, block: usize, many: usize, node: &Node) -> Step
     requires { IsScene u.now s.now }
-    ensures is { step_in s.now result ≡ tell (so_far s.now) (range_by (unit_of u.now) block many node.now) }
+    ensures is { step_in s.now result ≡ tell (sight s.now) (range_by (unit_of u.now) block many node.now) }
     ensures over { IsStepOf s.now result }
 {
     match part_of(node, operand_slot(node.kind)) {
@@ -125,7 +124,7 @@ fn range_by(u: &Subject, s: &State, block: usize, many: usize, node: &Node) -> S
 /// How far the rule of a `for` with a range clause goes: E79, E80.
 pub fn judge_range(u: &Subject, s: &State, block: usize, file: u32, node: &Node) -> Step
     requires { IsScene u.now s.now }
-    ensures is { step_in s.now result ≡ tell (so_far s.now) (range_rule (unit_of u.now) block file node.now) }
+    ensures is { step_in s.now result ≡ tell (sight s.now) (range_rule (unit_of u.now) block file node.now) }
     ensures over { IsStepOf s.now result }
 {
     let many = left_count(u.nodes_at(file), node.kind, node);
@@ -135,7 +134,7 @@ pub fn judge_range(u: &Subject, s: &State, block: usize, file: u32, node: &Node)
 /// How far it goes where the clause declares names: E8, E79, E80.
 pub fn judge_range_define(u: &Subject, s: &State, block: usize, file: u32, node: &Node) -> Step
     requires { IsScene u.now s.now }
-    ensures is { step_in s.now result ≡ tell (so_far s.now) (range_define_rule (unit_of u.now) block file node.now) }
+    ensures is { step_in s.now result ≡ tell (sight s.now) (range_define_rule (unit_of u.now) block file node.now) }
     ensures over { IsStepOf s.now result }
 {
     if has_new(u, file, u.nodes_at(file), node) {
@@ -147,7 +146,7 @@ pub fn judge_range_define(u: &Subject, s: &State, block: usize, file: u32, node:
 
 /// What the places in a range clause want.
 pub fn want_range(s: &State, p: Place, around: &Node) -> Mark
-    ensures is { Says (said s.now result) ≡ tell (so_far s.now) (range_wants p around.now) }
+    ensures is { Says (said s.now result) ≡ tell (sight s.now) (range_wants p around.now) }
     ensures over { IsMarkOf s.now result }
 {
     let _ = s;

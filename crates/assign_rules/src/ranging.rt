@@ -5,10 +5,9 @@ ghost use Rattle.std.specs.Prelude.{◌≡◌, option_map, ◌==◌, if◌then�
 ghost use Rattle.mark_walk.specs.Telling.{tell, Says};
 ghost use Rattle.typed_tree.specs.Basics.{HasBasics};
 ghost use Rattle.typed_tree.specs.Operands.{is_text};
-ghost use Rattle.typed_marks.specs.States.{so_far};
 ghost use Rattle.unit_read.specs.Subjects.{unit_of};
 ghost use Rattle.rule_words.specs.Good.{known_of, AreFactsOf};
-ghost use Rattle.rule_words.specs.Scenes.{IsScene, told_by, IfFound, type_in, IsTypeOf, MayBeTypeOf};
+ghost use Rattle.rule_words.specs.Scenes.{sight, IsScene, told_by, IfFound, type_in, IsTypeOf, MayBeTypeOf};
 ghost use Rattle.assign_rules.specs.InCode.{ranged_in, IsRangedOf, ranging_in, IsRangingOf};
 ghost use Rattle.assign_rules.specs.Ranging.{pair_of, indexed, text_ranged, only_one, received_from, ranging_of, pointed_ranging, pointed_told, ranging_under, ranging_told, ranging_ask, ranged_type};
 
@@ -128,7 +127,7 @@ fn pointed_ranging(s: &State, under: TypeId) -> Ranging
 fn pointed_in(s: &State, under: Option<TypeId>) -> Ranging
     requires basics { HasBasics s.now.table }
     requires within { MayBeTypeOf s.now under }
-    ensures is { Says (ranging_in s.now result) ≡ tell (so_far s.now) (pointed_told (option_map (type_in s.now) under)) }
+    ensures is { Says (ranging_in s.now result) ≡ tell (sight s.now) (pointed_told (option_map (type_in s.now) under)) }
     ensures within { IsRangingOf s.now result }
 {
     match under {
@@ -140,7 +139,7 @@ fn pointed_in(s: &State, under: Option<TypeId>) -> Ranging
 fn pointed(u: &Subject, s: &State, of: TypeId) -> Found<Ranging, Item>
     requires scene { IsScene u.now s.now }
     requires within { IsTypeOf s.now of }
-    ensures is { told_by (ranging_in s.now) result ≡ tell (so_far s.now) (bind (under_ask (unit_of u.now) (type_in s.now of)) pointed_told) }
+    ensures is { told_by (ranging_in s.now) result ≡ tell (sight s.now) (bind (under_ask (unit_of u.now) (type_in s.now of)) pointed_told) }
     ensures within { IfFound result (IsRangingOf s.now) }
 {
     match under_of(u, s, of) {
@@ -154,7 +153,7 @@ fn pointed(u: &Subject, s: &State, of: TypeId) -> Found<Ranging, Item>
 fn ranging_under(u: &Subject, s: &State, under: TypeId) -> Found<Ranging, Item>
     requires scene { IsScene u.now s.now }
     requires within { IsTypeOf s.now under }
-    ensures is { told_by (ranging_in s.now) result ≡ tell (so_far s.now) (ranging_under (unit_of u.now) (type_in s.now under)) }
+    ensures is { told_by (ranging_in s.now) result ≡ tell (sight s.now) (ranging_under (unit_of u.now) (type_in s.now under)) }
     ensures within { IfFound result (IsRangingOf s.now) }
 {
     match s.table.term(under) {
@@ -174,7 +173,7 @@ fn ranging_under(u: &Subject, s: &State, under: TypeId) -> Found<Ranging, Item>
 fn ranging_told(u: &Subject, s: &State, under: Option<TypeId>) -> Found<Ranging, Item>
     requires scene { IsScene u.now s.now }
     requires within { MayBeTypeOf s.now under }
-    ensures is { told_by (ranging_in s.now) result ≡ tell (so_far s.now) (ranging_told (unit_of u.now) (option_map (type_in s.now) under)) }
+    ensures is { told_by (ranging_in s.now) result ≡ tell (sight s.now) (ranging_told (unit_of u.now) (option_map (type_in s.now) under)) }
     ensures within { IfFound result (IsRangingOf s.now) }
 {
     match under {
@@ -188,7 +187,7 @@ fn ranging_told(u: &Subject, s: &State, under: Option<TypeId>) -> Found<Ranging,
 pub fn ranging_of(u: &Subject, s: &State, x: Facts) -> Found<Ranging, Item>
     requires scene { IsScene u.now s.now }
     requires facts { AreFactsOf s.now x }
-    ensures is { told_by (ranging_in s.now) result ≡ tell (so_far s.now) (ranging_ask (unit_of u.now) (known_of s.now x)) }
+    ensures is { told_by (ranging_in s.now) result ≡ tell (sight s.now) (ranging_ask (unit_of u.now) (known_of s.now x)) }
     ensures within { IfFound result (IsRangingOf s.now) }
 {
     match under_of(u, s, x.last) {

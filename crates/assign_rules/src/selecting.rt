@@ -1,10 +1,10 @@
 //! Select statements.
 ghost use Rattle.std.specs.Prelude.{◌≡◌, slice_get, false};
+ghost use Rattle.rule_words.specs.Scenes.{sight};
 ghost use Rattle.std.specs.Option.{option_map_or};
 ghost use Rattle.mark_walk.specs.Telling.{tell};
 ghost use Rattle.package_objects.specs.Declares.{items, part};
 ghost use Rattle.typed_tree.specs.Basics.{HasBasics};
-ghost use Rattle.typed_marks.specs.States.{so_far};
 ghost use Rattle.unit_read.specs.Subjects.{unit_of, IsRead};
 ghost use Rattle.rule_words.specs.Steps.{step_in, IsStepOf};
 ghost use Rattle.assign_rules.specs.Selecting.{receives, receives_at, is_comm, receives_first, receives_one, communicates, is_case, in_select, is_bad_case, comm_rule};
@@ -101,7 +101,7 @@ pub fn is_bad_case(u: &Subject, at: NodeRef, node: &Node) -> bool
 /// How far the rule of a clause goes: E86.
 pub fn judge_comm(s: &State, node: &Node) -> Step
     requires { HasBasics s.now.table }
-    ensures is { step_in s.now result ≡ tell (so_far s.now) (comm_rule node.now) }
+    ensures is { step_in s.now result ≡ tell (sight s.now) (comm_rule node.now) }
     ensures over { IsStepOf s.now result }
 {
     held_if(s, !(part_count(node) == 1), BAD_SELECT_CASE)

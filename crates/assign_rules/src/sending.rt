@@ -2,10 +2,9 @@
 ghost use Rattle.std.specs.Prelude.{◌≡◌, option_map};
 ghost use Rattle.mark_walk.specs.Telling.{tell};
 ghost use Rattle.typed_tree.specs.Basics.{HasBasics};
-ghost use Rattle.typed_marks.specs.States.{so_far};
 ghost use Rattle.unit_read.specs.Subjects.{unit_of};
 ghost use Rattle.rule_words.specs.Good.{known_of, AreFactsOf};
-ghost use Rattle.rule_words.specs.Scenes.{IsScene, told_by, IfFound, said, IsMarkOf, type_in, IsTypeOf, MayBeTypeOf};
+ghost use Rattle.rule_words.specs.Scenes.{sight, IsScene, told_by, IfFound, said, IsMarkOf, type_in, IsTypeOf, MayBeTypeOf};
 ghost use Rattle.rule_words.specs.Steps.{step_in, IsStepOf};
 ghost use Rattle.assign_rules.specs.Sending.{sent_along, element_of, send_under, send_told, send_known, send_placed, send_part, send_rule, element_wants, sent_told, sent_by, sent_wants, sent_beside, value_wants, send_wants};
 
@@ -59,7 +58,7 @@ fn element_of(s: &State, under: TypeId) -> Option<TypeId>
 fn send_under(s: &State, under: TypeId) -> Step
     requires basics { HasBasics s.now.table }
     requires under { IsTypeOf s.now under }
-    ensures is { step_in s.now result ≡ tell (so_far s.now) (send_under (type_in s.now under)) }
+    ensures is { step_in s.now result ≡ tell (sight s.now) (send_under (type_in s.now under)) }
     ensures over { IsStepOf s.now result }
 {
     match element_of(s, under) {
@@ -71,7 +70,7 @@ fn send_under(s: &State, under: TypeId) -> Step
 fn send_told(s: &State, under: Option<TypeId>) -> Step
     requires basics { HasBasics s.now.table }
     requires under { MayBeTypeOf s.now under }
-    ensures is { step_in s.now result ≡ tell (so_far s.now) (send_told (option_map (type_in s.now) under)) }
+    ensures is { step_in s.now result ≡ tell (sight s.now) (send_told (option_map (type_in s.now) under)) }
     ensures over { IsStepOf s.now result }
 {
     match under {
@@ -83,7 +82,7 @@ fn send_told(s: &State, under: Option<TypeId>) -> Step
 fn send_known(u: &Subject, s: &State, x: Facts) -> Step
     requires scene { IsScene u.now s.now }
     requires facts { AreFactsOf s.now x }
-    ensures is { step_in s.now result ≡ tell (so_far s.now) (send_known (unit_of u.now) (known_of s.now x)) }
+    ensures is { step_in s.now result ≡ tell (sight s.now) (send_known (unit_of u.now) (known_of s.now x)) }
     ensures over { IsStepOf s.now result }
 {
     match under_of(u, s, x.last) {
@@ -95,7 +94,7 @@ fn send_known(u: &Subject, s: &State, x: Facts) -> Step
 fn send_placed(u: &Subject, s: &State, m: Mark) -> Step
     requires scene { IsScene u.now s.now }
     requires mark { IsMarkOf s.now m }
-    ensures is { step_in s.now result ≡ tell (so_far s.now) (send_placed (unit_of u.now) (said s.now m)) }
+    ensures is { step_in s.now result ≡ tell (sight s.now) (send_placed (unit_of u.now) (said s.now m)) }
     ensures over { IsStepOf s.now result }
 {
     match known(s, m) {
@@ -106,7 +105,7 @@ fn send_placed(u: &Subject, s: &State, m: Mark) -> Step
 
 fn send_part(u: &Subject, s: &State, block: usize, n: u32) -> Step
     requires { IsScene u.now s.now }
-    ensures is { step_in s.now result ≡ tell (so_far s.now) (send_part (unit_of u.now) block n) }
+    ensures is { step_in s.now result ≡ tell (sight s.now) (send_part (unit_of u.now) block n) }
     ensures over { IsStepOf s.now result }
 {
     match look(u, s, Stage::Placed, block, n) {
@@ -118,7 +117,7 @@ fn send_part(u: &Subject, s: &State, block: usize, n: u32) -> Step
 /// How far the rule of a send statement goes: E77.
 pub fn judge_send(u: &Subject, s: &State, block: usize, node: &Node) -> Step
     requires { IsScene u.now s.now }
-    ensures is { step_in s.now result ≡ tell (so_far s.now) (send_rule (unit_of u.now) block node.now) }
+    ensures is { step_in s.now result ≡ tell (sight s.now) (send_rule (unit_of u.now) block node.now) }
     ensures over { IsStepOf s.now result }
 {
     match part_of(node, 0) {
@@ -132,7 +131,7 @@ pub fn judge_send(u: &Subject, s: &State, block: usize, node: &Node) -> Step
 fn element_wants(u: &Subject, s: &State, block: usize, n: u32, under: TypeId) -> Found<Mark, Item>
     requires scene { IsScene u.now s.now }
     requires under { IsTypeOf s.now under }
-    ensures is { told_by (said s.now) result ≡ tell (so_far s.now) (element_wants (unit_of u.now) block n (type_in s.now under)) }
+    ensures is { told_by (said s.now) result ≡ tell (sight s.now) (element_wants (unit_of u.now) block n (type_in s.now under)) }
     ensures over { IfFound result (IsMarkOf s.now) }
 {
     match element_of(s, under) {
@@ -150,7 +149,7 @@ fn sent_told(
 ) -> Found<Mark, Item>
     requires scene { IsScene u.now s.now }
     requires under { MayBeTypeOf s.now under }
-    ensures is { told_by (said s.now) result ≡ tell (so_far s.now) (sent_told (unit_of u.now) block n (option_map (type_in s.now) under)) }
+    ensures is { told_by (said s.now) result ≡ tell (sight s.now) (sent_told (unit_of u.now) block n (option_map (type_in s.now) under)) }
     ensures over { IfFound result (IsMarkOf s.now) }
 {
     match under {
@@ -162,7 +161,7 @@ fn sent_told(
 fn sent_by(u: &Subject, s: &State, block: usize, n: u32, m: Mark) -> Found<Mark, Item>
     requires scene { IsScene u.now s.now }
     requires mark { IsMarkOf s.now m }
-    ensures is { told_by (said s.now) result ≡ tell (so_far s.now) (sent_by (unit_of u.now) block n (said s.now m)) }
+    ensures is { told_by (said s.now) result ≡ tell (sight s.now) (sent_by (unit_of u.now) block n (said s.now m)) }
     ensures over { IfFound result (IsMarkOf s.now) }
 {
     match mark_under(u, s, m) {
@@ -173,7 +172,7 @@ fn sent_by(u: &Subject, s: &State, block: usize, n: u32, m: Mark) -> Found<Mark,
 
 fn sent_wants(u: &Subject, s: &State, block: usize, c: u32, n: u32) -> Found<Mark, Item>
     requires { IsScene u.now s.now }
-    ensures is { told_by (said s.now) result ≡ tell (so_far s.now) (sent_wants (unit_of u.now) block c n) }
+    ensures is { told_by (said s.now) result ≡ tell (sight s.now) (sent_wants (unit_of u.now) block c n) }
     ensures over { IfFound result (IsMarkOf s.now) }
 {
     match look(u, s, Stage::Placed, block, c) {
@@ -184,7 +183,7 @@ fn sent_wants(u: &Subject, s: &State, block: usize, c: u32, n: u32) -> Found<Mar
 
 fn sent_beside(u: &Subject, s: &State, block: usize, around: &Node, c: u32) -> Found<Mark, Item>
     requires { IsScene u.now s.now }
-    ensures is { told_by (said s.now) result ≡ tell (so_far s.now) (sent_beside (unit_of u.now) block around.now c) }
+    ensures is { told_by (said s.now) result ≡ tell (sight s.now) (sent_beside (unit_of u.now) block around.now c) }
     ensures over { IfFound result (IsMarkOf s.now) }
 {
     match part_of(around, 1) {
@@ -195,7 +194,7 @@ fn sent_beside(u: &Subject, s: &State, block: usize, around: &Node, c: u32) -> F
 
 fn value_wants(u: &Subject, s: &State, block: usize, around: &Node) -> Found<Mark, Item>
     requires { IsScene u.now s.now }
-    ensures is { told_by (said s.now) result ≡ tell (so_far s.now) (value_wants (unit_of u.now) block around.now) }
+    ensures is { told_by (said s.now) result ≡ tell (sight s.now) (value_wants (unit_of u.now) block around.now) }
     ensures over { IfFound result (IsMarkOf s.now) }
 {
     match part_of(around, 0) {
@@ -207,7 +206,7 @@ fn value_wants(u: &Subject, s: &State, block: usize, around: &Node) -> Found<Mar
 /// What the places in a send statement want.
 pub fn want_send(u: &Subject, s: &State, block: usize, p: Place, around: &Node) -> Found<Mark, Item>
     requires { IsScene u.now s.now }
-    ensures is { told_by (said s.now) result ≡ tell (so_far s.now) (send_wants (unit_of u.now) block p around.now) }
+    ensures is { told_by (said s.now) result ≡ tell (sight s.now) (send_wants (unit_of u.now) block p around.now) }
     ensures over { IfFound result (IsMarkOf s.now) }
 {
     if p.slot == 0 {

@@ -3,11 +3,10 @@ ghost use Rattle.std.specs.Prelude.{◌≡◌, IfOk};
 ghost use Rattle.mark_walk.specs.Asks.{bind};
 ghost use Rattle.mark_walk.specs.Telling.{tell};
 ghost use Rattle.package_objects.specs.Declares.{items, part};
-ghost use Rattle.typed_marks.specs.States.{so_far};
 ghost use Rattle.type_answers.specs.Coming.{ComesTo};
 ghost use Rattle.unit_read.specs.Subjects.{unit_of};
 ghost use Rattle.rule_words.specs.Good.{known_of, AreFactsOf};
-ghost use Rattle.rule_words.specs.Scenes.{IsScene, said, IsMarkOf};
+ghost use Rattle.rule_words.specs.Scenes.{sight, IsScene, said, IsMarkOf};
 ghost use Rattle.rule_words.specs.Steps.{step_in, IsStepOf};
 ghost use Rattle.variable_rules.specs.Forms.{name_count as names_of};
 ghost use Rattle.assign_rules.specs.Sharing.{all_assigned, shared_if, shared_told, several_by, several_known, several_rule};
@@ -28,7 +27,7 @@ use variable_rules::name_count;
 
 fn shared_if(s: &State, x: Facts, b: bool) -> Step
     requires { AreFactsOf s.now x }
-    ensures is { step_in s.now result ≡ tell (so_far s.now) (shared_if (known_of s.now x) b) }
+    ensures is { step_in s.now result ≡ tell (sight s.now) (shared_if (known_of s.now x) b) }
     ensures over { IsStepOf s.now result }
 {
     let _ = s;
@@ -38,7 +37,8 @@ fn shared_if(s: &State, x: Facts, b: bool) -> Step
 /// What comes of a value, all of whose values are assignable or not: E32.
 #[tactic(auto, using(type_answers::proofs::ComingLaws::same_comes))]
 pub fn told_shared(u: &Subject, s: &State, x: Facts, told: Reached<bool>) -> Step
-    requires { AreFactsOf s.now x }
+    requires scene { IsScene u.now s.now }
+    requires facts { AreFactsOf s.now x }
     ensures comes { ComesTo u.now s.now (shared_told (known_of s.now x) told) result }
     ensures over { IsStepOf s.now result }
 {

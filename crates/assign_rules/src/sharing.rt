@@ -113,7 +113,7 @@ fn assigned_in(
 }
 
 /// Whether a value of a type is assignable to another.
-#[tactic(auto, using(crate::proofs::FoundLaws::says_found, crate::proofs::FoundLaws::waits_awaited), unfolding(crate::specs::Sharing::type_assigned))]
+#[tactic(auto, using(type_answers::proofs::ComingLaws::says_found, type_answers::proofs::ComingLaws::waits_awaited), unfolding(crate::specs::Sharing::type_assigned))]
 pub fn type_assigned(
     alloc: Global,
     u: &Subject,
@@ -158,7 +158,7 @@ fn target_assigned(
     }
 }
 
-#[tactic(auto, using(crate::proofs::FoundLaws::says_found, crate::proofs::FoundLaws::waits_awaited))]
+#[tactic(auto, using(type_answers::proofs::ComingLaws::says_found, type_answers::proofs::ComingLaws::waits_awaited))]
 fn aimed_assigned(
     alloc: Global,
     u: &Subject,

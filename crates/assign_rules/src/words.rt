@@ -3,13 +3,12 @@ ghost use Rattle.std.specs.Prelude.{◌≡◌, true};
 ghost use Rattle.mark_walk.specs.Telling.{tell, Says};
 ghost use Rattle.typed_tree.specs.Basics.{HasBasics};
 ghost use Rattle.typed_tree.specs.Operands.{is_boolean};
-ghost use Rattle.typed_marks.specs.States.{so_far};
 ghost use Rattle.unit_read.specs.Subjects.{unit_of};
 ghost use Rattle.typed_marks.specs.Meanings.{Right};
 ghost use Rattle.rule_words.specs.Answers.{is_plain};
 ghost use Rattle.rule_words.specs.Good.{known_of, AreFactsOf};
 ghost use Rattle.rule_words.specs.Words.{nothing};
-ghost use Rattle.rule_words.specs.Scenes.{IsScene, told_by, IfFound, said, IsMarkOf, type_in, IsTypeOf};
+ghost use Rattle.rule_words.specs.Scenes.{sight, IsScene, told_by, IfFound, said, IsMarkOf, type_in, IsTypeOf};
 ghost use Rattle.rule_words.specs.Steps.{step_in, IsStepOf};
 ghost use Rattle.rule_words.specs.Types.{is_of};
 ghost use Rattle.rule_words.specs.Wishes.{IsWishOf, wish_of};
@@ -53,7 +52,7 @@ pub fn nothing_mark(s: &State) -> Mark
 /// A statement that holds has no value.
 pub fn holds(s: &State) -> Step
     requires { HasBasics s.now.table }
-    ensures is { step_in s.now result ≡ tell (so_far s.now) holds }
+    ensures is { step_in s.now result ≡ tell (sight s.now) holds }
     ensures over { IsStepOf s.now result }
 {
     good(nothing_facts(s))
@@ -62,7 +61,7 @@ pub fn holds(s: &State) -> Step
 /// The statement holds, or breaks this rule.
 pub fn held_if(s: &State, b: bool, rule: Rule) -> Step
     requires { HasBasics s.now.table }
-    ensures is { step_in s.now result ≡ tell (so_far s.now) (held_if b rule) }
+    ensures is { step_in s.now result ≡ tell (sight s.now) (held_if b rule) }
     ensures over { IsStepOf s.now result }
 {
     if b { holds(s) } else { broken(rule) }
@@ -70,7 +69,7 @@ pub fn held_if(s: &State, b: bool, rule: Rule) -> Step
 
 fn settled(s: &State, bad: bool) -> Step
     requires { HasBasics s.now.table }
-    ensures is { step_in s.now result ≡ tell (so_far s.now) (settled bad) }
+    ensures is { step_in s.now result ≡ tell (sight s.now) (settled bad) }
     ensures over { IsStepOf s.now result }
 {
     held_if(s, !bad, BAD_SELECT_CASE)
@@ -79,7 +78,7 @@ fn settled(s: &State, bad: bool) -> Step
 /// A test before that of where the statement stands: E86.
 pub fn settled_if(s: &State, b: bool, rule: Rule, bad: bool) -> Step
     requires { HasBasics s.now.table }
-    ensures is { step_in s.now result ≡ tell (so_far s.now) (settled_if b rule bad) }
+    ensures is { step_in s.now result ≡ tell (sight s.now) (settled_if b rule bad) }
     ensures over { IsStepOf s.now result }
 {
     if b { settled(s, bad) } else { broken(rule) }
@@ -147,7 +146,7 @@ fn own_default(s: &State, own: Mark) -> Want
 #[tactic(auto, unfolding(crate::specs::Words::loose_operand))]
 pub fn loose_operand(u: &Subject, s: &State, block: usize, n: u32) -> Found<Mark, Item>
     requires { IsScene u.now s.now }
-    ensures is { told_by (said s.now) result ≡ tell (so_far s.now) (loose_operand (unit_of u.now) block n) }
+    ensures is { told_by (said s.now) result ≡ tell (sight s.now) (loose_operand (unit_of u.now) block n) }
     ensures over { IfFound result (IsMarkOf s.now) }
 {
     match look(u, s, Stage::Before, block, n) {

@@ -4,11 +4,10 @@ ghost use Rattle.mark_walk.specs.Telling.{tell, Says};
 ghost use Rattle.type_model.specs.GoTypes.{InterfaceOf, NoMethod};
 ghost use Rattle.typed_tree.specs.Basics.{HasBasics};
 ghost use Rattle.typed_tree.specs.declared.mark.Mode.TheVariants as mode;
-ghost use Rattle.typed_marks.specs.States.{so_far};
 ghost use Rattle.unit_read.specs.Subjects.{unit_of};
 ghost use Rattle.rule_words.specs.Answers.{typed};
 ghost use Rattle.rule_words.specs.Words.{need};
-ghost use Rattle.rule_words.specs.Scenes.{IsScene, type_in, IsTypeOf, MayBeTypeOf, parts_in, AreSeenOf, said, IsMarkOf};
+ghost use Rattle.rule_words.specs.Scenes.{sight, IsScene, type_in, IsTypeOf, MayBeTypeOf, parts_in, AreSeenOf, said, IsMarkOf};
 ghost use Rattle.rule_words.specs.Steps.{step_in, IsStepOf};
 ghost use Rattle.builtin_rules.specs.Builtin.{same_type_given, pointer_given, given_rule, met_rule, shaped_rule, first_under, known_rule, arguments_rule, counted_line, line_rule, builtin_rule};
 
@@ -34,7 +33,7 @@ use unit_read::Subject;
 /// A value of the type that the first argument has, or is.
 fn same_given(s: &State, m: Mark) -> Step
     requires mark { IsMarkOf s.now m }
-    ensures is { step_in s.now result ≡ tell (so_far s.now) (need (said s.now m) same_type_given) }
+    ensures is { step_in s.now result ≡ tell (sight s.now) (need (said s.now m) same_type_given) }
     ensures over { IsStepOf s.now result }
 {
     match m {
@@ -50,7 +49,7 @@ fn same_given(s: &State, m: Mark) -> Step
 /// A pointer to the type that the first argument is.
 fn pointer_given(s: &State, m: Mark) -> Step
     requires mark { IsMarkOf s.now m }
-    ensures is { step_in s.now result ≡ tell (so_far s.now) (need (said s.now m) pointer_given) }
+    ensures is { step_in s.now result ≡ tell (sight s.now) (need (said s.now m) pointer_given) }
     ensures over { IsStepOf s.now result }
 {
     match m {
@@ -86,7 +85,7 @@ fn judge_given(
     requires scene { IsScene u.now s.now }
     requires parts { AreSeenOf s.now parts.now }
     requires of { IsTypeOf s.now of }
-    ensures is { step_in s.now result ≡ tell (so_far s.now) (given_rule (unit_of u.now) block file node.now (parts_in s.now parts.now) (type_in s.now of) gives) }
+    ensures is { step_in s.now result ≡ tell (sight s.now) (given_rule (unit_of u.now) block file node.now (parts_in s.now parts.now) (type_in s.now of) gives) }
     ensures over { IsStepOf s.now result }
 {
     match gives {
@@ -115,7 +114,7 @@ fn judge_met(
     requires scene { IsScene u.now s.now }
     requires parts { AreSeenOf s.now parts.now }
     requires of { IsTypeOf s.now of }
-    ensures is { step_in s.now result ≡ tell (so_far s.now) (met_rule (unit_of u.now) block file node.now (parts_in s.now parts.now) l (type_in s.now of)) }
+    ensures is { step_in s.now result ≡ tell (sight s.now) (met_rule (unit_of u.now) block file node.now (parts_in s.now parts.now) l (type_in s.now of)) }
     ensures over { IsStepOf s.now result }
 {
     // E55
@@ -139,7 +138,7 @@ fn judge_shaped(
     requires scene { IsScene u.now s.now }
     requires parts { AreSeenOf s.now parts.now }
     requires of { MayBeTypeOf s.now of }
-    ensures is { step_in s.now result ≡ tell (so_far s.now) (shaped_rule (unit_of u.now) block file node.now (parts_in s.now parts.now) l (option_map (type_in s.now) of)) }
+    ensures is { step_in s.now result ≡ tell (sight s.now) (shaped_rule (unit_of u.now) block file node.now (parts_in s.now parts.now) l (option_map (type_in s.now) of)) }
     ensures over { IsStepOf s.now result }
 {
     match of {
@@ -174,7 +173,7 @@ fn judge_known(
 ) -> Step
     requires scene { IsScene u.now s.now }
     requires parts { AreSeenOf s.now parts.now }
-    ensures is { step_in s.now result ≡ tell (so_far s.now) (known_rule (unit_of u.now) block file node.now (parts_in s.now parts.now) l) }
+    ensures is { step_in s.now result ≡ tell (sight s.now) (known_rule (unit_of u.now) block file node.now (parts_in s.now parts.now) l) }
     ensures over { IsStepOf s.now result }
 {
     let under = first_under(s, parts);
@@ -197,7 +196,7 @@ fn judge_arguments(
 ) -> Step
     requires scene { IsScene u.now s.now }
     requires parts { AreSeenOf s.now parts.now }
-    ensures is { step_in s.now result ≡ tell (so_far s.now) (arguments_rule (unit_of u.now) block file node.now (parts_in s.now parts.now) l) }
+    ensures is { step_in s.now result ≡ tell (sight s.now) (arguments_rule (unit_of u.now) block file node.now (parts_in s.now parts.now) l) }
     ensures over { IsStepOf s.now result }
 {
     if are_known(s, l.must, parts) {
@@ -221,7 +220,7 @@ fn judge_counted(
 ) -> Step
     requires scene { IsScene u.now s.now }
     requires parts { AreSeenOf s.now parts.now }
-    ensures is { step_in s.now result ≡ tell (so_far s.now) (counted_line (unit_of u.now) block file node.now (parts_in s.now parts.now) spread l) }
+    ensures is { step_in s.now result ≡ tell (sight s.now) (counted_line (unit_of u.now) block file node.now (parts_in s.now parts.now) spread l) }
     ensures over { IsStepOf s.now result }
 {
     // E51
@@ -245,7 +244,7 @@ fn judge_line(
 ) -> Step
     requires scene { IsScene u.now s.now }
     requires parts { AreSeenOf s.now parts.now }
-    ensures is { step_in s.now result ≡ tell (so_far s.now) (line_rule (unit_of u.now) block file node.now (parts_in s.now parts.now) spread l) }
+    ensures is { step_in s.now result ≡ tell (sight s.now) (line_rule (unit_of u.now) block file node.now (parts_in s.now parts.now) spread l) }
     ensures over { IsStepOf s.now result }
 {
     // E52
@@ -270,7 +269,7 @@ pub fn judge_builtin(
 ) -> Step
     requires scene { IsScene u.now s.now }
     requires parts { AreSeenOf s.now parts.now }
-    ensures is { step_in s.now result ≡ tell (so_far s.now) (builtin_rule (unit_of u.now) block file node.now (parts_in s.now parts.now) spread b) }
+    ensures is { step_in s.now result ≡ tell (sight s.now) (builtin_rule (unit_of u.now) block file node.now (parts_in s.now parts.now) spread b) }
     ensures over { IsStepOf s.now result }
 {
     match b {

@@ -3,10 +3,9 @@ ghost use Rattle.std.specs.Prelude.{◌≡◌, Some};
 ghost use Rattle.mark_walk.specs.Telling.{tell};
 ghost use Rattle.typed_tree.specs.Basics.{HasBasics};
 ghost use Rattle.typed_marks.specs.Meanings.{constant_at};
-ghost use Rattle.typed_marks.specs.States.{so_far};
 ghost use Rattle.unit_read.specs.Subjects.{unit_of};
 ghost use Rattle.rule_words.specs.Answers.{answer_in, IsAnswerOf};
-ghost use Rattle.rule_words.specs.Scenes.{IsScene, type_in, IsTypeOf, parts_in, AreSeenOf};
+ghost use Rattle.rule_words.specs.Scenes.{sight, IsScene, type_in, IsTypeOf, parts_in, AreSeenOf};
 ghost use Rattle.rule_words.specs.Steps.{step_in, IsStepOf};
 ghost use Rattle.builtin_rules.specs.Builtin.{int_value, int_constant, sized, array_count, count_of_type, text_count, constant_count, argument_text, count_rule};
 
@@ -58,7 +57,7 @@ fn sized(s: &State, n: u64, quiet: bool) -> Answer
 #[tactic(auto, using(rule_words::proofs::BindLaws::says_bind, rule_words::proofs::BindLaws::waits_bind))]
 fn array_quiet(u: &Subject, s: &State, block: usize, file: u32, at: u32, n: u64) -> Step
     requires scene { IsScene u.now s.now }
-    ensures is { step_in s.now result ≡ tell (so_far s.now) (array_count (unit_of u.now) block file (Some at) n) }
+    ensures is { step_in s.now result ≡ tell (sight s.now) (array_count (unit_of u.now) block file (Some at) n) }
     ensures over { IsStepOf s.now result }
 {
     match quiet(u, s, block, file, at) {
@@ -69,7 +68,7 @@ fn array_quiet(u: &Subject, s: &State, block: usize, file: u32, at: u32, n: u64)
 
 fn array_count(u: &Subject, s: &State, block: usize, file: u32, at: Option<u32>, n: u64) -> Step
     requires scene { IsScene u.now s.now }
-    ensures is { step_in s.now result ≡ tell (so_far s.now) (array_count (unit_of u.now) block file at n) }
+    ensures is { step_in s.now result ≡ tell (sight s.now) (array_count (unit_of u.now) block file at n) }
     ensures over { IsStepOf s.now result }
 {
     match at {
@@ -82,7 +81,7 @@ fn array_count(u: &Subject, s: &State, block: usize, file: u32, at: Option<u32>,
 fn count_of_type(u: &Subject, s: &State, block: usize, file: u32, node: &Node, of: TypeId) -> Step
     requires scene { IsScene u.now s.now }
     requires of { IsTypeOf s.now of }
-    ensures is { step_in s.now result ≡ tell (so_far s.now) (count_of_type (unit_of u.now) block file node.now (type_in s.now of)) }
+    ensures is { step_in s.now result ≡ tell (sight s.now) (count_of_type (unit_of u.now) block file node.now (type_in s.now of)) }
     ensures over { IsStepOf s.now result }
 {
     match size_of(s, of) {
@@ -134,7 +133,7 @@ pub fn judge_length(
     requires scene { IsScene u.now s.now }
     requires parts { AreSeenOf s.now parts.now }
     requires of { IsTypeOf s.now of }
-    ensures is { step_in s.now result ≡ tell (so_far s.now) (count_rule (unit_of u.now) block file node.now (parts_in s.now parts.now) (type_in s.now of)) }
+    ensures is { step_in s.now result ≡ tell (sight s.now) (count_rule (unit_of u.now) block file node.now (parts_in s.now parts.now) (type_in s.now of)) }
     ensures over { IsStepOf s.now result }
 {
     match argument_text(s, parts) {

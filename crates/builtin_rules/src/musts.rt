@@ -2,9 +2,8 @@
 ghost use Rattle.std.specs.Prelude.{◌≡◌, option_map};
 ghost use Rattle.mark_walk.specs.Telling.{tell};
 ghost use Rattle.typed_tree.specs.Basics.{HasBasics};
-ghost use Rattle.typed_marks.specs.States.{so_far};
 ghost use Rattle.unit_read.specs.Subjects.{unit_of};
-ghost use Rattle.rule_words.specs.Scenes.{IsScene, told_by, IfFound, type_in, IsTypeOf, MayBeTypeOf, parts_in, AreSeenOf};
+ghost use Rattle.rule_words.specs.Scenes.{sight, IsScene, told_by, IfFound, type_in, IsTypeOf, MayBeTypeOf, parts_in, AreSeenOf};
 ghost use Rattle.builtin_rules.specs.Musts.{second_copied, or_itself, pointed, measured_base, measured_ask, looks_through, shape_ask, is_met};
 
 use crate::arguments::argument_at;
@@ -62,7 +61,7 @@ fn measured_base(u: &Subject, s: &State, of: TypeId, base: TypeId) -> Found<Opti
     requires scene { IsScene u.now s.now }
     requires of { IsTypeOf s.now of }
     requires base { IsTypeOf s.now base }
-    ensures is { told_by (option_map (type_in s.now)) result ≡ tell (so_far s.now) (measured_base (unit_of u.now) (type_in s.now of) (type_in s.now base)) }
+    ensures is { told_by (option_map (type_in s.now)) result ≡ tell (sight s.now) (measured_base (unit_of u.now) (type_in s.now of) (type_in s.now base)) }
     ensures within { IfFound result (MayBeTypeOf s.now) }
 {
     match under_of(u, s, base) {
@@ -76,7 +75,7 @@ fn measured_base(u: &Subject, s: &State, of: TypeId, base: TypeId) -> Found<Opti
 fn measured(u: &Subject, s: &State, of: TypeId) -> Found<Option<TypeId>, Item>
     requires scene { IsScene u.now s.now }
     requires of { IsTypeOf s.now of }
-    ensures is { told_by (option_map (type_in s.now)) result ≡ tell (so_far s.now) (measured_ask (unit_of u.now) (type_in s.now of)) }
+    ensures is { told_by (option_map (type_in s.now)) result ≡ tell (sight s.now) (measured_ask (unit_of u.now) (type_in s.now of)) }
     ensures within { IfFound result (MayBeTypeOf s.now) }
 {
     match base_of(s, of) {
@@ -100,7 +99,7 @@ fn looks_through(must: Must) -> bool
 pub fn shape(u: &Subject, s: &State, must: Must, under: TypeId) -> Found<Option<TypeId>, Item>
     requires scene { IsScene u.now s.now }
     requires under { IsTypeOf s.now under }
-    ensures is { told_by (option_map (type_in s.now)) result ≡ tell (so_far s.now) (shape_ask (unit_of u.now) must (type_in s.now under)) }
+    ensures is { told_by (option_map (type_in s.now)) result ≡ tell (sight s.now) (shape_ask (unit_of u.now) must (type_in s.now under)) }
     ensures within { IfFound result (MayBeTypeOf s.now) }
 {
     if looks_through(must) {

@@ -3,9 +3,8 @@ ghost use Rattle.std.specs.Prelude.{◌≡◌, ◌<◌, length, slice_get, if◌
 ghost use Rattle.mark_walk.specs.Asks.{bind};
 ghost use Rattle.mark_walk.specs.Telling.{tell};
 ghost use Rattle.typed_tree.specs.Places.{is_type, is_constant};
-ghost use Rattle.typed_marks.specs.States.{so_far};
 ghost use Rattle.unit_read.specs.Subjects.{unit_of};
-ghost use Rattle.rule_words.specs.Scenes.{IsScene, told_by, IfFound, said, IsMarkOf};
+ghost use Rattle.rule_words.specs.Scenes.{sight, IsScene, told_by, IfFound, said, IsMarkOf};
 ghost use Rattle.builtin_rules.specs.Quiet.{is_good_as, has_operator, computes, unary_noise, noise_by, noise_of, mark_before, converts_ask, unless_constant, is_no_call_ask, is_no_receive_ask, every_ask, unless_loud, heard_whole, heard_by, heard_ask, parts_at, then_parts, quiet_within, quiet_ask};
 ghost use Rattle.builtin_rules.specs.InCode.{ends};
 
@@ -114,7 +113,7 @@ fn noise_of(u: &Subject, file: u32, node: &Node) -> Noise
 
 fn mark_before(u: &Subject, s: &State, block: usize, n: Option<u32>) -> Found<Mark, Item>
     requires scene { IsScene u.now s.now }
-    ensures is { told_by (said s.now) result ≡ tell (so_far s.now) (mark_before (unit_of u.now) block n) }
+    ensures is { told_by (said s.now) result ≡ tell (sight s.now) (mark_before (unit_of u.now) block n) }
     ensures over { IfFound result (IsMarkOf s.now) }
 {
     match n {
@@ -126,7 +125,7 @@ fn mark_before(u: &Subject, s: &State, block: usize, n: Option<u32>) -> Found<Ma
 #[tactic(auto, using(rule_words::proofs::BindLaws::says_bind, rule_words::proofs::BindLaws::waits_bind))]
 fn converts(u: &Subject, s: &State, block: usize, node: &Node) -> Found<bool, Item>
     requires scene { IsScene u.now s.now }
-    ensures { told_by (λ b. b) result ≡ tell (so_far s.now) (converts_ask (unit_of u.now) block node.now) }
+    ensures { told_by (λ b. b) result ≡ tell (sight s.now) (converts_ask (unit_of u.now) block node.now) }
 {
     match mark_before(u, s, block, part_of(node, 0)) {
         Found::Is(m) => Found::Is(is_good_type(s, m)),
@@ -137,7 +136,7 @@ fn converts(u: &Subject, s: &State, block: usize, node: &Node) -> Found<bool, It
 fn unless_constant(u: &Subject, s: &State, block: usize, node: &Node, m: Mark) -> Found<bool, Item>
     requires scene { IsScene u.now s.now }
     requires mark { IsMarkOf s.now m }
-    ensures { told_by (λ b. b) result ≡ tell (so_far s.now) (unless_constant (unit_of u.now) block node.now (said s.now m)) }
+    ensures { told_by (λ b. b) result ≡ tell (sight s.now) (unless_constant (unit_of u.now) block node.now (said s.now m)) }
 {
     if is_good_constant(s, m) {
         Found::Is(true)
@@ -150,7 +149,7 @@ fn unless_constant(u: &Subject, s: &State, block: usize, node: &Node, m: Mark) -
 #[tactic(auto, using(rule_words::proofs::BindLaws::says_bind, rule_words::proofs::BindLaws::waits_bind), unfolding(crate::specs::Quiet::is_no_call_ask))]
 fn is_no_call(u: &Subject, s: &State, block: usize, n: u32, node: &Node) -> Found<bool, Item>
     requires scene { IsScene u.now s.now }
-    ensures { told_by (λ b. b) result ≡ tell (so_far s.now) (is_no_call_ask (unit_of u.now) block n node.now) }
+    ensures { told_by (λ b. b) result ≡ tell (sight s.now) (is_no_call_ask (unit_of u.now) block n node.now) }
 {
     match look(u, s, Stage::Before, block, n) {
         Found::Is(m) => unless_constant(u, s, block, node, m),
@@ -161,7 +160,7 @@ fn is_no_call(u: &Subject, s: &State, block: usize, n: u32, node: &Node) -> Foun
 #[tactic(auto, using(rule_words::proofs::BindLaws::says_bind, rule_words::proofs::BindLaws::waits_bind), unfolding(crate::specs::Quiet::is_no_receive_ask))]
 fn is_no_receive(u: &Subject, s: &State, block: usize, n: u32) -> Found<bool, Item>
     requires scene { IsScene u.now s.now }
-    ensures { told_by (λ b. b) result ≡ tell (so_far s.now) (is_no_receive_ask (unit_of u.now) block n) }
+    ensures { told_by (λ b. b) result ≡ tell (sight s.now) (is_no_receive_ask (unit_of u.now) block n) }
 {
     match look(u, s, Stage::Before, block, n) {
         Found::Is(m) => Found::Is(is_good_type(s, m)),
@@ -186,7 +185,7 @@ fn call_heard(
     node: &Node,
 ) -> Found<Option<bool>, Item>
     requires scene { IsScene u.now s.now }
-    ensures { told_by (λ b. b) result ≡ tell (so_far s.now) (bind (is_no_call_ask (unit_of u.now) block n node.now) unless_loud) }
+    ensures { told_by (λ b. b) result ≡ tell (sight s.now) (bind (is_no_call_ask (unit_of u.now) block n node.now) unless_loud) }
 {
     match is_no_call(u, s, block, n, node) {
         Found::Is(quiet) => Found::Is(unless_loud(quiet)),
@@ -197,7 +196,7 @@ fn call_heard(
 #[tactic(auto, using(rule_words::proofs::BindLaws::says_bind, rule_words::proofs::BindLaws::waits_bind))]
 fn receive_heard(u: &Subject, s: &State, block: usize, n: u32) -> Found<Option<bool>, Item>
     requires scene { IsScene u.now s.now }
-    ensures { told_by (λ b. b) result ≡ tell (so_far s.now) (bind (is_no_receive_ask (unit_of u.now) block n) heard_whole) }
+    ensures { told_by (λ b. b) result ≡ tell (sight s.now) (bind (is_no_receive_ask (unit_of u.now) block n) heard_whole) }
 {
     match is_no_receive(u, s, block, n) {
         Found::Is(quiet) => Found::Is(Some(quiet)),
@@ -215,7 +214,7 @@ fn heard_by(
     noise: Noise,
 ) -> Found<Option<bool>, Item>
     requires scene { IsScene u.now s.now }
-    ensures { told_by (λ b. b) result ≡ tell (so_far s.now) (heard_by (unit_of u.now) block n node.now noise) }
+    ensures { told_by (λ b. b) result ≡ tell (sight s.now) (heard_by (unit_of u.now) block n node.now noise) }
 {
     match noise {
         Noise::Plain => Found::Is(None),
@@ -229,7 +228,7 @@ fn heard_by(
 #[tactic(auto, unfolding(crate::specs::Quiet::heard_ask))]
 fn heard(u: &Subject, s: &State, block: usize, file: u32, n: u32) -> Found<Option<bool>, Item>
     requires scene { IsScene u.now s.now }
-    ensures { told_by (λ b. b) result ≡ tell (so_far s.now) (heard_ask (unit_of u.now) block file n) }
+    ensures { told_by (λ b. b) result ≡ tell (sight s.now) (heard_ask (unit_of u.now) block file n) }
 {
     match u.node_at(NodeRef { file, node: n }) {
         Some(node) => heard_by(u, s, block, n, node, noise_of(u, file, node)),
@@ -273,7 +272,7 @@ fn every(
     parts: &[u32],
 ) -> Found<bool, Item>
     requires scene { IsScene u.now s.now }
-    ensures { told_by (λ b. b) result ≡ tell (so_far s.now) (every_ask (quiet_within (unit_of u.now) block file levels) parts.now) }
+    ensures { told_by (λ b. b) result ≡ tell (sight s.now) (every_ask (quiet_within (unit_of u.now) block file levels) parts.now) }
 {
     for i in 0..parts.len() {
         let n = nth(parts, i);
@@ -297,7 +296,7 @@ fn or_parts(
     heard: Option<bool>,
 ) -> Found<bool, Item>
     requires scene { IsScene u.now s.now }
-    ensures { told_by (λ b. b) result ≡ tell (so_far s.now) (then_parts (quiet_within (unit_of u.now) block file levels) (parts_at (unit_of u.now) file n) heard) }
+    ensures { told_by (λ b. b) result ≡ tell (sight s.now) (then_parts (quiet_within (unit_of u.now) block file levels) (parts_at (unit_of u.now) file n) heard) }
 {
     match heard {
         Some(quiet) => Found::Is(quiet),
@@ -316,7 +315,7 @@ fn within(
     n: u32,
 ) -> Found<bool, Item>
     requires scene { IsScene u.now s.now }
-    ensures { told_by (λ b. b) result ≡ tell (so_far s.now) (quiet_within (unit_of u.now) block file levels n) }
+    ensures { told_by (λ b. b) result ≡ tell (sight s.now) (quiet_within (unit_of u.now) block file levels n) }
 {
     if levels == 0 {
         return Found::Is(false);
@@ -331,7 +330,7 @@ fn within(
 #[tactic(auto, unfolding(crate::specs::Quiet::quiet_ask))]
 pub fn quiet(u: &Subject, s: &State, block: usize, file: u32, n: u32) -> Found<bool, Item>
     requires scene { IsScene u.now s.now }
-    ensures { told_by (λ b. b) result ≡ tell (so_far s.now) (quiet_ask (unit_of u.now) block file n) }
+    ensures { told_by (λ b. b) result ≡ tell (sight s.now) (quiet_ask (unit_of u.now) block file n) }
 {
     within(u, s, block, file, u.nodes_at(file).len(), n)
 }

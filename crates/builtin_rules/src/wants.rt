@@ -2,11 +2,10 @@
 ghost use Rattle.std.specs.Prelude.{◌≡◌, ◌&&◌, None, option_map};
 ghost use Rattle.mark_walk.specs.Telling.{tell, Says};
 ghost use Rattle.typed_tree.specs.Basics.{HasBasics};
-ghost use Rattle.typed_marks.specs.States.{so_far};
 ghost use Rattle.unit_read.specs.Subjects.{unit_of};
 ghost use Rattle.std.specs.Option.{option_map_or};
 ghost use Rattle.mark_walk.specs.Asks.{bind};
-ghost use Rattle.rule_words.specs.Scenes.{IsScene, told_by, IfFound, said, IsMarkOf, type_in, IsTypeOf, MayBeTypeOf};
+ghost use Rattle.rule_words.specs.Scenes.{sight, IsScene, told_by, IfFound, said, IsMarkOf, type_in, IsTypeOf, MayBeTypeOf};
 ghost use Rattle.rule_words.specs.Wishes.{IsWishOf, before, wish_of};
 ghost use Rattle.builtin_rules.specs.Musts.{is_byte};
 ghost use Rattle.builtin_rules.specs.Types.{key_of};
@@ -53,7 +52,7 @@ fn any_wish(s: &State, own: Mark) -> Want
 #[tactic(auto, using(rule_words::proofs::BindLaws::says_bind, rule_words::proofs::BindLaws::waits_bind))]
 fn any_wants(u: &Subject, s: &State, block: usize, around: &Node, slot: usize) -> Found<Mark, Item>
     requires scene { IsScene u.now s.now }
-    ensures is { told_by (said s.now) result ≡ tell (so_far s.now) (bind (before (unit_of u.now) block around.now slot) any_by) }
+    ensures is { told_by (said s.now) result ≡ tell (sight s.now) (bind (before (unit_of u.now) block around.now slot) any_by) }
     ensures over { IfFound result (IsMarkOf s.now) }
 {
     match before(u, s, block, around, slot) {
@@ -79,7 +78,7 @@ fn key_in(s: &State, under: Option<TypeId>) -> Option<TypeId>
 fn key_by(s: &State, under: Option<TypeId>) -> Mark
     requires basics { HasBasics s.now.table }
     requires under { MayBeTypeOf s.now under }
-    ensures is { Says (said s.now result) ≡ tell (so_far s.now) (key_by (option_map (type_in s.now) under)) }
+    ensures is { Says (said s.now result) ≡ tell (sight s.now) (key_by (option_map (type_in s.now) under)) }
     ensures over { IsMarkOf s.now result }
 {
     let key = key_in(s, under);
@@ -90,7 +89,7 @@ fn key_by(s: &State, under: Option<TypeId>) -> Mark
 fn key_over(u: &Subject, s: &State, first: Mark) -> Found<Mark, Item>
     requires scene { IsScene u.now s.now }
     requires first { IsMarkOf s.now first }
-    ensures is { told_by (said s.now) result ≡ tell (so_far s.now) (key_over (unit_of u.now) (said s.now first)) }
+    ensures is { told_by (said s.now) result ≡ tell (sight s.now) (key_over (unit_of u.now) (said s.now first)) }
     ensures over { IfFound result (IsMarkOf s.now) }
 {
     match mark_under(u, s, first) {
@@ -102,7 +101,7 @@ fn key_over(u: &Subject, s: &State, first: Mark) -> Found<Mark, Item>
 #[tactic(auto, using(rule_words::proofs::BindLaws::says_bind, rule_words::proofs::BindLaws::waits_bind))]
 fn key_wants(u: &Subject, s: &State, block: usize, around: &Node) -> Found<Mark, Item>
     requires scene { IsScene u.now s.now }
-    ensures is { told_by (said s.now) result ≡ tell (so_far s.now) (bind (before (unit_of u.now) block around.now 1) (key_over (unit_of u.now))) }
+    ensures is { told_by (said s.now) result ≡ tell (sight s.now) (bind (before (unit_of u.now) block around.now 1) (key_over (unit_of u.now))) }
     ensures over { IfFound result (IsMarkOf s.now) }
 {
     match before(u, s, block, around, 1) {
@@ -128,7 +127,7 @@ fn element_in(s: &State, under: Option<TypeId>) -> Option<TypeId>
 fn element_by(s: &State, under: Option<TypeId>) -> Mark
     requires basics { HasBasics s.now.table }
     requires under { MayBeTypeOf s.now under }
-    ensures is { Says (said s.now result) ≡ tell (so_far s.now) (element_by (option_map (type_in s.now) under)) }
+    ensures is { Says (said s.now result) ≡ tell (sight s.now) (element_by (option_map (type_in s.now) under)) }
     ensures over { IsMarkOf s.now result }
 {
     let element = element_in(s, under);
@@ -201,7 +200,7 @@ fn spread_by(s: &State, under: Option<TypeId>, own: Option<TypeId>) -> Mark
     requires basics { HasBasics s.now.table }
     requires under { MayBeTypeOf s.now under }
     requires own { MayBeTypeOf s.now own }
-    ensures is { Says (said s.now result) ≡ tell (so_far s.now) (spread_by (option_map (type_in s.now) under) (option_map (type_in s.now) own)) }
+    ensures is { Says (said s.now result) ≡ tell (sight s.now) (spread_by (option_map (type_in s.now) under) (option_map (type_in s.now) own)) }
     ensures over { IsMarkOf s.now result }
 {
     operand(spread_wish(s, under, own))
@@ -212,7 +211,7 @@ fn spread_own(u: &Subject, s: &State, under: Option<TypeId>, own: Mark) -> Found
     requires scene { IsScene u.now s.now }
     requires under { MayBeTypeOf s.now under }
     requires own { IsMarkOf s.now own }
-    ensures is { told_by (said s.now) result ≡ tell (so_far s.now) (spread_own (unit_of u.now) (option_map (type_in s.now) under) (said s.now own)) }
+    ensures is { told_by (said s.now) result ≡ tell (sight s.now) (spread_own (unit_of u.now) (option_map (type_in s.now) under) (said s.now own)) }
     ensures over { IfFound result (IsMarkOf s.now) }
 {
     match mark_under(u, s, own) {
@@ -232,7 +231,7 @@ fn spread_over(
 ) -> Found<Mark, Item>
     requires scene { IsScene u.now s.now }
     requires under { MayBeTypeOf s.now under }
-    ensures is { told_by (said s.now) result ≡ tell (so_far s.now) (spread_over (unit_of u.now) block around.now slot (option_map (type_in s.now) under)) }
+    ensures is { told_by (said s.now) result ≡ tell (sight s.now) (spread_over (unit_of u.now) block around.now slot (option_map (type_in s.now) under)) }
     ensures over { IfFound result (IsMarkOf s.now) }
 {
     match before(u, s, block, around, slot) {
@@ -252,7 +251,7 @@ fn element_over(
 ) -> Found<Mark, Item>
     requires scene { IsScene u.now s.now }
     requires under { MayBeTypeOf s.now under }
-    ensures is { told_by (said s.now) result ≡ tell (so_far s.now) (element_over (unit_of u.now) block around.now slot (option_map (type_in s.now) under)) }
+    ensures is { told_by (said s.now) result ≡ tell (sight s.now) (element_over (unit_of u.now) block around.now slot (option_map (type_in s.now) under)) }
     ensures over { IfFound result (IsMarkOf s.now) }
 {
     if is_spread(around.kind) {
@@ -273,7 +272,7 @@ fn element_wants(
 ) -> Found<Mark, Item>
     requires scene { IsScene u.now s.now }
     requires first { IsMarkOf s.now first }
-    ensures is { told_by (said s.now) result ≡ tell (so_far s.now) (element_wants (unit_of u.now) block around.now slot (said s.now first)) }
+    ensures is { told_by (said s.now) result ≡ tell (sight s.now) (element_wants (unit_of u.now) block around.now slot (said s.now first)) }
     ensures over { IfFound result (IsMarkOf s.now) }
 {
     match mark_under(u, s, first) {
@@ -291,7 +290,7 @@ fn first_element(
     slot: usize,
 ) -> Found<Mark, Item>
     requires scene { IsScene u.now s.now }
-    ensures is { told_by (said s.now) result ≡ tell (so_far s.now) (bind (before (unit_of u.now) block around.now 1) (element_wants (unit_of u.now) block around.now slot)) }
+    ensures is { told_by (said s.now) result ≡ tell (sight s.now) (bind (before (unit_of u.now) block around.now 1) (element_wants (unit_of u.now) block around.now slot)) }
     ensures over { IfFound result (IsMarkOf s.now) }
 {
     match before(u, s, block, around, 1) {
@@ -320,7 +319,7 @@ fn taking_wants(
     takes: Taking,
 ) -> Found<Mark, Item>
     requires scene { IsScene u.now s.now }
-    ensures is { told_by (said s.now) result ≡ tell (so_far s.now) (taking_wants (unit_of u.now) block around.now slot takes) }
+    ensures is { told_by (said s.now) result ≡ tell (sight s.now) (taking_wants (unit_of u.now) block around.now slot takes) }
     ensures over { IfFound result (IsMarkOf s.now) }
 {
     match takes {
@@ -344,7 +343,7 @@ pub fn builtin_wants(
     b: Option<Builtin>,
 ) -> Found<Mark, Item>
     requires scene { IsScene u.now s.now }
-    ensures is { told_by (said s.now) result ≡ tell (so_far s.now) (builtin_wants (unit_of u.now) block around.now slot b) }
+    ensures is { told_by (said s.now) result ≡ tell (sight s.now) (builtin_wants (unit_of u.now) block around.now slot b) }
     ensures over { IfFound result (IsMarkOf s.now) }
 {
     match b {

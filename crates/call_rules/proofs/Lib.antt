@@ -1,5 +1,4 @@
 mod ConvertLaws
-pub mod FoundLaws
 mod ListLemmas
 mod ResultLemmas
 pub mod SpecificationFacts

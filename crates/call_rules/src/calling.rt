@@ -4,9 +4,8 @@ ghost use Rattle.mark_walk.specs.Telling.{tell};
 ghost use Rattle.type_model.specs.GoTypes.{AreBelow, types_at};
 ghost use Rattle.type_model.specs.Tables.{types_in, count};
 ghost use Rattle.typed_tree.specs.Basics.{HasBasics};
-ghost use Rattle.typed_marks.specs.States.{so_far};
 ghost use Rattle.rule_words.specs.Answers.{is_plain};
-ghost use Rattle.rule_words.specs.Scenes.{said, IsMarkOf, type_in, IsTypeOf, MayBeTypeOf, parts_in, AreSeenOf};
+ghost use Rattle.rule_words.specs.Scenes.{sight, said, IsMarkOf, type_in, IsTypeOf, MayBeTypeOf, parts_in, AreSeenOf};
 ghost use Rattle.rule_words.specs.Steps.{step_in, IsStepOf};
 ghost use Rattle.builtin_rules.specs.InCode.{signature_by, IsSignatureOf};
 ghost use Rattle.call_rules.specs.Calling.{several_of, single_of, result_mark, may_spread, counted_rule, signature_rule, function_rule, called_rule};
@@ -93,7 +92,7 @@ fn judge_count(s: &State, of: TypeId, sig: &Signature, spread: bool, given: Give
     requires basics { HasBasics s.now.table }
     requires within { IsTypeOf s.now of }
     requires signature { IsSignatureOf s.now sig.now }
-    ensures is { step_in s.now result ≡ tell (so_far s.now) (counted_rule (type_in s.now of) (signature_by s.now sig.now) spread given) }
+    ensures is { step_in s.now result ≡ tell (sight s.now) (counted_rule (type_in s.now of) (signature_by s.now sig.now) spread given) }
     ensures over { IsStepOf s.now result }
 {
     // E51
@@ -108,7 +107,7 @@ fn judge_signature(s: &State, of: TypeId, spread: bool, given: Given, sig: &Sign
     requires basics { HasBasics s.now.table }
     requires within { IsTypeOf s.now of }
     requires signature { IsSignatureOf s.now sig.now }
-    ensures is { step_in s.now result ≡ tell (so_far s.now) (signature_rule (type_in s.now of) spread given (signature_by s.now sig.now)) }
+    ensures is { step_in s.now result ≡ tell (sight s.now) (signature_rule (type_in s.now of) spread given (signature_by s.now sig.now)) }
     ensures over { IsStepOf s.now result }
 {
     // E52
@@ -121,7 +120,7 @@ fn judge_signature(s: &State, of: TypeId, spread: bool, given: Given, sig: &Sign
 fn judge_function(s: &State, spread: bool, given: Given, of: TypeId) -> Step
     requires basics { HasBasics s.now.table }
     requires within { IsTypeOf s.now of }
-    ensures is { step_in s.now result ≡ tell (so_far s.now) (function_rule spread given (type_in s.now of)) }
+    ensures is { step_in s.now result ≡ tell (sight s.now) (function_rule spread given (type_in s.now of)) }
     ensures over { IsStepOf s.now result }
 {
     match signature_in(s, of) {
@@ -136,7 +135,7 @@ fn judge_function(s: &State, spread: bool, given: Given, of: TypeId) -> Step
 pub fn judge_called(s: &State, spread: bool, call: bool, parts: &[Seen]) -> Step
     requires basics { HasBasics s.now.table }
     requires parts { AreSeenOf s.now parts.now }
-    ensures is { step_in s.now result ≡ tell (so_far s.now) (called_rule spread call (parts_in s.now parts.now)) }
+    ensures is { step_in s.now result ≡ tell (sight s.now) (called_rule spread call (parts_in s.now parts.now)) }
     ensures over { IsStepOf s.now result }
 {
     let f = part_at(s, parts, 0);

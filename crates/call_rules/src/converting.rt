@@ -2,11 +2,10 @@
 ghost use Rattle.std.specs.Prelude.{◌≡◌, ◌==◌, ◌||◌, true, IfOk, Some};
 ghost use Rattle.mark_walk.specs.Telling.{tell};
 ghost use Rattle.gv_base.specs.Kinds.{is_integer, is_string, is_boolean};
-ghost use Rattle.typed_marks.specs.States.{so_far};
 ghost use Rattle.type_answers.specs.Coming.{ComesTo, FoundBy};
 ghost use Rattle.type_answers.specs.Asked.{convertible_ask};
 ghost use Rattle.rule_words.specs.Answers.{answer_in, IsAnswerOf, constant, is_plain};
-ghost use Rattle.rule_words.specs.Scenes.{IsScene, said, IsMarkOf, type_in, IsTypeOf, parts_in, AreSeenOf};
+ghost use Rattle.rule_words.specs.Scenes.{sight, IsScene, said, IsMarkOf, type_in, IsTypeOf, parts_in, AreSeenOf};
 ghost use Rattle.rule_words.specs.Steps.{step_in, IsStepOf};
 ghost use Rattle.rule_words.specs.Good.{AreFactsOf, known_of};
 ghost use Rattle.rule_words.specs.Types.{is_interface};
@@ -131,7 +130,7 @@ fn judge_constant(
     kind: Kind,
 ) -> Result<Step, NoMemory>
     requires within { IsTypeOf s.now to }
-    ensures is { IfOk result (λ step. step_in s.now step ≡ tell (so_far s.now) (kind_converted spread (type_in s.now to) c.now kind)) }
+    ensures is { IfOk result (λ step. step_in s.now step ≡ tell (sight s.now) (kind_converted spread (type_in s.now to) c.now kind)) }
     ensures over { IfOk result (IsStepOf s.now) }
 {
     let answer = constant_converted(alloc, s, spread, to, c, kind)?;
@@ -156,7 +155,7 @@ fn unspread(s: &State, spread: bool, to: TypeId) -> Mark
 
 fn convertible_by(s: &State, spread: bool, to: TypeId, holds: bool) -> Step
     requires within { IsTypeOf s.now to }
-    ensures is { step_in s.now result ≡ tell (so_far s.now) (convertible_by spread (type_in s.now to) holds) }
+    ensures is { step_in s.now result ≡ tell (sight s.now) (convertible_by spread (type_in s.now to) holds) }
     ensures over { IsStepOf s.now result }
 {
     // E53
@@ -168,7 +167,7 @@ fn convertible_by(s: &State, spread: bool, to: TypeId, holds: bool) -> Step
 
 fn convertible_told(s: &State, spread: bool, to: TypeId, told: Reached<bool>) -> Step
     requires within { IsTypeOf s.now to }
-    ensures is { step_in s.now result ≡ tell (so_far s.now) (convertible_told spread (type_in s.now to) told) }
+    ensures is { step_in s.now result ≡ tell (sight s.now) (convertible_told spread (type_in s.now to) told) }
     ensures over { IsStepOf s.now result }
 {
     match told {

@@ -6,10 +6,9 @@ ghost use Rattle.mark_walk.specs.Telling.{tell};
 ghost use Rattle.type_model.specs.GoTypes.{AreBelow, types_at};
 ghost use Rattle.type_model.specs.Tables.{types_in, count};
 ghost use Rattle.typed_tree.specs.Basics.{HasBasics};
-ghost use Rattle.typed_marks.specs.States.{so_far};
 ghost use Rattle.type_answers.specs.Coming.{ComesTo};
 ghost use Rattle.unit_read.specs.Subjects.{unit_of, IsRead};
-ghost use Rattle.rule_words.specs.Scenes.{IsScene, said, IsMarkOf, type_in, IsTypeOf, MayBeTypeOf};
+ghost use Rattle.rule_words.specs.Scenes.{sight, IsScene, said, IsMarkOf, type_in, IsTypeOf, MayBeTypeOf};
 ghost use Rattle.rule_words.specs.Steps.{step_in, IsStepOf};
 ghost use Rattle.rule_words.specs.Files.{file_of};
 ghost use Rattle.rule_words.specs.Good.{AreFactsOf, known_of};
@@ -35,7 +34,7 @@ use unit_read::Subject;
 
 fn passed_if(s: &State, x: Facts, holds: bool) -> Step
     requires facts { AreFactsOf s.now x }
-    ensures is { step_in s.now result ≡ tell (so_far s.now) (passed_if (known_of s.now x) holds) }
+    ensures is { step_in s.now result ≡ tell (sight s.now) (passed_if (known_of s.now x) holds) }
     ensures over { IsStepOf s.now result }
 {
     let _ = s;
@@ -48,7 +47,7 @@ fn passed_if(s: &State, x: Facts, holds: bool) -> Step
 
 fn passed_told(s: &State, x: Facts, told: Reached<bool>) -> Step
     requires facts { AreFactsOf s.now x }
-    ensures is { step_in s.now result ≡ tell (so_far s.now) (passed_told (known_of s.now x) told) }
+    ensures is { step_in s.now result ≡ tell (sight s.now) (passed_told (known_of s.now x) told) }
     ensures over { IsStepOf s.now result }
 {
     match told {
@@ -253,7 +252,7 @@ fn fault_in(u: &Subject, block: usize, around: &Node, mode: Mode) -> Rule
     builtin_fault(b, mode)
 }
 
-#[tactic(auto, using(crate::proofs::FoundLaws::says_comes, crate::proofs::FoundLaws::waits_awaited))]
+#[tactic(auto, using(type_answers::proofs::ComingLaws::says_comes, type_answers::proofs::ComingLaws::waits_awaited))]
 fn judge_called(alloc: Global, u: &Subject, s: &State, x: Facts, f: Mark) -> Result<Step, NoMemory>
     requires scene { IsScene u.now s.now }
     requires facts { AreFactsOf s.now x }
@@ -338,7 +337,7 @@ fn judge_to(
     }
 }
 
-#[tactic(auto, using(crate::proofs::FoundLaws::says_comes, crate::proofs::FoundLaws::waits_awaited), unfolding(crate::specs::Passing::known_passed))]
+#[tactic(auto, using(type_answers::proofs::ComingLaws::says_comes, type_answers::proofs::ComingLaws::waits_awaited), unfolding(crate::specs::Passing::known_passed))]
 fn judge_known(
     alloc: Global,
     u: &Subject,

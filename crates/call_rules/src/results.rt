@@ -40,7 +40,7 @@ fn ask_assigned(
     Ok(found)
 }
 
-#[tactic(auto, using(crate::proofs::FoundLaws::says_found, crate::proofs::FoundLaws::waits_awaited), unfolding(crate::specs::Passing::result_assigned))]
+#[tactic(auto, using(type_answers::proofs::ComingLaws::says_found, type_answers::proofs::ComingLaws::waits_awaited), unfolding(crate::specs::Passing::result_assigned))]
 fn assigned_result(
     alloc: Global,
     u: &Subject,

@@ -2,9 +2,8 @@
 ghost use Rattle.std.specs.Prelude.{◌≡◌, option_map};
 ghost use Rattle.mark_walk.specs.Telling.{tell, Says};
 ghost use Rattle.typed_tree.specs.Basics.{HasBasics};
-ghost use Rattle.typed_marks.specs.States.{so_far};
 ghost use Rattle.unit_read.specs.Subjects.{unit_of};
-ghost use Rattle.rule_words.specs.Scenes.{IsScene, told_by, IfFound, said, IsMarkOf, type_in, IsTypeOf, MayBeTypeOf};
+ghost use Rattle.rule_words.specs.Scenes.{sight, IsScene, told_by, IfFound, said, IsMarkOf, type_in, IsTypeOf, MayBeTypeOf};
 ghost use Rattle.rule_words.specs.Good.{AreFactsOf, known_of};
 ghost use Rattle.rule_words.specs.Wishes.{IsWishOf, wish_of};
 ghost use Rattle.builtin_rules.specs.InCode.{signature_by, IsSignatureOf};
@@ -28,7 +27,7 @@ use unit_read::{Place, Subject};
 fn param_wants(s: &State, spread: bool, slot: usize, sig: &Signature) -> Mark
     requires basics { HasBasics s.now.table }
     requires signature { IsSignatureOf s.now sig.now }
-    ensures is { Says (said s.now result) ≡ tell (so_far s.now) (param_wants spread slot (signature_by s.now sig.now)) }
+    ensures is { Says (said s.now result) ≡ tell (sight s.now) (param_wants spread slot (signature_by s.now sig.now)) }
     ensures over { IsMarkOf s.now result }
 {
     let to = param_at(s, sig, spread, slot.saturating_sub(1));
@@ -39,7 +38,7 @@ fn param_wants(s: &State, spread: bool, slot: usize, sig: &Signature) -> Mark
 fn argument_wants(s: &State, spread: bool, slot: usize, of: TypeId) -> Mark
     requires basics { HasBasics s.now.table }
     requires of { IsTypeOf s.now of }
-    ensures is { Says (said s.now result) ≡ tell (so_far s.now) (argument_wants spread slot (type_in s.now of)) }
+    ensures is { Says (said s.now result) ≡ tell (sight s.now) (argument_wants spread slot (type_in s.now of)) }
     ensures over { IsMarkOf s.now result }
 {
     match signature_in(s, of) {
@@ -51,7 +50,7 @@ fn argument_wants(s: &State, spread: bool, slot: usize, of: TypeId) -> Mark
 fn argument_by(s: &State, spread: bool, slot: usize, of: Option<TypeId>) -> Mark
     requires basics { HasBasics s.now.table }
     requires of { MayBeTypeOf s.now of }
-    ensures is { Says (said s.now result) ≡ tell (so_far s.now) (argument_by spread slot (option_map (type_in s.now) of)) }
+    ensures is { Says (said s.now result) ≡ tell (sight s.now) (argument_by spread slot (option_map (type_in s.now) of)) }
     ensures over { IsMarkOf s.now result }
 {
     match of {
@@ -64,7 +63,7 @@ fn argument_by(s: &State, spread: bool, slot: usize, of: Option<TypeId>) -> Mark
 fn function_wants(u: &Subject, s: &State, around: &Node, slot: usize, f: Mark) -> Found<Mark, Item>
     requires scene { IsScene u.now s.now }
     requires callee { IsMarkOf s.now f }
-    ensures is { told_by (said s.now) result ≡ tell (so_far s.now) (function_wants (unit_of u.now) around.now slot (said s.now f)) }
+    ensures is { told_by (said s.now) result ≡ tell (sight s.now) (function_wants (unit_of u.now) around.now slot (said s.now f)) }
     ensures over { IfFound result (IsMarkOf s.now) }
 {
     match mark_under(u, s, f) {
@@ -127,7 +126,7 @@ fn converted_in(s: &State, to: TypeId, own: Mark, under: Option<TypeId>) -> Mark
     requires to { IsTypeOf s.now to }
     requires own { IsMarkOf s.now own }
     requires under { MayBeTypeOf s.now under }
-    ensures is { Says (said s.now result) ≡ tell (so_far s.now) (converted_in (type_in s.now to) (said s.now own) (option_map (type_in s.now) under)) }
+    ensures is { Says (said s.now result) ≡ tell (sight s.now) (converted_in (type_in s.now to) (said s.now own) (option_map (type_in s.now) under)) }
     ensures over { IsMarkOf s.now result }
 {
     operand(converted_wish(s, to, under, own))
@@ -138,7 +137,7 @@ fn converted_over(u: &Subject, s: &State, to: TypeId, own: Mark) -> Found<Mark, 
     requires scene { IsScene u.now s.now }
     requires to { IsTypeOf s.now to }
     requires own { IsMarkOf s.now own }
-    ensures is { told_by (said s.now) result ≡ tell (so_far s.now) (converted_over (unit_of u.now) (type_in s.now to) (said s.now own)) }
+    ensures is { told_by (said s.now) result ≡ tell (sight s.now) (converted_over (unit_of u.now) (type_in s.now to) (said s.now own)) }
     ensures over { IfFound result (IsMarkOf s.now) }
 {
     match under_of(u, s, to) {
@@ -158,7 +157,7 @@ fn conversion_wants(
 ) -> Found<Mark, Item>
     requires scene { IsScene u.now s.now }
     requires to { IsTypeOf s.now to }
-    ensures is { told_by (said s.now) result ≡ tell (so_far s.now) (conversion_wants (unit_of u.now) block around.now slot (type_in s.now to)) }
+    ensures is { told_by (said s.now) result ≡ tell (sight s.now) (conversion_wants (unit_of u.now) block around.now slot (type_in s.now to)) }
     ensures over { IfFound result (IsMarkOf s.now) }
 {
     match before(u, s, block, around, slot) {
@@ -181,7 +180,7 @@ fn callee_wants(
 ) -> Found<Mark, Item>
     requires scene { IsScene u.now s.now }
     requires facts { AreFactsOf s.now x }
-    ensures is { told_by (said s.now) result ≡ tell (so_far s.now) (callee_wants (unit_of u.now) block around.now slot (known_of s.now x) (said s.now (Mark.Good x)) callee) }
+    ensures is { told_by (said s.now) result ≡ tell (sight s.now) (callee_wants (unit_of u.now) block around.now slot (known_of s.now x) (said s.now (Mark.Good x)) callee) }
     ensures over { IfFound result (IsMarkOf s.now) }
 {
     match callee {
@@ -207,7 +206,7 @@ fn called_wants(
 ) -> Found<Mark, Item>
     requires scene { IsScene u.now s.now }
     requires callee { IsMarkOf s.now f }
-    ensures is { told_by (said s.now) result ≡ tell (so_far s.now) (called_wants (unit_of u.now) block around.now slot (said s.now f)) }
+    ensures is { told_by (said s.now) result ≡ tell (sight s.now) (called_wants (unit_of u.now) block around.now slot (said s.now f)) }
     ensures over { IfFound result (IsMarkOf s.now) }
 {
     match f {
@@ -223,7 +222,7 @@ fn called_wants(
 #[tactic(auto, using(rule_words::proofs::BindLaws::says_bind, rule_words::proofs::BindLaws::waits_bind), unfolding(crate::specs::Wants::slot_wants))]
 fn slot_wants(u: &Subject, s: &State, block: usize, around: &Node, slot: usize) -> Found<Mark, Item>
     requires scene { IsScene u.now s.now }
-    ensures is { told_by (said s.now) result ≡ tell (so_far s.now) (slot_wants (unit_of u.now) block around.now slot) }
+    ensures is { told_by (said s.now) result ≡ tell (sight s.now) (slot_wants (unit_of u.now) block around.now slot) }
     ensures over { IfFound result (IsMarkOf s.now) }
 {
     match before(u, s, block, around, 0) {
@@ -235,7 +234,7 @@ fn slot_wants(u: &Subject, s: &State, block: usize, around: &Node, slot: usize) 
 /// What the place of a part of a call wants.
 pub fn want_call(u: &Subject, s: &State, block: usize, p: Place, around: &Node) -> Found<Mark, Item>
     requires scene { IsScene u.now s.now }
-    ensures is { told_by (said s.now) result ≡ tell (so_far s.now) (call_wants (unit_of u.now) block p around.now) }
+    ensures is { told_by (said s.now) result ≡ tell (sight s.now) (call_wants (unit_of u.now) block p around.now) }
     ensures over { IfFound result (IsMarkOf s.now) }
 {
     if p.slot == 0 {

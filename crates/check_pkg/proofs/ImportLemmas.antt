@@ -23,7 +23,7 @@ use Rattle.bind.proofs.ImportLemmas.{lines_are, map_size, from_imported, to_impo
 use Rattle.typed_tree.specs.declared.rule.TheConstants.{REDECLARED, UNUSED_IMPORT}
 use Rattle.typed_marks.specs.declared.item.Item.{Item}
 use Rattle.typed_marks.specs.Meanings.{Meaning}
-use Rattle.unit_read.specs.Imports.{import_limit}
+use Rattle.unit_read.specs.Imports.{bare, import_limit}
 use Rattle.unit_read.specs.Units.{Unit, text_in, tree_at, nodes_at, node_at, object_in, object_at, name_at}
 use Rattle.unit_rows.specs.Redeclared.{package_names}
 use Rattle.check_pkg.specs.declared.import_names.Declared.{Declared}
@@ -233,8 +233,8 @@ unused_is u marks at used false are none is = (
 
 -- ---- faults
 
-pub import_gains : (u : Unit) (marks : Item → Meaning) (at : NodeRef) (name : List ℕ) (taken unused : Bool) (lies : Place) (old mid new : List Refusal) → lies ≡ place_of u at → (IsTrue taken ↔ IsTaken u at name)
-    → (IsTrue unused ↔ IsUnused u marks at) → Gains (RefusesIf taken lies REDECLARED) old mid → Gains (RefusesIf unused lies UNUSED_IMPORT) mid new → Gains (RefusesName u marks at name) old new
+pub import_gains : (u : Unit) (marks : Item → Meaning) (at : NodeRef) (name : List ℕ) (taken unused : Bool) (lies : Place) (old mid new : List Refusal) → lies ≡ place_of (bare u) at → (IsTrue taken ↔ IsTaken u at name)
+    → (IsTrue unused ↔ IsUnused (bare u) marks at) → Gains (RefusesIf taken lies REDECLARED) old mid → Gains (RefusesIf unused lies UNUSED_IMPORT) mid new → Gains (RefusesName u marks at name) old new
 import_gains u marks at name taken unused lies old mid new is is_taken is_unused first second =
     gains_as (λ x. RefusesIf taken lies REDECLARED x ⊎ RefusesIf unused lies UNUSED_IMPORT x) (RefusesName u marks at name) old new
     (gains_then (RefusesIf taken lies REDECLARED) (RefusesIf unused lies UNUSED_IMPORT) old mid new first second) (λ x. (

@@ -11,6 +11,7 @@ use Rattle.object_order.specs.Spots.{place}
 use Rattle.object_order.specs.Views.{meant_in}
 use Rattle.typed_marks.specs.declared.item.Item.{Item}
 use Rattle.typed_marks.specs.Meanings.{Meaning}
+use Rattle.unit_read.specs.Imports.{bare}
 use Rattle.unit_read.specs.Rows.{AreRows}
 use Rattle.unit_read.specs.Units.{Unit}
 use Rattle.value_circles.specs.Bodies.{body_entries, opened as opened_tree, opened_trees}
@@ -22,8 +23,8 @@ use Rattle.check_pkg.proofs.ReferenceLemmas.{counted_are, AreSelected, none_sele
 
 -- the cells of a table of references
 references_are : (u : Unit) (marks : Item → Meaning) (methods : NodeRef → Option NodeRef) (rows : List (Vec (Option NodeRef))) → AreSelected u marks methods
-    → AreRows (λ f tree n. counted_at u marks methods counts.References (place f n)) u.trees rows (length u.trees) → (at : NodeRef) → meant_in rows at ≡ joined_at u marks methods at
-references_are u marks methods rows selected are = counted_are u marks methods (none_selected u marks methods selected) counts.References rows are
+    → AreRows (λ f tree n. counted_at (bare u) marks methods counts.References (place f n)) u.trees rows (length u.trees) → (at : NodeRef) → meant_in rows at ≡ joined_at (bare u) marks methods at
+references_are u marks methods rows selected are = counted_are (bare u) marks methods (none_selected u marks methods selected) counts.References rows are
 
 -- what reaches itself by references
 faults_are : (u : Unit) (marks : Item → Meaning) (meant : NodeRef → Option NodeRef) (list : List NodeRef) → AreReferences u marks meant
@@ -42,10 +43,10 @@ few_opened trees opened is few =
     omega (arith, e, l, few)
 
 pub initial_are : (u : Unit) (marks : Item → Meaning) (methods : NodeRef → Option NodeRef) (rows given : List (Vec (Option NodeRef))) (flags : List (Vec Bool)) (trees : List FileTree) (bodies : List Entry) (list : List NodeRef)
-    → AreSelected u marks methods → AreRows (λ f tree n. counted_at u marks methods counts.References (place f n)) u.trees rows (length u.trees) → given ≡ rows → ((at : NodeRef) → flag flags at ≡ u.cyclic at) → trees ≡ opened_trees u.trees
+    → AreSelected u marks methods → AreRows (λ f tree n. counted_at (bare u) marks methods counts.References (place f n)) u.trees rows (length u.trees) → given ≡ rows → ((at : NodeRef) → flag flags at ≡ u.cyclic at) → trees ≡ opened_trees u.trees
     → bodies ≡ body_entries u.trees → AreInitialCircles trees (meant_in given) (flag flags) bodies list → (at : NodeRef) → Contains list at ↔ IsInitialFault u marks at
 initial_are u marks methods rows given flags trees bodies list selected filled same cyclic opened all are =
-    faults_are u marks (joined_at u marks methods) list (joined_are u marks methods selected)
+    faults_are u marks (joined_at (bare u) marks methods) list (joined_are u marks methods selected)
     (subst (λ (m : NodeRef → Option NodeRef). AreInitialCircles (opened_trees u.trees) m u.cyclic (body_entries u.trees) list) (fun_ext (references_are u marks methods rows selected filled))
     (subst (λ (c : NodeRef → Bool). AreInitialCircles (opened_trees u.trees) (meant_in rows) c (body_entries u.trees) list) (fun_ext cyclic)
     (subst (λ (b : List Entry). AreInitialCircles (opened_trees u.trees) (meant_in rows) (flag flags) b list) all

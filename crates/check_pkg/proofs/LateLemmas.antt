@@ -7,6 +7,7 @@ use Rattle.go_tree.specs.declared.tree.Node.{Node}
 use Rattle.go_tree.specs.declared.tree.NodeRef.{NodeRef}
 use Rattle.typed_marks.specs.declared.item.Item.{Item}
 use Rattle.typed_marks.specs.Meanings.{Meaning}
+use Rattle.unit_read.specs.Imports.{bare}
 use Rattle.unit_read.specs.Units.{Unit}
 use Rattle.check_pkg.specs.declared.late_rules.Late.{Late}
 use Rattle.check_pkg.specs.declared.late_rules.Late.TheVariants as l
@@ -33,10 +34,10 @@ late_node u late at node lies fault old new here is push =
 
 -- the faults of the nodes that a rule refuses
 pub nodes_gain : (u : Unit) (marks : Item → Meaning) (late : Late) (nodes given : List NodeRef) (old new : List Refusal) → given ≡ nodes
-    → ((at : NodeRef) → Contains nodes at ↔ RefusesLate u marks late at) → Gains (SomeBelow (length given) (NthLateAt u late given)) old new → Gains (RefusedBy u marks late) old new
+    → ((at : NodeRef) → Contains nodes at ↔ RefusesLate u marks late at) → Gains (SomeBelow (length given) (NthLateAt (bare u) late given)) old new → Gains (RefusedBy u marks late) old new
 nodes_gain u marks late nodes given old new same are gains =
-    gains_as (SomeBelow (length nodes) (NthLateAt u late nodes)) (RefusedBy u marks late) old new
-    (subst (λ (ns : List NodeRef). Gains (SomeBelow (length ns) (NthLateAt u late ns)) old new) same gains) (λ x. (
+    gains_as (SomeBelow (length nodes) (NthLateAt (bare u) late nodes)) (RefusedBy u marks late) old new
+    (subst (λ (ns : List NodeRef). Gains (SomeBelow (length ns) (NthLateAt (bare u) late ns)) old new) same gains) (λ x. (
       λ (k, low, (at, read, lies)). (at, (are at).0 (contains_at nodes k at read), lies),
       λ (at, refuses, lies). let s = stands_in nodes at ((are at).1 refuses) in (s.0, slice_get_within nodes s.0 at s.1, (at, s.1, lies)),
     ))

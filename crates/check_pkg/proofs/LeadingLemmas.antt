@@ -24,13 +24,16 @@ use Rattle.object_order.specs.declared.spot.Root.{Root}
 use Rattle.package_objects.specs.Declares.{gather, is_list, listed, items_at, items, part, rooted, value_place}
 use Rattle.type_model.specs.GoTypes.{GoType}
 use Rattle.typed_marks.specs.declared.item.Item.{Item}
+use Rattle.typed_marks.specs.declared.item.Stage.TheVariants as stage
 use Rattle.typed_marks.specs.Meanings.{Meaning, Right, Wrong, Beyond, Quiet, Wishes, Declares}
 use Rattle.typed_tree.specs.Meanings.{Known}
 use Rattle.typed_tree.specs.Places.{is_package}
 use Rattle.unit_read.specs.Subjects.{flag}
+use Rattle.unit_read.specs.Imports.{bare}
 use Rattle.unit_read.specs.Units.{Unit, node_at}
 use Rattle.unit_rows.proofs.ListLemmas.{got}
-use Rattle.selected_methods.specs.Owners.{is_selector, is_good, judged, type_told, type_judged, owner_part, owner_good, owner_in, owner_of}
+use Rattle.rule_words.specs.Asking.{item}
+use Rattle.selected_methods.specs.Owners.{is_selector, is_good, judged, type_told, type_placed, owner_part, owner_good, owner_in, owner_of}
 use Rattle.selected_methods.specs.Selected.{IsSelectedMethod}
 use Rattle.value_circles.specs.Bodies.{name_slot, body_entry, named_body, body_of, body_at, nth_body, tree_bodies, file_bodies, body_entries, opened_kind, opened_node, opened, opened_trees}
 use Rattle.value_circles.specs.Circles.{first_named, RefersTo, world_of, IsInitialCircle}
@@ -287,9 +290,9 @@ told_type (Declares d) of e = absurd (nothing_there of e)
 
 told_select : (u : Unit) (marks : Item → Meaning) (at : NodeRef) (of : GoType) → owner_of u marks at ≡ Some of → may_select u marks at ≡ true
 told_select u marks at of e = by (node_at u at) e where
-  by_part_of : (f : ℕ) (o : Option ℕ) → option_and_then (type_judged marks f) o ≡ Some of → option_map_or (has_type marks f) o false ≡ true
+  by_part_of : (f : ℕ) (o : Option ℕ) → option_and_then (type_placed marks f) o ≡ Some of → option_map_or (has_type marks f) o false ≡ true
   by_part_of f None e = absurd (nothing_there of e)
-  by_part_of f (Some n) e = told_type (judged marks f n) of e
+  by_part_of f (Some n) e = told_type (marks (item stage.Placed f n)) of e
 
   by_good : (good : Bool) (node : Node) → (if good then owner_part marks at node else None) ≡ Some of → has_owner marks at.file node ≡ true
   by_good true node e = by_part_of at.file (part node 0) e
@@ -320,13 +323,13 @@ module _ (u : Unit) (marks : Item → Meaning) (rows : List (Vec Bool)) (named :
       ap (λ (o : Option (Vec Bool)). option_map_or (λ (r : Vec Bool). slice_index_or r.items at.node false) o false) row_at
       ∙ named.each at.file is.tree row is.has_tree row_at at.node is.stands
 
-  refers : (meant : NodeRef → Option NodeRef) → AreReferences u marks meant → (n z : NodeRef) → meant n ≡ Some z → IsDeclared u.trees z → leads_on u marks (flag rows) n ≡ true
+  refers : (meant : NodeRef → Option NodeRef) → AreReferences u marks meant → (n z : NodeRef) → meant n ≡ Some z → IsDeclared u.trees z → leads_on (bare u) marks (flag rows) n ≡ true
   refers meant refer n z is declared = by ((refer n z).0 is) where
-    by : IsReference u marks n z → leads_on u marks (flag rows) n ≡ true
-    by (inl ref) = or_left (option_map_or (flag rows) (reference_at u marks n) false) (may_select u marks n) (ap (λ (o : Option NodeRef). option_map_or (flag rows) o false) ref ∙ flagged z declared)
-    by (inr (none, selected)) = or_right (option_map_or (flag rows) (reference_at u marks n) false) (may_select u marks n) (told_select u marks n selected.0 selected.1)
+    by : IsReference u marks n z → leads_on (bare u) marks (flag rows) n ≡ true
+    by (inl ref) = or_left (option_map_or (flag rows) (reference_at (bare u) marks n) false) (may_select (bare u) marks n) (ap (λ (o : Option NodeRef). option_map_or (flag rows) o false) ref ∙ flagged z declared)
+    by (inr (none, selected)) = or_right (option_map_or (flag rows) (reference_at (bare u) marks n) false) (may_select (bare u) marks n) (told_select (bare u) marks n selected.0 selected.1)
 
-  module _ (none : (f m : ℕ) → LeadsInFile u marks (flag rows) f m → ⊥) (meant : NodeRef → Option NodeRef) (refer : AreReferences u marks meant) (at : NodeRef)
+  module _ (none : (f m : ℕ) → LeadsInFile (bare u) marks (flag rows) f m → ⊥) (meant : NodeRef → Option NodeRef) (refer : AreReferences u marks meant) (at : NodeRef)
       (variable : IsNamed (value_entries (opened_trees u.trees)) at) where
     abbrev w : World
     w = world_of (opened_trees u.trees) meant (body_entries u.trees)
@@ -340,11 +343,11 @@ module _ (u : Unit) (marks : Item → Meaning) (rows : List (Vec Bool)) (named :
         let (n_file, inside) = within_is u.trees meant (body_entries u.trees) v.f v.tree v.has_tree from n from_file within in
         let held = holds_in v.tree.nodes v.n from.node n.node (subst (λ (x : ℕ). Holds v.tree.nodes v.n x) (sym from_node) (v.holds root.root root.among)) inside in
         let loud = refers meant refer n z mention.meant (entry_declared u.trees z mention.entry mention.declared) in
-        none v.f n.node (v.tree, v.has_tree, v.i, (v.n, v.top, (v.node, v.node_there, v.vars, (inr held, ap (λ (f : ℕ). leads_on u marks (flag rows) (place f n.node)) (sym n_file) ∙ loud))))
+        none v.f n.node (v.tree, v.has_tree, v.i, (v.n, v.top, (v.node, v.node_there, v.vars, (inr held, ap (λ (f : ℕ). leads_on (bare u) marks (flag rows) (place f n.node)) (sym n_file) ∙ loud))))
 
     no_path : Leads (RefersTo w) at at → ⊥
     no_path ([], edge) = no_step at edge
     no_path (z ∷ via, (edge, rest)) = no_step z edge
 
-  pub no_circle : ((f m : ℕ) → LeadsInFile u marks (flag rows) f m → ⊥) → (at : NodeRef) → IsInitialFault u marks at → ⊥
+  pub no_circle : ((f m : ℕ) → LeadsInFile (bare u) marks (flag rows) f m → ⊥) → (at : NodeRef) → IsInitialFault u marks at → ⊥
   no_circle none at (meant, refer, circle) = no_path none meant refer at circle.variable circle.reaches

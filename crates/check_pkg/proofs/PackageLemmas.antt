@@ -23,7 +23,8 @@ use Rattle.typed_marks.specs.declared.item.Item.{Item}
 use Rattle.typed_marks.specs.Meanings.{Meaning, Quiet}
 use Rattle.typed_marks.specs.States.{so_far}
 use Rattle.unit_read.specs.declared.subject.Subject.{Subject}
-use Rattle.unit_read.specs.Subjects.{cell, flag, unit_of}
+use Rattle.unit_read.specs.Imports.{bare}
+use Rattle.unit_read.specs.Subjects.{cell, flag, full_of, unit_of}
 use Rattle.unit_read.specs.declared.environment.Environment.{Environment}
 use Rattle.unit_read.specs.Environments.{faces_in}
 use Rattle.unit_read.specs.Units.{Unit, name_at, base_of}
@@ -82,8 +83,8 @@ exported_alike u a b alike out (k, r) = (
 )
 
 -- what is declared by the marks so far is what they declare, once nothing is said of the rest
-told_at : (u : Unit) (so_far : Item → Option Meaning) (name : TypeName) → declared (base_of u) (type_item u) declaration_told so_far name ≡ declarations_of u (filled Quiet so_far) name
-told_at u so_far name = ap (option_or (base_of u name)) (by (type_item u name)) where
+told_at : (u : Unit) (so_far : Item → Option Meaning) (name : TypeName) → declared (base_of u) (type_item (bare u)) declaration_told so_far name ≡ declarations_of u (filled Quiet so_far) name
+told_at u so_far name = ap (option_or (base_of u name)) (by (type_item (bare u) name)) where
   at : (i : Item) (m : Option Meaning) → so_far i ≡ m → option_map_or declaration_told (so_far i) None ≡ declaration_told (filled Quiet so_far i)
   at i None e = ap (λ (m : Option Meaning). option_map_or declaration_told m None) e ∙ sym (ap (λ (m : Option Meaning). declaration_told (unwrap_or m Quiet)) e)
   at i (Some x) e = ap (λ (m : Option Meaning). option_map_or declaration_told m None) e ∙ sym (ap (λ (m : Option Meaning). declaration_told (unwrap_or m Quiet)) e)
@@ -94,7 +95,7 @@ told_at u so_far name = ap (option_or (base_of u name)) (by (type_item u name)) 
 
 -- what is kept of a unit that is read and marked
 is_typed : (rule : Unit → Item → Rule) (u : Subject) (f : Found) (uses : List (NodeRef × Object)) (flags : Flags) → IsFound rule u f → u.uses.now ≡ uses → AreFlagsOf u flags
-    → IsTyped rule (unit_of u) (record { uses = uses; flags = flags; state = f.state })
+    → IsTyped rule (full_of u) (record { uses = uses; flags = flags; state = f.state })
 is_typed rule u f uses flags found same are = record {
   uses = sym same;
   redeclared = ap (λ (rows : Vec (Vec Bool)). flag rows.items) are.redeclared;
@@ -102,20 +103,21 @@ is_typed rule u f uses flags found same are = record {
   circular = ap (λ (rows : Vec (Vec Bool)). flag rows.items) are.circular;
   owner = ap (λ (rows : Vec (Vec (Option NodeRef))). cell rows.items) are.owners;
   state = found.scene.state;
+  blocks = found.scene.blocks;
   basics = found.scene.basics;
   step = found.scene.step;
   annotated = found.annotated;
 }
 
 is_checked : (rule : Unit → Item → Rule) (u : Subject) (f : Found) (uses : List (NodeRef × Object)) (flags : Flags) → IsFound rule u f → u.uses.now ≡ uses → AreFlagsOf u flags
-    → IsChecked rule (unit_of u) (record { refused = f.refused; exports = f.exports; typed = record { uses = uses; flags = flags; state = f.state } })
+    → IsChecked rule (full_of u) (record { refused = f.refused; exports = f.exports; typed = record { uses = uses; flags = flags; state = f.state } })
 is_checked rule u f uses flags found same are = record {
   marks = record {
     marks = marks;
-    annotated = the.is;
+    annotated = the;
     each = λ other is x. (
-      λ h. refused_alike (unit_of u) marks other (λ i. sym (the.alone other is i)) x ((found.all x).0 h),
-      λ h. (found.all x).1 (refused_alike (unit_of u) other marks (λ i. the.alone other is i) x h),
+      λ h. refused_alike (full_of u) marks other (λ i. sym (the.alone other is i)) x ((found.all x).0 h),
+      λ h. (found.all x).1 (refused_alike (full_of u) other marks (λ i. the.alone other is i) x h),
     );
   };
   ordered = found.ordered;
@@ -130,7 +132,7 @@ is_checked rule u f uses flags found same are = record {
       );
     };
     declared = λ other is name.
-        found.scene.step name ∙ (told_at (unit_of u) (so_far f.state) name ∙ ap (λ (m : Item → Meaning). declarations_of (unit_of u) m name) (fun_ext (λ i. sym (the.alone other is i))));
+        found.scene.step name ∙ (told_at (full_of u) (so_far f.state) name ∙ ap (λ (m : Item → Meaning). declarations_of (full_of u) m name) (fun_ext (λ i. sym (the.alone other is i))));
   };
   nothing = found.nothing;
   typed = is_typed rule u f uses flags found same are;
@@ -143,9 +145,9 @@ is_checked rule u f uses flags found same are = record {
 
 -- what comes of a package that has been read
 pub read_outcome : (rule : Unit → Item → Rule) (u : Subject) (judged : Judged) (flags : Flags) (path : List ℕ) (texts : List (List ℕ)) (trees : List FileTree) (uses : List (NodeRef × Object)) (env : List Face)
-    → IsUnitOf path texts trees uses env (unit_of u) → IsJudged rule u judged → AreFlagsOf u flags → IsOutcomeBy rule path texts trees uses env (outcome_in judged uses flags)
-read_outcome rule u (j.Found f) flags path texts trees uses env of is are = record { unit = unit_of u; «is» = of; comes = is_checked rule u f uses flags is of.uses are }
-read_outcome rule u j.Circle flags path texts trees uses env of is are = record { unit = unit_of u; «is» = of; comes = is }
+    → IsUnitOf path texts trees uses env (full_of u) → IsJudged rule u judged → AreFlagsOf u flags → IsOutcomeBy rule path texts trees uses env (outcome_in judged uses flags)
+read_outcome rule u (j.Found f) flags path texts trees uses env of is are = record { unit = full_of u; «is» = of; comes = is_checked rule u f uses flags is of.uses are }
+read_outcome rule u j.Circle flags path texts trees uses env of is are = record { unit = full_of u; «is» = of; comes = is }
 
 pub read_types : (rule : Unit → Item → Rule) (u : Subject) (judged : Judged) (flags : Flags) (uses : List (NodeRef × Object)) → IsJudged rule u judged → HasTypes u.env.now.types.now (outcome_in judged uses flags)
 read_types rule u (j.Found f) flags uses is = (is.scene.basics, is.scene.env)
@@ -194,10 +196,10 @@ is_outcome rule path files trees env named uses outcome known ordered bound by =
   comes = by.comes;
 }
 
-pub collected : (u : Unit) (marks : Item → Meaning) (start mid last end : List Refusal) → start ≡ [] → Gains (IsRefusedItem u marks) start mid → Gains (RefusesAllImports u marks) mid last
+pub collected : (u : Unit) (marks : Item → Meaning) (start mid last end : List Refusal) → start ≡ [] → Gains (IsRefusedItem (bare u) marks) start mid → Gains (RefusesAllImports u marks) mid last
     → Gains (IsRefusedLate u marks) last end → (x : Refusal) → Contains end x ↔ IsRefused u marks x
 collected u marks start mid last end empty items imports lates x =
-    let all = gains_then (IsRefusedItem u marks) (λ y. RefusesAllImports u marks y ⊎ IsRefusedLate u marks y) start mid end items
+    let all = gains_then (IsRefusedItem (bare u) marks) (λ y. RefusesAllImports u marks y ⊎ IsRefusedLate u marks y) start mid end items
     (gains_then (RefusesAllImports u marks) (IsRefusedLate u marks) mid last end imports lates) in (
       λ h. elim ((all.all x).0 h) [
         | inl before ↦ absurd (nothing start x empty before)

@@ -16,6 +16,7 @@ use Rattle.package_objects.specs.Declares.{declared}
 use Rattle.package_needs.specs.Keys.{IsRowBy}
 use Rattle.package_needs.specs.Kin.{IsOwnerAt}
 use Rattle.package_needs.specs.Worlds.{IsOrderOf, AreOwners, AreNeedsOf}
+use Rattle.unit_read.specs.Imports.{bare}
 use Rattle.unit_read.specs.Subjects.{cell, flag}
 use Rattle.unit_read.specs.Units.{Unit, nodes_of, is_among}
 use Rattle.unit_rows.specs.Circular.{AreCircular}
@@ -91,19 +92,19 @@ are_needs u order owners of flags own = record {
   marks_of : (at : NodeRef) (node : Node) → slice_get (nodes_of (slice_get u.trees at.file)) at.node ≡ Some node → IsTrue (is_cyclic u.trees order at) ↔ (IsNamed (declared u.trees of.rows) at × Leads (NeedsOf of.world) at at)
   marks_of at node there = marks_cyclic u.uses u.trees (struct_elsewhere u) order (order_of u.uses u.trees (struct_elsewhere u) order owners of) at node there
 
-pub is_unit_of : (path : List ℕ) (texts : List (List ℕ)) (trees : List FileTree) (uses : List (NodeRef × Object)) (env : List Face) (bare u : Unit) (before after later redeclared cyclic circular : List (Vec Bool)) (order : List Needed)
-    (owners : List (Vec (Option NodeRef))) → bare ≡ package_unit path texts trees uses env before after later owners → u ≡ with_flags bare redeclared cyclic circular → AreAgain bare (flag redeclared)
-    → AreNeedsOf uses trees (struct_elsewhere bare) order owners → ((at : NodeRef) → flag cyclic at ≡ is_cyclic trees order at) → AreCircular bare (flag circular) → IsUnitOf path texts trees uses env u
-is_unit_of path texts trees uses env bare u before after later redeclared cyclic circular order owners bare_is u_is again of needs turn =
-    subst (λ (x : Unit). IsUnitOf path texts trees uses env x) (sym (u_is ∙ ap (λ (x : Unit). with_flags x redeclared cyclic circular) bare_is)) record {
+pub is_unit_of : (path : List ℕ) (texts : List (List ℕ)) (trees : List FileTree) (uses : List (NodeRef × Object)) (env : List Face) (seen u : Unit) (before after later redeclared cyclic circular : List (Vec Bool)) (order : List Needed)
+    (owners : List (Vec (Option NodeRef))) → seen ≡ package_unit path texts trees uses env before after later owners → u ≡ with_flags seen redeclared cyclic circular → AreAgain (bare seen) (flag redeclared)
+    → AreNeedsOf uses trees (struct_elsewhere seen) order owners → ((at : NodeRef) → flag cyclic at ≡ is_cyclic trees order at) → AreCircular (bare seen) (flag circular) → IsUnitOf path texts trees uses env u
+is_unit_of path texts trees uses env seen u before after later redeclared cyclic circular order owners seen_is u_is again of needs turn =
+    subst (λ (x : Unit). IsUnitOf path texts trees uses env x) (sym (u_is ∙ ap (λ (x : Unit). with_flags x redeclared cyclic circular) seen_is)) record {
       path = refl;
       texts = refl;
       trees = refl;
       uses = refl;
       env = refl;
-      redeclared = (let here = subst (λ (x : Unit). AreAgain x (flag redeclared)) bare_is again in record { rows = here.rows; names = here.names; each = here.each });
-      needs = are_needs (package_unit path texts trees uses env redeclared cyclic circular owners) order owners (subst (λ (x : Unit). AreNeedsOf uses trees (struct_elsewhere x) order owners) bare_is of) needs (λ at. refl);
-      circular = (let turned = subst (λ (x : Unit). AreCircular x (flag circular)) bare_is turn in record { each = turned.each; others = turned.others });
+      redeclared = (let here = subst (λ (x : Unit). AreAgain (bare x) (flag redeclared)) seen_is again in record { rows = here.rows; names = here.names; each = here.each });
+      needs = are_needs (package_unit path texts trees uses env redeclared cyclic circular owners) order owners (subst (λ (x : Unit). AreNeedsOf uses trees (struct_elsewhere x) order owners) seen_is of) needs (λ at. refl);
+      circular = (let turned = subst (λ (x : Unit). AreCircular (bare x) (flag circular)) seen_is turn in record { each = turned.each; others = turned.others });
     }
 
 -- ---- a package that was read without flags
@@ -122,10 +123,10 @@ seen_of seen u path texts trees uses env is of = subst (λ (x : Unit). IsUnitOf 
 
 -- ---- the names of the package block: flags and the types of methods change nothing of them
 
-pub names_owned : (u : Unit) (owners : List (Vec (Option NodeRef))) → package_names (with_owners u owners) ≡ package_names u
+pub names_owned : (u : Unit) (owners : List (Vec (Option NodeRef))) → package_names (bare (with_owners u owners)) ≡ package_names (bare u)
 names_owned u owners = refl
 
-pub names_flagged : (u : Unit) (redeclared cyclic circular : List (Vec Bool)) → package_names (with_flags u redeclared cyclic circular) ≡ package_names u
+pub names_flagged : (u : Unit) (redeclared cyclic circular : List (Vec Bool)) → package_names (bare (with_flags u redeclared cyclic circular)) ≡ package_names (bare u)
 names_flagged u redeclared cyclic circular = refl
 
 -- ---- the names that the files declare

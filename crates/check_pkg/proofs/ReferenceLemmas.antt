@@ -10,6 +10,7 @@ use Rattle.object_order.specs.Spots.{place}
 use Rattle.package_needs.specs.Worlds.{name_of}
 use Rattle.typed_marks.specs.declared.item.Item.{Item}
 use Rattle.typed_marks.specs.Meanings.{Meaning}
+use Rattle.unit_read.specs.Imports.{bare}
 use Rattle.unit_read.specs.Rows.{AreRows}
 use Rattle.unit_read.specs.Subjects.{cell}
 use Rattle.unit_read.specs.Units.{Unit, node_at, object_in}
@@ -60,7 +61,7 @@ none_selected u marks methods are at none = by (methods at) refl
     by None e = e
     by (Some w) e =
         let (of, owns, is) = (are at w).0 e in
-        let nothing : owner_of u marks at ≡ None = ap (λ (o : Option Node). option_and_then (owner_in marks at) o) none in
+        let nothing : owner_of (bare u) marks at ≡ None = ap (λ (o : Option Node). option_and_then (owner_in marks at) o) none in
         absurd cc
 
 joined_is : (P : NodeRef → Type 0) (o m : Option NodeRef) → IsWhat P m → (w : NodeRef) → (option_or o m ≡ Some w) ↔ ((o ≡ Some w) ⊎ ((o ≡ None) × P w))
@@ -80,8 +81,8 @@ joined_is P (Some v) m are w = (
 )
 
 -- to what each node is a reference
-pub joined_are : (u : Unit) (marks : Item → Meaning) (methods : NodeRef → Option NodeRef) → AreSelected u marks methods → AreReferences u marks (joined_at u marks methods)
-joined_are u marks methods are = λ at w. joined_is (IsSelectedMethod u marks at) (reference_at u marks at) (methods at) (are at) w
+pub joined_are : (u : Unit) (marks : Item → Meaning) (methods : NodeRef → Option NodeRef) → AreSelected u marks methods → AreReferences u marks (joined_at (bare u) marks methods)
+joined_are u marks methods are = λ at w. joined_is (IsSelectedMethod u marks at) (reference_at (bare u) marks at) (methods at) (are at) w
 
 same_option : {X : Type 0} (P : X → Type 0) (a b : Option X) → IsWhat P a → IsWhat P b → a ≡ b
 same_option P None None p q = refl

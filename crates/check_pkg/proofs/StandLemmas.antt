@@ -22,6 +22,7 @@ use Rattle.typed_marks.specs.declared.item.Item.{Item}
 use Rattle.typed_marks.specs.declared.item.Span.{Span}
 use Rattle.typed_marks.specs.Meanings.{Meaning}
 use Rattle.unit_read.specs.declared.passage.Passage.{Passage}
+use Rattle.unit_read.specs.Imports.{bare}
 use Rattle.unit_read.specs.Passages.{passages, file_passage, nth_file, copied, copies_from, copies_by, nth_copy, copies_in, file_copies, values_span}
 use Rattle.unit_read.specs.Units.{Unit, text_in, tree_at, nodes_of, node_at}
 use Rattle.rule_words.specs.Asking.{Rule}
@@ -188,7 +189,7 @@ passage_there trees k p h = elim (append_cases (gather (nth_file trees) (length 
 
 -- ---- refusals
 
-item_lies : (p : Package) (env : Env) (u : Unit) (marks : Item → Meaning) (x : Refusal) → IsUnit p env u → AreSpelled p.trees p.files → AreInText p → IsRefusedItem u marks x → Lies p x.place
+item_lies : (p : Package) (env : Env) (u : Unit) (marks : Item → Meaning) (x : Refusal) → IsUnit p env u → AreSpelled p.trees p.files → AreInText p → IsRefusedItem (bare u) marks x → Lies p x.place
 item_lies p env u marks x is spelled within r =
     let t = passage_there u.trees r.block r.passage r.here in
     let read : slice_get p.trees r.passage.file ≡ Some t.0 = ap (λ (ts : List FileTree). slice_get ts r.passage.file) (sym is.trees) ∙ t.1 in
@@ -196,7 +197,7 @@ item_lies p env u marks x is spelled within r =
     subst (Lies p) (sym r.refuses.1) record {
       file = found.0;
       there = found.1;
-      within = fault_low u r.passage.file r.node (value_in u r.passage r.node) r.passage.spec x.fault (length found.0.1)
+      within = fault_low (bare u) r.passage.file r.node (value_in (bare u) r.passage r.node) r.passage.spec x.fault (length found.0.1)
           (λ m. offset_low p env u (place r.passage.file m) t.0 found.0 is within read found.1) (constraint_lies p env u r.passage.file t.0 found.0 is read found.1);
     }
 
@@ -214,10 +215,10 @@ late_lies p env u late at node x is spelled within there lies =
     let found = file_of p at.file t.0 spelled read in
     subst (Lies p) (sym lies) record { file = found.0; there = found.1; within = start_low p env u at.file (late_token late node) t.0 found.0 is within read found.1 }
 
-body_lies : (p : Package) (env : Env) (u : Unit) (meant : NodeRef → Option NodeRef) (y : LateFault) (x : Refusal) → IsUnit p env u → AreSpelled p.trees p.files → AreInText p → IsBodyFault u meant y
+body_lies : (p : Package) (env : Env) (u : Unit) (meant : NodeRef → Option NodeRef) (y : LateFault) (x : Refusal) → IsUnit p env u → AreSpelled p.trees p.files → AreInText p → IsBodyFault (bare u) meant y
     → x.place ≡ y.place → Lies p x.place
 body_lies p env u meant y x is spelled within fault lies =
-    let s = fault_stands u meant y fault in
+    let s = fault_stands (bare u) meant y fault in
     let read : slice_get p.trees y.place.file ≡ Some s.tree = ap (λ (ts : List FileTree). slice_get ts y.place.file) (sym is.trees) ∙ s.there in
     let found = file_of p y.place.file s.tree spelled read in
     subst (Lies p) (sym lies) record {
@@ -229,11 +230,11 @@ body_lies p env u meant y x is spelled within fault lies =
 -- each refusal stands in a file of the package
 pub refusal_stands : (rule : Unit → Item → Rule) (p : Package) (env : Env) (u : Unit) (list : List Refusal) → IsUnit p env u → AreSpelled p.trees p.files → AreInText p → HasMarks rule u list
     → (x : Refusal) → Contains list x → Lies p x.place
-refusal_stands rule p env u list is spelled within has x there = by ((has.each has.marks has.annotated x).0 there) where
+refusal_stands rule p env u list is spelled within has x there = by ((has.each has.marks has.annotated.is x).0 there) where
   by : IsRefused u has.marks x → Lies p x.place
   by (inl item) = item_lies p env u has.marks x is spelled within item
   by (inr (inr (inl (late, (at, refuses, (node, here, (lies, fault))))))) = late_lies p env u late at node x is spelled within here lies
-  by (inr (inr (inr (y, found, (lies, fault))))) = body_lies p env u (reads_at u has.marks) y x is spelled within found lies
+  by (inr (inr (inr (y, found, (lies, fault))))) = body_lies p env u (reads_at (bare u) has.marks) y x is spelled within found lies
   by (inr (inl (at, name, (tree, here, among), named, lies, fault))) =
       let read : slice_get p.trees at.file ≡ Some tree = ap (λ (ts : List FileTree). slice_get ts at.file) (sym is.trees) ∙ here in
       let found = file_of p at.file tree spelled read in

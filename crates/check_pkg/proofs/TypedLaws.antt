@@ -1,5 +1,5 @@
 -- What is kept of a package that was checked: read again, it is the same unit, with the same marks.
-use Rattle.std.proofs.Common.{◌≡◌, ℕ, Bool, false, List, map, Option, Some, None, option_map, option_and_then, slice_get, slice_index_or, refl, sym, ap, ◌∙◌, subst}
+use Rattle.std.proofs.Common.{◌≡◌, ℕ, Bool, false, List, length, map, Option, Some, None, option_map, option_and_then, slice_get, slice_index_or, refl, sym, ap, ◌∙◌, subst}
 use Rattle.std.proofs.Math.Path.{fun_ext}
 use Rattle.std.specs.Global.{Vec}
 use Rattle.std.specs.Option.{option_map_or}
@@ -15,7 +15,9 @@ use Rattle.type_questions.specs.Over.{declared}
 use Rattle.typed_marks.specs.declared.item.Item.{Item}
 use Rattle.typed_marks.specs.States.{so_far}
 use Rattle.unit_read.specs.declared.subject.Subject.{Subject}
-use Rattle.unit_read.specs.Subjects.{cell, flag, unit_of, IsRead}
+use Rattle.unit_read.specs.Imports.{bare}
+use Rattle.unit_read.specs.Passages.{passages}
+use Rattle.unit_read.specs.Subjects.{cell, flag, full_of, IsRead}
 use Rattle.unit_read.specs.Units.{Unit, base_of}
 use Rattle.unit_rows.specs.Drafts.{package_unit}
 use Rattle.rule_words.specs.Asking.{Rule, type_item, declaration_told}
@@ -89,11 +91,12 @@ module _ (rule : Unit → Item → Rule) (u : Unit) (t : Typed) (typed : IsTyped
       (flag t.flags.circular.items) u.circular (cell t.flags.owners.items) u.owner typed.uses typed.redeclared typed.cyclic typed.circular typed.owner
 
   -- and the package that is read again is marked
-  pub typed_scene : (s : Subject) → IsRead s → unit_of s ≡ u → Extends s.env.now.types.now (terms_in t.state.table) → IsScene s t.state
+  pub typed_scene : (s : Subject) → IsRead s → full_of s ≡ u → Extends s.env.now.types.now (terms_in t.state.table) → IsScene s t.state
   typed_scene s read same extends = record {
     read = read;
     state = typed.state;
+    blocks = typed.blocks ∙ ap (λ (v : Unit). length (passages v.trees)) (sym same);
     basics = typed.basics;
     env = extends;
-    step = subst (λ (v : Unit). (name : TypeName) → declarations_in t.state.table name ≡ declared (base_of v) (type_item v) declaration_told (so_far t.state) name) (sym same) typed.step;
+    step = subst (λ (v : Unit). (name : TypeName) → declarations_in t.state.table name ≡ declared (base_of v) (type_item (bare v)) declaration_told (so_far t.state) name) (sym same) typed.step;
   }

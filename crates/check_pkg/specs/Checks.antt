@@ -1,17 +1,18 @@
 -- What comes of a package.
-use Rattle.std.specs.Prelude.{◌≡◌, ℕ, List, [], map, Option}
+use Rattle.std.specs.Prelude.{◌≡◌, ℕ, List, [], map, Option, Some}
 use Rattle.package_faces.specs.Interfaces.{object_in, AreObjectsIn}
 use Rattle.type_model.specs.declared.table.TypeTable.{TypeTable}
 use Rattle.type_model.specs.declared.term.TypeName.{TypeName}
 use Rattle.type_model.specs.declared.term.Term.{Term}
 use Rattle.type_model.specs.Tables.{IsTable, Extends, count, terms_in, types_in, declarations_in}
 use Rattle.typed_tree.specs.Basics.{HasBasics}
-use Rattle.mark_walk.specs.Asks.{Sound, Awaits, WaitsFor}
+use Rattle.mark_walk.specs.Asks.{Sound, Awaits}
+use Rattle.mark_walk.specs.Waiting.{IsCircle}
 use Rattle.typed_marks.specs.declared.item.Item.{Item}
 use Rattle.typed_marks.specs.Meanings.{Meaning}
 use Rattle.unit_read.specs.Units.{Unit}
 use Rattle.rule_words.specs.Asking.{Rule}
-use Rattle.elaborate.specs.Walks.{item_rule}
+use Rattle.elaborate.specs.Walks.{IsItemOf, item_rule}
 use Rattle.type_answers.specs.Answering.{says_of, pends_of}
 use Rattle.check_pkg.specs.declared.judging.Checked.{Checked}
 use Rattle.check_pkg.specs.declared.judging.Outcome.{Outcome}
@@ -46,12 +47,12 @@ pub record IsChecked (rule : Unit → Item → Rule) (u : Unit) (c : Checked) : 
   pub nothing : ¬ (c.refused.items ≡ []) → c.exports.items ≡ []
   pub typed : IsTyped rule u c.typed
 
--- Over marks that every annotation has, an item waits for itself.
+-- Over marks that every annotation has, an item of the package waits for one that waits for itself.
 pub record HasCircle (rule : Unit → Item → Rule) (u : Unit) : Type 0 where
   pub so_far : Item → Option Meaning
   pub item : Item
   pub sound : Sound (says_of u) (item_rule rule u) so_far
-  pub waits : WaitsFor (λ x. Awaits (says_of u) (pends_of u) so_far (item_rule rule u x)) item item
+  pub waits : IsCircle (λ x. Awaits (says_of u) (pends_of u) so_far (item_rule rule u x)) (IsItemOf u) (Some item)
 
 abbrev pub IsOutcome : (Unit → Item → Rule) → Unit → Outcome → Type 0
 IsOutcome rule u (o.Checked c) = IsChecked rule u c

@@ -10,7 +10,7 @@ use Rattle.go_tree.specs.Bindings.{IsBefore}
 use Rattle.gv_base.specs.declared.place.Place.{Place}
 use Rattle.package_faces.specs.declared.interface.Interface.{Interface}
 use Rattle.typed_tree.specs.declared.rule.Rule.{Rule}
-use Rattle.unit_read.specs.Imports.{import_limit}
+use Rattle.unit_read.specs.Imports.{bare, import_limit}
 use Rattle.typed_marks.specs.declared.item.Item.{Item}
 use Rattle.typed_marks.specs.Meanings.{Meaning}
 use Rattle.unit_read.specs.Units.{Unit, name_at}
@@ -34,7 +34,7 @@ pairs list = map (λ (d : Declared). (d.name.now, d.at)) list
 
 -- the import declares the name
 abbrev pub Names : Unit → ℕ → NodeRef → List ℕ → Type 0
-Names u f at name = (at.file ≡ f) × IsImport u at × (import_name u at ≡ Some name)
+Names u f at name = (at.file ≡ f) × IsImport (bare u) at × (import_name u at ≡ Some name)
 
 -- the names that the imports of a file declare
 pub record AreNames (u : Unit) (f : ℕ) (list : List Declared) : Type 0 where
@@ -101,14 +101,14 @@ HasName u name = (n : NodeRef) × Contains (package_names u) n × (name_at u n �
 
 -- an earlier import of the file has it
 abbrev pub ComesLater : Unit → NodeRef → List ℕ → Type 0
-ComesLater u at name = (other : NodeRef) × IsImport u other × (other.file ≡ at.file) × IsBefore other at × (import_name u other ≡ Some name)
+ComesLater u at name = (other : NodeRef) × IsImport (bare u) other × (other.file ≡ at.file) × IsBefore other at × (import_name u other ≡ Some name)
 
 -- E7 is broken
 abbrev pub IsUnused : Unit → (Item → Meaning) → NodeRef → Type 0
 IsUnused u marks at = (import_limit u at ≡ None) × (IsUsed u marks at → ⊥)
 
 abbrev pub RefusesName : Unit → (Item → Meaning) → NodeRef → List ℕ → Refusal → Type 0
-RefusesName u marks at name x = (x.place ≡ place_of u at) × HasImportFault u marks at name x.fault
+RefusesName u marks at name x = (x.place ≡ place_of (bare u) at) × HasImportFault u marks at name x.fault
 
 abbrev pub RefusesNthName : Unit → (Item → Meaning) → List Declared → ℕ → Refusal → Type 0
 RefusesNthName u marks list k x = (d : Declared) × (slice_get list k ≡ Some d) × RefusesName u marks d.at d.name.now x

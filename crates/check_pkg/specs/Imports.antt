@@ -9,7 +9,7 @@ use Rattle.go_tree.specs.declared.tree.FileTree.{FileTree}
 use Rattle.go_tree.specs.declared.tree.NodeRef.{NodeRef}
 use Rattle.bind.specs.Imports.{line_name, specs_in}
 use Rattle.typed_tree.specs.declared.rule.TheConstants.{REDECLARED, UNUSED_IMPORT}
-use Rattle.unit_read.specs.Imports.{import_limit}
+use Rattle.unit_read.specs.Imports.{bare, import_limit}
 use Rattle.typed_marks.specs.declared.item.Item.{Item}
 use Rattle.typed_marks.specs.Meanings.{Meaning}
 use Rattle.unit_read.specs.Units.{Unit, text_in, tree_at, name_at}
@@ -35,8 +35,8 @@ IsDeclared u name = (n : NodeRef) × Contains (package_names u) n × (name_at u 
 -- E1: the package block has the name, or an earlier import of the file
 abbrev pub IsTaken : Unit → NodeRef → List ℕ → Type 0
 IsTaken u at name =
-    IsDeclared u name
-    ⊎ ((other : NodeRef) × IsImport u other × (other.file ≡ at.file) × IsBefore other at × (import_name u other ≡ Some name))
+    IsDeclared (bare u) name
+    ⊎ ((other : NodeRef) × IsImport (bare u) other × (other.file ≡ at.file) × IsBefore other at × (import_name u other ≡ Some name))
 
 -- a use in the file denotes the import; the name of a field before a colon is none
 abbrev pub IsUsed : Unit → (Item → Meaning) → NodeRef → Type 0
@@ -46,9 +46,9 @@ IsUsed u marks at = (n : NodeRef) × (n.file ≡ at.file) × (uses_at u marks n 
 abbrev pub HasImportFault : Unit → (Item → Meaning) → NodeRef → List ℕ → Fault → Type 0
 HasImportFault u marks at name fault =
     ((fault ≡ RuleFault REDECLARED) × IsTaken u at name)
-    ⊎ ((fault ≡ RuleFault UNUSED_IMPORT) × (import_limit u at ≡ None) × (IsUsed u marks at → ⊥))
+    ⊎ ((fault ≡ RuleFault UNUSED_IMPORT) × (import_limit (bare u) at ≡ None) × (IsUsed (bare u) marks at → ⊥))
 
 -- an import refuses the package, at its first token
 abbrev pub IsRefusedImport : Unit → (Item → Meaning) → Refusal → Type 0
 IsRefusedImport u marks x =
-    (at : NodeRef) × (name : List ℕ) × IsImport u at × (import_name u at ≡ Some name) × (x.place ≡ place_of u at) × HasImportFault u marks at name x.fault
+    (at : NodeRef) × (name : List ℕ) × IsImport (bare u) at × (import_name u at ≡ Some name) × (x.place ≡ place_of (bare u) at) × HasImportFault u marks at name x.fault

@@ -20,6 +20,7 @@ use Rattle.typed_tree.specs.declared.mark.Mode.TheVariants as mode
 use Rattle.typed_marks.specs.declared.item.Item.{Item}
 use Rattle.typed_marks.specs.declared.item.Stage.TheVariants as s
 use Rattle.typed_marks.specs.Meanings.{Meaning, Right, Wrong, Beyond, Quiet, Wishes, Declares}
+use Rattle.unit_read.specs.Imports.{bare}
 use Rattle.unit_read.specs.Units.{Unit, name_at, base_of}
 use Rattle.unit_rows.specs.Redeclared.{package_names}
 use Rattle.rule_words.specs.Asking.{Rule, item, type_item, declaration_told}
@@ -89,7 +90,7 @@ IsExported u marks out = (k : ℕ) × ExportsNth u marks k out
 
 -- what is declared by an annotation
 abbrev pub declarations_of : Unit → (Item → Meaning) → Declarations
-declarations_of u marks = declared (base_of u) (type_item u) declaration_told (λ i. Some (marks i))
+declarations_of u marks = declared (base_of u) (type_item (bare u)) declaration_told (λ i. Some (marks i))
 
 -- its name: that in the package clause of its first file
 abbrev pub unit_name : Unit → List ℕ
@@ -98,7 +99,7 @@ unit_name u = spelled_at (record { texts = u.texts; trees = u.trees }) 0 0
 -- The objects are what the unit exports by these rules, whatever annotation is read: in byte order of the names, and each name once.
 pub record HasObjects (rule : Unit → Item → Rule) (u : Unit) (objects : List ObjectOut) : Type 0 where
   pub rise : rises object_before objects ≡ true
-  pub each : (marks : Item → Meaning) → IsAnnotation rule u marks → (out : ObjectOut) → Contains objects out ↔ IsExported u marks out
+  pub each : (marks : Item → Meaning) → IsAnnotation rule u marks → (out : ObjectOut) → Contains objects out ↔ IsExported (bare u) marks out
 
 -- What is seen of the unit by other packages: what it exports, and the own defined types that are reached from there through fields, methods
 -- and underlying types, exported or not, each as every annotation declares it; types by name, their methods by name and package.

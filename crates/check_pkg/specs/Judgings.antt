@@ -12,7 +12,7 @@ use Rattle.typed_marks.specs.declared.item.Item.{Item}
 use Rattle.typed_marks.specs.Meanings.{Quiet}
 use Rattle.typed_marks.specs.States.{so_far}
 use Rattle.unit_read.specs.declared.subject.Subject.{Subject}
-use Rattle.unit_read.specs.Subjects.{unit_of}
+use Rattle.unit_read.specs.Subjects.{full_of, unit_of}
 use Rattle.unit_read.specs.Units.{Unit}
 use Rattle.rule_words.specs.Asking.{Rule}
 use Rattle.rule_words.specs.Scenes.{IsScene}
@@ -34,7 +34,7 @@ use Rattle.check_pkg.specs.Refusals.{IsRefused}
 pub record IsFound (rule : Unit → Item → Rule) (u : Subject) (f : Found) : Type 0 where
   pub scene : IsScene u f.state
   pub annotated : IsAnnotated rule u f.state
-  pub all : (x : Refusal) → Contains f.refused.items x ↔ IsRefused (unit_of u) (filled Quiet (so_far f.state)) x
+  pub all : (x : Refusal) → Contains f.refused.items x ↔ IsRefused (full_of u) (filled Quiet (so_far f.state)) x
   pub ordered : IsOrdered f.refused.items
   pub rise : f.refused.items ≡ [] → rises object_before (outs_in f.state f.exports.items) ≡ true
   pub exported : f.refused.items ≡ [] → (out : ObjectOut) → Contains (outs_in f.state f.exports.items) out ↔ IsExported (unit_of u) (filled Quiet (so_far f.state)) out
@@ -43,7 +43,7 @@ pub record IsFound (rule : Unit → Item → Rule) (u : Subject) (f : Found) : T
 
 abbrev pub IsJudged : (Unit → Item → Rule) → Subject → Judged → Type 0
 IsJudged rule u (j.Found f) = IsFound rule u f
-IsJudged rule u j.Circle = HasCircle rule (unit_of u)
+IsJudged rule u j.Circle = HasCircle rule (full_of u)
 
 -- what comes of it, with what is kept
 abbrev pub outcome_in : Judged → List (NodeRef × Object) → Flags → Outcome

@@ -6,6 +6,7 @@ use Rattle.go_tree.specs.declared.tree.NodeRef.{NodeRef}
 use Rattle.typed_tree.specs.declared.rule.Rule.{Rule}
 use Rattle.typed_marks.specs.declared.item.Item.{Item}
 use Rattle.typed_marks.specs.Meanings.{Meaning}
+use Rattle.unit_read.specs.Imports.{bare}
 use Rattle.unit_read.specs.Units.{Unit, node_at}
 use Rattle.duplicate_cases.specs.Duplicates.{IsDuplicateCase}
 use Rattle.check_pkg.specs.declared.late_rules.Late.{Late}
@@ -35,7 +36,7 @@ late_token l.DuplicateCase node = node.first
 -- the rule refuses the node
 abbrev pub RefusesLate : Unit → (Item → Meaning) → Late → NodeRef → Type 0
 RefusesLate u marks l.InitialCycle at = IsInitialFault u marks at
-RefusesLate u marks l.DuplicateCase at = IsDuplicateCase u marks at
+RefusesLate u marks l.DuplicateCase at = IsDuplicateCase (bare u) marks at
 
 -- ---- what they refuse
 
@@ -48,7 +49,7 @@ IsLateAt u late at x = OfSome (node_at u at) (IsLateIn u late at) x
 
 -- a node that the rule refuses
 abbrev pub RefusedBy : Unit → (Item → Meaning) → Late → Refusal → Type 0
-RefusedBy u marks late x = (at : NodeRef) × RefusesLate u marks late at × IsLateAt u late at x
+RefusedBy u marks late x = (at : NodeRef) × RefusesLate u marks late at × IsLateAt (bare u) late at x
 
 -- some row refuses the package
 abbrev pub IsRefusedByRow : Unit → (Item → Meaning) → Refusal → Type 0
@@ -56,7 +57,7 @@ IsRefusedByRow u marks x = (late : Late) × RefusedBy u marks late x
 
 -- Some late rule refuses the package.
 abbrev pub IsRefusedLate : Unit → (Item → Meaning) → Refusal → Type 0
-IsRefusedLate u marks x = IsRefusedByRow u marks x ⊎ IsRefusedInBody u marks x
+IsRefusedLate u marks x = IsRefusedByRow u marks x ⊎ IsRefusedInBody (bare u) marks x
 
 -- ---- as they are found
 

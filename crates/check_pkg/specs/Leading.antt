@@ -60,7 +60,7 @@ tells_type (Wishes demand wish) = false
 tells_type (Declares d) = false
 
 abbrev pub has_type : (Item → Meaning) → ℕ → ℕ → Bool
-has_type marks f n = tells_type (marks (item s.Judged f n))
+has_type marks f n = tells_type (marks (item s.Placed f n))
 
 abbrev pub has_owner : (Item → Meaning) → ℕ → Node → Bool
 has_owner marks f node = option_map_or (has_type marks f) (part node 0) false

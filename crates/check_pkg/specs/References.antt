@@ -14,6 +14,7 @@ use Rattle.typed_marks.specs.declared.item.Item.{Item}
 use Rattle.typed_marks.specs.declared.item.Stage.TheVariants as s
 use Rattle.typed_marks.specs.Meanings.{Meaning, Right, Wrong, Beyond, Quiet, Wishes, Declares}
 use Rattle.unit_read.specs.declared.place.Place.{Place}
+use Rattle.unit_read.specs.Imports.{bare}
 use Rattle.unit_read.specs.Units.{Unit, node_at, place_at, object_at}
 use Rattle.unit_rows.specs.Circular.{named_at}
 use Rattle.rule_words.specs.Asking.{item}
@@ -73,7 +74,7 @@ reference_at u marks at = if refers u marks at then named_at u at else None
 
 -- the node is a reference to the declared name: it denotes it, or it selects the method of that name
 abbrev pub IsReference : Unit → (Item → Meaning) → NodeRef → NodeRef → Type 0
-IsReference u marks at w = (reference_at u marks at ≡ Some w) ⊎ ((reference_at u marks at ≡ None) × IsSelectedMethod u marks at w)
+IsReference u marks at w = (reference_at (bare u) marks at ≡ Some w) ⊎ ((reference_at (bare u) marks at ≡ None) × IsSelectedMethod u marks at w)
 
 -- to what each node is a reference
 abbrev pub AreReferences : Unit → (Item → Meaning) → (NodeRef → Option NodeRef) → Type 0

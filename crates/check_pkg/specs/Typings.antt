@@ -1,8 +1,8 @@
 -- What is kept of a package that was checked.
-use Rattle.std.specs.Prelude.{◌≡◌, ℕ, List, map}
+use Rattle.std.specs.Prelude.{◌≡◌, ℕ, List, length, map}
 use Rattle.std.specs.Global.{Vec}
 use Rattle.go_tree.specs.declared.tree.FileTree.{FileTree}
-use Rattle.mark_walk.specs.Asks.{IsTheAnnotation, filled}
+use Rattle.mark_walk.specs.Asks.{filled}
 use Rattle.package_faces.specs.Faces.{Face}
 use Rattle.type_model.specs.declared.term.TypeName.{TypeName}
 use Rattle.type_model.specs.Tables.{declarations_in}
@@ -12,12 +12,13 @@ use Rattle.typed_marks.specs.declared.item.Item.{Item}
 use Rattle.typed_marks.specs.Meanings.{Meaning, Quiet}
 use Rattle.typed_marks.specs.States.{so_far, IsState}
 use Rattle.unit_read.specs.declared.subject.Subject.{Subject}
+use Rattle.unit_read.specs.Imports.{bare}
+use Rattle.unit_read.specs.Passages.{passages}
 use Rattle.unit_read.specs.Subjects.{cell, flag}
 use Rattle.unit_read.specs.Units.{Unit, base_of}
 use Rattle.unit_rows.specs.Drafts.{package_unit}
 use Rattle.rule_words.specs.Asking.{Rule, type_item, declaration_told}
-use Rattle.elaborate.specs.Walks.{item_rule}
-use Rattle.type_answers.specs.Answering.{says_of}
+use Rattle.check_pkg.specs.Refusals.{IsOneAnnotation}
 use Rattle.check_pkg.specs.declared.typing.Flags.{Flags}
 use Rattle.check_pkg.specs.declared.typing.Typed.{Typed}
 
@@ -46,11 +47,8 @@ unit_by path texts trees env t = package_unit path texts trees t.uses env t.flag
 abbrev pub marks_of : Typed → Item → Meaning
 marks_of t = filled Quiet (so_far t.state)
 
--- the marks are the one annotation of the unit by these rules
-abbrev pub IsOneAnnotation : (Unit → Item → Rule) → Unit → (Item → Meaning) → Type 0
-IsOneAnnotation rule u marks = IsTheAnnotation (says_of u) (item_rule rule u) marks
-
--- It is kept of this unit: its uses and its flags; its one annotation by these rules, and over the table of that, what is declared.
+-- It is kept of this unit: its uses and its flags; its one annotation by these rules, with a block for each of its passages, and over the table of that, what
+-- is declared.
 pub record IsTyped (rule : Unit → Item → Rule) (u : Unit) (t : Typed) : Type 0 where
   pub uses : t.uses ≡ u.uses
   pub redeclared : flag t.flags.redeclared.items ≡ u.redeclared
@@ -58,6 +56,7 @@ pub record IsTyped (rule : Unit → Item → Rule) (u : Unit) (t : Typed) : Type
   pub circular : flag t.flags.circular.items ≡ u.circular
   pub owner : cell t.flags.owners.items ≡ u.owner
   pub state : IsState t.state
+  pub blocks : length t.state.blocks.items ≡ length (passages u.trees)
   pub basics : HasBasics t.state.table
-  pub step : (name : TypeName) → declarations_in t.state.table name ≡ declared (base_of u) (type_item u) declaration_told (so_far t.state) name
+  pub step : (name : TypeName) → declarations_in t.state.table name ≡ declared (base_of u) (type_item (bare u)) declaration_told (so_far t.state) name
   pub annotated : IsOneAnnotation rule u (marks_of t)

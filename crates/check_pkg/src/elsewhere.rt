@@ -8,7 +8,7 @@ ghost use Rattle.type_model.specs.GoTypes.{GoType, IsOver, type_of, type_at};
 ghost use Rattle.type_model.specs.Tables.{IsTable, count, terms_in, types_in, declarations_in};
 ghost use Rattle.type_model.specs.declared.term.TypeName.{TypeName as AName};
 ghost use Rattle.unit_read.specs.Exports.{mark_in, use_in, IsUseIn};
-ghost use Rattle.unit_read.specs.Subjects.{unit_of, IsRead};
+ghost use Rattle.unit_read.specs.Subjects.{full_of, unit_of, IsRead};
 ghost use Rattle.unit_read.specs.Units.{base_of};
 ghost use Rattle.check_pkg.specs.Elsewhere.{is_selector, is_struct, has_fields, takes_fields, has_field_keys, is_struct_use, owner_at, exports_struct, names_struct, struct_elsewhere, IsFlagRow, AreFlagRows};
 
@@ -152,8 +152,8 @@ fn exports_struct(u: &Subject, t: &TypeTable, name: &[u8], owner: Option<Object>
     requires read { IsRead u.now }
     requires table { IsTable t.now }
     requires types { u.now.env.now.types.now ≡ terms_in t.now }
-    requires base { (name : AName) → declarations_in t.now name ≡ base_of (unit_of u.now) name }
-    ensures { result ≡ exports_struct (unit_of u.now) name.now owner }
+    requires base { (name : AName) → declarations_in t.now name ≡ base_of (full_of u.now) name }
+    ensures { result ≡ exports_struct (full_of u.now) name.now owner }
 {
     is_struct_export(t, exported_of(u, name, owner))
 }
@@ -162,8 +162,8 @@ fn names_struct(u: &Subject, t: &TypeTable, at: NodeRef, node: &Node) -> bool
     requires read { IsRead u.now }
     requires table { IsTable t.now }
     requires types { u.now.env.now.types.now ≡ terms_in t.now }
-    requires base { (name : AName) → declarations_in t.now name ≡ base_of (unit_of u.now) name }
-    ensures { result ≡ names_struct (unit_of u.now) at node.now }
+    requires base { (name : AName) → declarations_in t.now name ≡ base_of (full_of u.now) name }
+    ensures { result ≡ names_struct (full_of u.now) at node.now }
 {
     if is_selector(node.kind) {
         let owner = owner_at(u, at, node);
@@ -177,8 +177,8 @@ fn is_elsewhere(u: &Subject, t: &TypeTable, at: NodeRef) -> bool
     requires read { IsRead u.now }
     requires table { IsTable t.now }
     requires types { u.now.env.now.types.now ≡ terms_in t.now }
-    requires base { (name : AName) → declarations_in t.now name ≡ base_of (unit_of u.now) name }
-    ensures { result ≡ struct_elsewhere (unit_of u.now) at }
+    requires base { (name : AName) → declarations_in t.now name ≡ base_of (full_of u.now) name }
+    ensures { result ≡ struct_elsewhere (full_of u.now) at }
 {
     match u.node_at(at) {
         Some(node) => names_struct(u, t, at, node),
@@ -196,9 +196,9 @@ fn struct_row(
     requires read { IsRead u.now }
     requires table { IsTable t.now }
     requires types { u.now.env.now.types.now ≡ terms_in t.now }
-    requires base { (name : AName) → declarations_in t.now name ≡ base_of (unit_of u.now) name }
+    requires base { (name : AName) → declarations_in t.now name ≡ base_of (full_of u.now) name }
     requires few { end ≤ 2 ^ 32 }
-    ensures { IfOk result (λ row. IsFlagRow (λ n. struct_elsewhere (unit_of u.now) (place file n)) row.items end) }
+    ensures { IfOk result (λ row. IsFlagRow (λ n. struct_elsewhere (full_of u.now) (place file n)) row.items end) }
 {
     let mut row = Vec::with_capacity(alloc, end)?;
     for node in 0..end {
@@ -222,9 +222,9 @@ fn tree_row(
     requires read { IsRead u.now }
     requires table { IsTable t.now }
     requires types { u.now.env.now.types.now ≡ terms_in t.now }
-    requires base { (name : AName) → declarations_in t.now name ≡ base_of (unit_of u.now) name }
+    requires base { (name : AName) → declarations_in t.now name ≡ base_of (full_of u.now) name }
     requires small { length tree.now.nodes ≤ 2 ^ 32 }
-    ensures { IfOk result (λ row. IsFlagRow (λ n. struct_elsewhere (unit_of u.now) (place file n)) row.items (length tree.now.nodes)) }
+    ensures { IfOk result (λ row. IsFlagRow (λ n. struct_elsewhere (full_of u.now) (place file n)) row.items (length tree.now.nodes)) }
 {
     let row = struct_row(alloc, u, t, file, tree.nodes.as_slice().len())?;
     Ok(row)
@@ -235,10 +235,10 @@ pub fn struct_rows(alloc: Global, u: &Subject, t: &TypeTable) -> Result<Vec<Vec<
     requires read { IsRead u.now }
     requires table { IsTable t.now }
     requires types { u.now.env.now.types.now ≡ terms_in t.now }
-    requires base { (name : AName) → declarations_in t.now name ≡ base_of (unit_of u.now) name }
+    requires base { (name : AName) → declarations_in t.now name ≡ base_of (full_of u.now) name }
     requires small { AreSmall u.now.trees.now }
     requires few { length u.now.trees.now ≤ 2 ^ 32 }
-    ensures { IfOk result (λ rows. AreFlagRows (struct_elsewhere (unit_of u.now)) u.now.trees.now rows.items (length u.now.trees.now)) }
+    ensures { IfOk result (λ rows. AreFlagRows (struct_elsewhere (full_of u.now)) u.now.trees.now rows.items (length u.now.trees.now)) }
 {
     let mut rows = Vec::new(alloc);
     for file in 0..u.trees.len() {

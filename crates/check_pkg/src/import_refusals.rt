@@ -6,7 +6,7 @@ ghost use Rattle.typed_marks.specs.Meanings.{Quiet};
 ghost use Rattle.typed_marks.specs.States.{so_far, IsState};
 ghost use Rattle.unit_read.specs.Imports.{import_limit};
 ghost use Rattle.unit_read.specs.Index.{found};
-ghost use Rattle.unit_read.specs.Subjects.{unit_of, IsRead};
+ghost use Rattle.unit_read.specs.Subjects.{full_of, unit_of, IsRead};
 ghost use Rattle.unit_read.specs.Units.{nodes_at, tree_at};
 ghost use Rattle.check_pkg.specs.Gains.{Gains};
 ghost use Rattle.check_pkg.specs.ImportLists.{has as is_noted, AreNames, AreUsed, least, IsLeast, IsFirst, is_before, RefusesIf, HasName, ComesLater, IsUnused, RefusesName, RefusesImports, RefusesAllImports};
@@ -127,8 +127,8 @@ fn is_before(first: Option<u32>, node: u32) -> bool
 
 /// Whether an earlier import of the file has the name of this one.
 fn comes_later(u: &Subject, firsts: &HashMap<&[u8], u32>, at: NodeRef, name: &[u8]) -> bool
-    requires { (q : List ℕ) → IsFirst (unit_of u.now) at.file q (found firsts.now q) }
-    ensures { IsTrue result ↔ ComesLater (unit_of u.now) at name.now }
+    requires { (q : List ℕ) → IsFirst (full_of u.now) at.file q (found firsts.now q) }
+    ensures { IsTrue result ↔ ComesLater (full_of u.now) at name.now }
 {
     is_before(find(firsts, name), at.node)
 }
@@ -142,8 +142,8 @@ fn is_taken(
     name: &[u8],
 ) -> bool
     requires block { IsBlock (unit_of u.now) block.now }
-    requires firsts { (q : List ℕ) → IsFirst (unit_of u.now) at.file q (found firsts.now q) }
-    ensures { IsTrue result ↔ IsTaken (unit_of u.now) at name.now }
+    requires firsts { (q : List ℕ) → IsFirst (full_of u.now) at.file q (found firsts.now q) }
+    ensures { IsTrue result ↔ IsTaken (full_of u.now) at name.now }
 {
     if is_declared(u, block, name) {
         return true;
@@ -188,9 +188,9 @@ fn refuse_import(
 ) -> Result<(), NoMemory>
     requires read { IsRead u.now }
     requires block { IsBlock (unit_of u.now) block.now }
-    requires firsts { (q : List ℕ) → IsFirst (unit_of u.now) at.file q (found firsts.now q) }
+    requires firsts { (q : List ℕ) → IsFirst (full_of u.now) at.file q (found firsts.now q) }
     requires used { AreUsed (unit_of u.now) (filled Quiet (so_far s.now)) at.file (length (nodes_at (unit_of u.now) at.file)) (is_noted used.now) }
-    ensures { OnOk result (Gains (RefusesName (unit_of u.now) (filled Quiet (so_far s.now)) at name.now) list.old.items list.new.items) }
+    ensures { OnOk result (Gains (RefusesName (full_of u.now) (filled Quiet (so_far s.now)) at name.now) list.old.items list.new.items) }
 {
     let place = place_of(u, at);
     let taken = is_taken(u, block, firsts, at, name);
@@ -213,10 +213,10 @@ fn refuse_names(
 ) -> Result<(), NoMemory>
     requires read { IsRead u.now }
     requires block { IsBlock (unit_of u.now) block.now }
-    requires names { AreNames (unit_of u.now) file names.now }
-    requires firsts { (q : List ℕ) → IsFirst (unit_of u.now) file q (found firsts.now q) }
+    requires names { AreNames (full_of u.now) file names.now }
+    requires firsts { (q : List ℕ) → IsFirst (full_of u.now) file q (found firsts.now q) }
     requires used { AreUsed (unit_of u.now) (filled Quiet (so_far s.now)) file (length (nodes_at (unit_of u.now) file)) (is_noted used.now) }
-    ensures { OnOk result (Gains (RefusesImports (unit_of u.now) (filled Quiet (so_far s.now)) file) list.old.items list.new.items) }
+    ensures { OnOk result (Gains (RefusesImports (full_of u.now) (filled Quiet (so_far s.now)) file) list.old.items list.new.items) }
 {
     for declared in names {
         refuse_import(u, s, block, firsts, used, declared.at, declared.name, list)?;
@@ -239,7 +239,7 @@ fn refuse_tree(
     requires small { AreSmall u.now.trees.now }
     requires block { IsBlock (unit_of u.now) block.now }
     requires tree { tree_at (unit_of u.now) file ≡ Some tree.now }
-    ensures { OnOk result (Gains (RefusesImports (unit_of u.now) (filled Quiet (so_far s.now)) file) list.old.items list.new.items) }
+    ensures { OnOk result (Gains (RefusesImports (full_of u.now) (filled Quiet (so_far s.now)) file) list.old.items list.new.items) }
 {
     let head = tree.head(alloc, text_in(u, file))?;
     let specs = specs_in(alloc, tree)?;
@@ -264,7 +264,7 @@ fn refuse_file(
     requires state { IsState s.now }
     requires small { AreSmall u.now.trees.now }
     requires block { IsBlock (unit_of u.now) block.now }
-    ensures { OnOk result (Gains (RefusesImports (unit_of u.now) (filled Quiet (so_far s.now)) file) list.old.items list.new.items) }
+    ensures { OnOk result (Gains (RefusesImports (full_of u.now) (filled Quiet (so_far s.now)) file) list.old.items list.new.items) }
 {
     match u.tree_at(file) {
         Some(tree) => {
@@ -288,7 +288,7 @@ pub fn refuse_imports(
     requires small { AreSmall u.now.trees.now }
     requires block { IsBlock (unit_of u.now) block.now }
     requires few { length u.now.trees.now < 2 ^ 32 }
-    ensures { OnOk result (Gains (RefusesAllImports (unit_of u.now) (filled Quiet (so_far s.now))) list.old.items list.new.items) }
+    ensures { OnOk result (Gains (RefusesAllImports (full_of u.now) (filled Quiet (so_far s.now))) list.old.items list.new.items) }
 {
     for file in 0..u.trees.len() {
         refuse_file(alloc, u, s, block, file as u32, list)?;

@@ -5,7 +5,7 @@ ghost use Rattle.mark_walk.specs.Asks.{filled};
 ghost use Rattle.package_objects.specs.Declares.{AreSmall};
 ghost use Rattle.typed_marks.specs.Meanings.{Quiet};
 ghost use Rattle.typed_marks.specs.States.{so_far};
-ghost use Rattle.unit_read.specs.Subjects.{unit_of};
+ghost use Rattle.unit_read.specs.Subjects.{full_of};
 ghost use Rattle.unit_read.specs.Index.{texts_of};
 ghost use Rattle.body_facts.specs.Bodies.{AreBodies};
 ghost use Rattle.rule_words.specs.Scenes.{IsScene};
@@ -26,7 +26,7 @@ fn searched_nodes(alloc: Global, u: &Subject, s: &State) -> Result<Vec<NodeRef>,
     requires scene { IsScene u.now s.now }
     requires small { AreSmall u.now.trees.now }
     requires few { length u.now.trees.now ≤ 2 ^ 32 }
-    ensures { IfOk result (λ list. (at : OneNode) → Contains list.items at ↔ IsInitialFault (unit_of u.now) (filled Quiet (so_far s.now)) at) }
+    ensures { IfOk result (λ list. (at : OneNode) → Contains list.items at ↔ IsInitialFault (full_of u.now) (filled Quiet (so_far s.now)) at) }
 {
     let methods = selected_methods(alloc, u, s)?;
     let meant = counted_rows(alloc, u, s, &methods, Counted::References)?;
@@ -43,7 +43,7 @@ pub fn initial_nodes(alloc: Global, u: &Subject, s: &State) -> Result<Vec<NodeRe
     requires small { AreSmall u.now.trees.now }
     requires few { length u.now.trees.now ≤ 2 ^ 32 }
     requires bodies { AreBodies (texts_of u.now.texts.now) u.now.trees.now }
-    ensures { IfOk result (λ list. (at : OneNode) → Contains list.items at ↔ IsInitialFault (unit_of u.now) (filled Quiet (so_far s.now)) at) }
+    ensures { IfOk result (λ list. (at : OneNode) → Contains list.items at ↔ IsInitialFault (full_of u.now) (filled Quiet (so_far s.now)) at) }
 {
     let may = may_circle(alloc, u, s)?;
     if !may {

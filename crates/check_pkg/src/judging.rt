@@ -16,7 +16,7 @@ ghost use Rattle.typed_marks.specs.States.{so_far, IsState};
 ghost use Rattle.unit_blocks.specs.Blocks.{AreNames};
 ghost use Rattle.unit_read.specs.Environments.{IsEnvironment, faces_in};
 ghost use Rattle.unit_read.specs.Index.{texts_of};
-ghost use Rattle.unit_read.specs.Subjects.{unit_of, IsRead};
+ghost use Rattle.unit_read.specs.Subjects.{full_of, unit_of, IsRead};
 ghost use Rattle.unit_read.specs.Texts.{AreTexts};
 ghost use Rattle.rule_words.specs.Scenes.{IsScene};
 ghost use Rattle.body_facts.specs.Bodies.{AreBodies};
@@ -100,7 +100,7 @@ fn unsorted(
     requires few { length u.now.trees.now < 2 ^ 32 }
     requires bodies { AreBodies (texts_of u.now.texts.now) u.now.trees.now }
     requires block { IsBlock (unit_of u.now) block.now }
-    ensures { IfOk result (λ list. (x : OneRefusal) → Contains list.items x ↔ IsRefused (unit_of u.now) (filled Quiet (so_far s.now)) x) }
+    ensures { IfOk result (λ list. (x : OneRefusal) → Contains list.items x ↔ IsRefused (full_of u.now) (filled Quiet (so_far s.now)) x) }
 {
     let mut list = Vec::new(alloc);
     refuse_items(alloc, u, s, &mut list)?;
@@ -121,7 +121,7 @@ fn refusals(
     requires few { length u.now.trees.now < 2 ^ 32 }
     requires bodies { AreBodies (texts_of u.now.texts.now) u.now.trees.now }
     requires block { IsBlock (unit_of u.now) block.now }
-    ensures all { IfOk result (λ list. (x : OneRefusal) → Contains list.items x ↔ IsRefused (unit_of u.now) (filled Quiet (so_far s.now)) x) }
+    ensures all { IfOk result (λ list. (x : OneRefusal) → Contains list.items x ↔ IsRefused (full_of u.now) (filled Quiet (so_far s.now)) x) }
     ensures once { IfOk result (λ list. IsOrdered list.items) }
 {
     let mut list = unsorted(alloc, u, s, block)?;
@@ -171,7 +171,7 @@ fn judge(
     requires small { AreSmall u.now.trees.now }
     requires few { length u.now.trees.now < 2 ^ 32 }
     requires bodies { AreBodies (texts_of u.now.texts.now) u.now.trees.now }
-    ensures all { IfOk result (λ c. (x : OneRefusal) → Contains c.0.items x ↔ IsRefused (unit_of u.now) (filled Quiet (so_far s.now)) x) }
+    ensures all { IfOk result (λ c. (x : OneRefusal) → Contains c.0.items x ↔ IsRefused (full_of u.now) (filled Quiet (so_far s.now)) x) }
     ensures ordered { IfOk result (λ c. IsOrdered c.0.items) }
     ensures rise { IfOk result (λ c. c.0.items ≡ [] → rises object_before (outs_in s.now c.1.items) ≡ true) }
     ensures exported { IfOk result (λ c. c.0.items ≡ [] → (out : ObjectOut) → Contains (outs_in s.now c.1.items) out ↔ IsExported (unit_of u.now) (filled Quiet (so_far s.now)) out) }
@@ -200,7 +200,7 @@ fn judge_unit<R: Rules>(
     requires bodies { AreBodies (texts_of u.now.texts.now) u.now.trees.now }
     requires basics { HasBasics table }
     requires env { Extends u.now.env.now.types.now (terms_in table) }
-    requires base { (name : AName) → declarations_in table name ≡ base_of (unit_of u.now) name }
+    requires base { (name : AName) → declarations_in table name ≡ base_of (full_of u.now) name }
     ensures { IfOk result (IsJudged R.rule u.now) }
 {
     let elaborated = elaborate(alloc, rules, u, table, first)?;

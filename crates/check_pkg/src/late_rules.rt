@@ -6,7 +6,7 @@ ghost use Rattle.package_objects.specs.Declares.{AreSmall};
 ghost use Rattle.typed_marks.specs.Meanings.{Quiet};
 ghost use Rattle.typed_marks.specs.States.{so_far};
 ghost use Rattle.unit_read.specs.Index.{texts_of};
-ghost use Rattle.unit_read.specs.Subjects.{unit_of};
+ghost use Rattle.unit_read.specs.Subjects.{full_of, unit_of};
 ghost use Rattle.rule_words.specs.Scenes.{IsScene};
 ghost use Rattle.body_facts.specs.Bodies.{AreBodies};
 ghost use Rattle.check_pkg.specs.Gains.{Gains, SomeBelow};
@@ -69,7 +69,7 @@ fn late_nodes(alloc: Global, u: &Subject, s: &State, late: Late) -> Result<Vec<N
     requires small { AreSmall u.now.trees.now }
     requires few { length u.now.trees.now ≤ 2 ^ 32 }
     requires bodies { AreBodies (texts_of u.now.texts.now) u.now.trees.now }
-    ensures { IfOk result (λ list. (at : OneNode) → Contains list.items at ↔ RefusesLate (unit_of u.now) (filled Quiet (so_far s.now)) late at) }
+    ensures { IfOk result (λ list. (at : OneNode) → Contains list.items at ↔ RefusesLate (full_of u.now) (filled Quiet (so_far s.now)) late at) }
 {
     match late {
         Late::InitialCycle => {
@@ -143,7 +143,7 @@ fn refuse_by(
     requires small { AreSmall u.now.trees.now }
     requires few { length u.now.trees.now ≤ 2 ^ 32 }
     requires bodies { AreBodies (texts_of u.now.texts.now) u.now.trees.now }
-    ensures { OnOk result (Gains (RefusedBy (unit_of u.now) (filled Quiet (so_far s.now)) late) list.old.items list.new.items) }
+    ensures { OnOk result (Gains (RefusedBy (full_of u.now) (filled Quiet (so_far s.now)) late) list.old.items list.new.items) }
 {
     let nodes = late_nodes(alloc, u, s, late)?;
     refuse_nodes(u, late, &nodes, list)?;
@@ -162,7 +162,7 @@ fn refuse_each(
     requires small { AreSmall u.now.trees.now }
     requires few { length u.now.trees.now ≤ 2 ^ 32 }
     requires bodies { AreBodies (texts_of u.now.texts.now) u.now.trees.now }
-    ensures { OnOk result (Gains (SomeBelow (length rules.now) (NthRefusedBy (unit_of u.now) (filled Quiet (so_far s.now)) rules.now)) list.old.items list.new.items) }
+    ensures { OnOk result (Gains (SomeBelow (length rules.now) (NthRefusedBy (full_of u.now) (filled Quiet (so_far s.now)) rules.now)) list.old.items list.new.items) }
 {
     for late in rules {
         refuse_by(alloc, u, s, *late, list)?;
@@ -181,7 +181,7 @@ fn refuse_rows(
     requires small { AreSmall u.now.trees.now }
     requires few { length u.now.trees.now ≤ 2 ^ 32 }
     requires bodies { AreBodies (texts_of u.now.texts.now) u.now.trees.now }
-    ensures { OnOk result (Gains (IsRefusedByRow (unit_of u.now) (filled Quiet (so_far s.now))) list.old.items list.new.items) }
+    ensures { OnOk result (Gains (IsRefusedByRow (full_of u.now) (filled Quiet (so_far s.now))) list.old.items list.new.items) }
 {
     let rules = lates(alloc)?;
     refuse_each(alloc, u, s, &rules, list)?;
@@ -197,7 +197,7 @@ pub fn refuse_late(
 ) -> Result<(), NoMemory>
     requires scene { IsScene u.now s.now }
     requires bodies { AreBodies (texts_of u.now.texts.now) u.now.trees.now }
-    ensures { OnOk result (Gains (IsRefusedLate (unit_of u.now) (filled Quiet (so_far s.now))) list.old.items list.new.items) }
+    ensures { OnOk result (Gains (IsRefusedLate (full_of u.now) (filled Quiet (so_far s.now))) list.old.items list.new.items) }
 {
     refuse_rows(alloc, u, s, list)?;
     refuse_bodies(alloc, u, s, list)?;

@@ -8,7 +8,7 @@ ghost use Rattle.node_values.specs.Trees.{IsTree};
 ghost use Rattle.typed_marks.specs.Meanings.{Quiet};
 ghost use Rattle.typed_marks.specs.States.{so_far, IsState};
 ghost use Rattle.unit_read.specs.Index.{texts_of};
-ghost use Rattle.unit_read.specs.Subjects.{unit_of, IsRead, flag};
+ghost use Rattle.unit_read.specs.Subjects.{full_of, unit_of, IsRead, flag};
 ghost use Rattle.body_facts.specs.Bodies.{AreBodies};
 ghost use Rattle.rule_words.specs.Scenes.{said};
 ghost use Rattle.check_pkg.specs.Elsewhere.{IsFlagRow};
@@ -148,12 +148,12 @@ fn has_type(s: &State, file: u32, n: u32) -> bool
     requires { IsState s.now }
     ensures { result ≡ has_type (filled Quiet (so_far s.now)) file n }
 {
-    let judged = Item {
-        stage: Stage::Judged,
+    let placed = Item {
+        stage: Stage::Placed,
         block: file as usize,
         node: n as usize,
     };
-    match s.see(judged) {
+    match s.see(placed) {
         Some(mark) => tells_type(s, mark),
         None => false,
     }
@@ -327,7 +327,7 @@ pub fn may_circle(alloc: Global, u: &Subject, s: &State) -> Result<bool, NoMemor
     requires read { IsRead u.now }
     requires state { IsState s.now }
     requires bodies { AreBodies (texts_of u.now.texts.now) u.now.trees.now }
-    ensures { IfOk result (λ may. may ≡ false → (at : OneNode) → IsInitialFault (unit_of u.now) (filled Quiet (so_far s.now)) at → ⊥) }
+    ensures { IfOk result (λ may. may ≡ false → (at : OneNode) → IsInitialFault (full_of u.now) (filled Quiet (so_far s.now)) at → ⊥) }
 {
     let rows = named_rows(alloc, u)?;
     Ok(values_lead(u, s, &rows))

@@ -4,7 +4,7 @@ ghost use Rattle.face_table.specs.Fitting.{given};
 ghost use Rattle.go_tree.specs.Bindings.{AreInOrder};
 ghost use Rattle.unit_read.specs.Environments.{IsEnvironment, faces_in};
 ghost use Rattle.unit_read.specs.Index.{texts_of};
-ghost use Rattle.unit_read.specs.Subjects.{unit_of, IsRead};
+ghost use Rattle.unit_read.specs.Subjects.{full_of, unit_of, IsRead};
 ghost use Rattle.unit_read.specs.Texts.{AreTexts};
 ghost use Rattle.package_objects.specs.Declares.{AreSmall, declared};
 ghost use Rattle.package_needs.specs.Worlds.{AreNeedsOf};
@@ -54,12 +54,12 @@ fn subject_of<'a>(
     requires seen { IsRead seen }
     requires small { AreSmall seen.trees.now }
     requires few { length seen.trees.now ≤ 2 ^ 32 }
-    requires needs { AreNeedsOf seen.uses.now seen.trees.now (struct_elsewhere (unit_of seen)) order.now owners.items }
+    requires needs { AreNeedsOf seen.uses.now seen.trees.now (struct_elsewhere (full_of seen)) order.now owners.items }
     requires entries { entries.items ≡ declared seen.trees.now [] }
     requires names { names.now ≡ package_names (unit_of seen) }
     requires regions { AreNames seen.trees.now regions.now }
     ensures read { IfOk result (λ u. IsRead u) }
-    ensures of { IfOk result (λ u. IsUnitOf seen.entry.path.now (texts_of seen.entry.texts.now) seen.entry.trees.now seen.entry.uses.now (faces_in seen.entry.env.now) (unit_of u)) }
+    ensures of { IfOk result (λ u. IsUnitOf seen.entry.path.now (texts_of seen.entry.texts.now) seen.entry.trees.now seen.entry.uses.now (faces_in seen.entry.env.now) (full_of u)) }
     ensures names { IfOk result (λ u. names.now ≡ package_names (unit_of u)) }
     ensures env { IfOk result (λ u. u.env.now ≡ seen.entry.env.now) }
 {
@@ -85,7 +85,7 @@ fn seen_unit<'a>(
     requires env { IsEnvironment env.now }
     requires texts { AreTexts path.now (texts_of texts.now) trees.now }
     ensures read { IfOk result (λ u. IsRead u) }
-    ensures of { IfOk result (λ u. unit_of u ≡ package_unit path.now (texts_of texts.now) trees.now uses.now (faces_in env.now) [] [] [] []) }
+    ensures of { IfOk result (λ u. full_of u ≡ package_unit path.now (texts_of texts.now) trees.now uses.now (faces_in env.now) [] [] [] []) }
     ensures env { IfOk result (λ u. u.env.now ≡ env.now) }
 {
     let seen = read_unit(
@@ -125,7 +125,7 @@ pub fn read<'a>(
     requires types { env.now.types.now ≡ terms_in table.now }
     requires base { (name : AName) → declarations_in table.now name ≡ given path.now (faces_in env.now) name }
     ensures read { IfOk result (λ r. IsRead r.subject) }
-    ensures of { IfOk result (λ r. IsUnitOf path.now (texts_of texts.now) trees.now uses.now (faces_in env.now) (unit_of r.subject)) }
+    ensures of { IfOk result (λ r. IsUnitOf path.now (texts_of texts.now) trees.now uses.now (faces_in env.now) (full_of r.subject)) }
     ensures names { IfOk result (λ r. r.names.items ≡ package_names (unit_of r.subject)) }
     ensures env { IfOk result (λ r. r.subject.env.now ≡ env.now) }
 {

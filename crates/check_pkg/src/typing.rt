@@ -4,7 +4,7 @@ ghost use Rattle.go_tree.specs.Bindings.{AreInOrder};
 ghost use Rattle.package_objects.specs.Declares.{AreSmall};
 ghost use Rattle.unit_read.specs.Environments.{IsEnvironment, faces_in};
 ghost use Rattle.unit_read.specs.Index.{texts_of};
-ghost use Rattle.unit_read.specs.Subjects.{unit_of, IsRead};
+ghost use Rattle.unit_read.specs.Subjects.{full_of, IsRead};
 ghost use Rattle.unit_read.specs.Texts.{AreTexts};
 ghost use Rattle.check_pkg.specs.Typings.{AreFlagsOf, AreSameFlags, items_of, unit_by};
 
@@ -98,7 +98,7 @@ impl Typed {
         requires env { IsEnvironment env.now }
         requires texts { AreTexts path.now (texts_of texts.now) trees.now }
         ensures read { IfOk result (λ u. IsRead u) }
-        ensures of { IfOk result (λ u. unit_of u ≡ unit_by path.now (texts_of texts.now) trees.now (faces_in env.now) self.now) }
+        ensures of { IfOk result (λ u. full_of u ≡ unit_by path.now (texts_of texts.now) trees.now (faces_in env.now) self.now) }
         ensures env { IfOk result (λ u. u.env.now ≡ env.now) }
     {
         let flags = copied_flags(alloc, &self.flags)?;

@@ -2,11 +2,12 @@
 use Rattle.std.proofs.Common.{◌≡◌, ℕ, ◌+◌, ◌≤◌, ◌||◌, Bool, true, false, if◌then◌else◌, subst, List, [], ◌∷◌, ◌++◌, length, drop, slice_get, Option, Some, None, refl, sym, ap, ◌∙◌, append_assoc}
 use Rattle.std.specs.Option.{option_map_or}
 use Rattle.mark_walk.specs.Asks.{done, bind}
-use Rattle.mark_walk.specs.Telling.{Says, Waits, tell}
+use Rattle.mark_walk.specs.Telling.{Says, Waits, tell, Sight}
 use Rattle.mark_walk.proofs.TellLaws.{told_bind}
 use Rattle.type_model.specs.declared.term.Field.{Field}
 use Rattle.type_model.specs.GoTypes.{GoType, fields_of}
 use Rattle.type_model.specs.Parts.{GoMethod}
+use Rattle.type_questions.specs.Questions.{Question, Told}
 use Rattle.typed_marks.specs.declared.item.Item.{Item}
 use Rattle.typed_marks.specs.Meanings.{Meaning}
 use Rattle.rule_words.specs.Asking.{Asks, Rule, ask_each}
@@ -32,74 +33,74 @@ module _ (name owner : List ℕ) (types : List GoType) (fields : List Field) whe
 
 -- ---- methods
 
-pub gives_nothing : (so_far : Item → Option Meaning) (list : List GoMethod) → Gives so_far (done []) list list None
-gives_nothing so_far list = ([], refl, sym (nil_last list))
+pub gives_nothing : (sight : Sight Item Meaning Question Told) (list : List GoMethod) → Gives sight (done []) list list None
+gives_nothing sight list = ([], refl, sym (nil_last list))
 
-pub gives_absent : {X : Type 0} (so_far : Item → Option Meaning) (f : X → Asks (List GoMethod)) (o : Option X) (list : List GoMethod) → o ≡ None
-    → Gives so_far (option_map_or f o (done [])) list list None
-gives_absent {X} so_far f o list none = subst (λ (x : Option X). Gives so_far (option_map_or f x (done [])) list list None) (sym none) (gives_nothing so_far list)
+pub gives_absent : {X : Type 0} (sight : Sight Item Meaning Question Told) (f : X → Asks (List GoMethod)) (o : Option X) (list : List GoMethod) → o ≡ None
+    → Gives sight (option_map_or f o (done [])) list list None
+gives_absent {X} sight f o list none = subst (λ (x : Option X). Gives sight (option_map_or f x (done [])) list list None) (sym none) (gives_nothing sight list)
 
-pub gives_left : (so_far : Item → Option Meaning) (b : Bool) (asked : Asks (List GoMethod)) (list : List GoMethod) → b ≡ true → Gives so_far (if b then done [] else asked) list list None
-gives_left so_far b asked list is = subst (λ (x : Bool). Gives so_far (if x then done [] else asked) list list None) (sym is) (gives_nothing so_far list)
+pub gives_left : (sight : Sight Item Meaning Question Told) (b : Bool) (asked : Asks (List GoMethod)) (list : List GoMethod) → b ≡ true → Gives sight (if b then done [] else asked) list list None
+gives_left sight b asked list is = subst (λ (x : Bool). Gives sight (if x then done [] else asked) list list None) (sym is) (gives_nothing sight list)
 
-pub gives_kept : (so_far : Item → Option Meaning) (b : Bool) (asked : Asks (List GoMethod)) (old new : List GoMethod) (o : Option Item) → b ≡ false → Gives so_far asked old new o
-    → Gives so_far (if b then done [] else asked) old new o
-gives_kept so_far b asked old new o not gives = subst (λ (x : Bool). Gives so_far (if x then done [] else asked) old new o) (sym not) gives
+pub gives_kept : (sight : Sight Item Meaning Question Told) (b : Bool) (asked : Asks (List GoMethod)) (old new : List GoMethod) (o : Option Item) → b ≡ false → Gives sight asked old new o
+    → Gives sight (if b then done [] else asked) old new o
+gives_kept sight b asked old new o not gives = subst (λ (x : Bool). Gives sight (if x then done [] else asked) old new o) (sym not) gives
 
-pub gives_told : (so_far : Item → Option Meaning) (asked : Rule) (rest : Meaning → Asks (List GoMethod)) (m : Meaning) (xs old new : List GoMethod)
-    → tell so_far asked ≡ Says m → tell so_far (rest m) ≡ Says xs → new ≡ old ++ xs → Gives so_far (bind asked rest) old new None
-gives_told so_far asked rest m xs old new e told is = (xs, told_bind so_far asked rest (Says m) e ∙ told, is)
+pub gives_told : (sight : Sight Item Meaning Question Told) (asked : Rule) (rest : Meaning → Asks (List GoMethod)) (m : Meaning) (xs old new : List GoMethod)
+    → tell sight asked ≡ Says m → tell sight (rest m) ≡ Says xs → new ≡ old ++ xs → Gives sight (bind asked rest) old new None
+gives_told sight asked rest m xs old new e told is = (xs, told_bind sight asked rest (Says m) e ∙ told, is)
 
-pub gives_bind : (so_far : Item → Option Meaning) (asked : Rule) (rest : Meaning → Asks (List GoMethod)) (m : Meaning) (old new : List GoMethod) (o : Option Item)
-    → tell so_far asked ≡ Says m → Gives so_far (rest m) old new o → Gives so_far (bind asked rest) old new o
-gives_bind so_far asked rest m old new None e (xs, told, is) = (xs, told_bind so_far asked rest (Says m) e ∙ told, is)
-gives_bind so_far asked rest m old new (Some item) e told = told_bind so_far asked rest (Says m) e ∙ told
+pub gives_bind : (sight : Sight Item Meaning Question Told) (asked : Rule) (rest : Meaning → Asks (List GoMethod)) (m : Meaning) (old new : List GoMethod) (o : Option Item)
+    → tell sight asked ≡ Says m → Gives sight (rest m) old new o → Gives sight (bind asked rest) old new o
+gives_bind sight asked rest m old new None e (xs, told, is) = (xs, told_bind sight asked rest (Says m) e ∙ told, is)
+gives_bind sight asked rest m old new (Some item) e told = told_bind sight asked rest (Says m) e ∙ told
 
-pub gives_wait : (so_far : Item → Option Meaning) (asked : Rule) (rest : Meaning → Asks (List GoMethod)) (item : Item) (old new : List GoMethod)
-    → tell so_far asked ≡ Waits item → Gives so_far (bind asked rest) old new (Some item)
-gives_wait so_far asked rest item old new e = told_bind so_far asked rest (Waits item) e
+pub gives_wait : (sight : Sight Item Meaning Question Told) (asked : Rule) (rest : Meaning → Asks (List GoMethod)) (item : Item) (old new : List GoMethod)
+    → tell sight asked ≡ Waits item → Gives sight (bind asked rest) old new (Some item)
+gives_wait sight asked rest item old new e = told_bind sight asked rest (Waits item) e
 
 pub all_last : {X : Type 0} (front : List (List X)) (xs : List X) → all_of (front ++ xs ∷ []) ≡ all_of front ++ xs
 all_last [] xs = nil_last xs
 all_last (ys ∷ front) xs = ap (λ l. ys ++ l) (all_last front xs) ∙ sym (append_assoc ys (all_of front) xs)
 
 -- what the first few gave, when the rest is asked for
-pub record Gathered {X : Type 0} (so_far : Item → Option Meaning) (f : X → Asks (List GoMethod)) (list : List X) (i : ℕ) (out : List GoMethod) : Type 0 where
+pub record Gathered {X : Type 0} (sight : Sight Item Meaning Question Told) (f : X → Asks (List GoMethod)) (list : List X) (i : ℕ) (out : List GoMethod) : Type 0 where
   pub front : List (List GoMethod)
-  pub rests : Rests so_far f list i front
+  pub rests : Rests sight f list i front
   pub are : out ≡ all_of front
 
-pub gathered_first : {X : Type 0} (so_far : Item → Option Meaning) (f : X → Asks (List GoMethod)) (list : List X) (out : List GoMethod) → out ≡ [] → Gathered so_far f list 0 out
-gathered_first so_far f list out bare = record { front = []; rests = rests_first so_far f list; are = bare }
+pub gathered_first : {X : Type 0} (sight : Sight Item Meaning Question Told) (f : X → Asks (List GoMethod)) (list : List X) (out : List GoMethod) → out ≡ [] → Gathered sight f list 0 out
+gathered_first sight f list out bare = record { front = []; rests = rests_first sight f list; are = bare }
 
-pub gathered_more : {X : Type 0} (so_far : Item → Option Meaning) (f : X → Asks (List GoMethod)) (list : List X) (i : ℕ) (x : X) (old new : List GoMethod) (o : Option Item) → slice_get list i ≡ Some x
-    → o ≡ None → Gives so_far (f x) old new o → Gathered so_far f list i old → Gathered so_far f list (i + 1) new
-gathered_more so_far f list i x old new None at none (xs, told, is) g = record {
+pub gathered_more : {X : Type 0} (sight : Sight Item Meaning Question Told) (f : X → Asks (List GoMethod)) (list : List X) (i : ℕ) (x : X) (old new : List GoMethod) (o : Option Item) → slice_get list i ≡ Some x
+    → o ≡ None → Gives sight (f x) old new o → Gathered sight f list i old → Gathered sight f list (i + 1) new
+gathered_more sight f list i x old new None at none (xs, told, is) g = record {
   front = g.front ++ xs ∷ [];
-  rests = rests_more so_far f list i g.front x xs at told g.rests;
+  rests = rests_more sight f list i g.front x xs at told g.rests;
   are = is ∙ (ap (λ l. l ++ xs) g.are ∙ sym (all_last g.front xs));
 }
-gathered_more so_far f list i x old new (Some item) at none gives g = absurd (cc)
+gathered_more sight f list i x old new (Some item) at none gives g = absurd (cc)
 
-pub gathered_wait : {X : Type 0} (so_far : Item → Option Meaning) (f : X → Asks (List GoMethod)) (list : List X) (i : ℕ) (x : X) (old new out : List GoMethod) (o : Option Item) (item : Item) → slice_get list i ≡ Some x
-    → o ≡ Some item → Gives so_far (f x) old new o → Gathered so_far f list i out → tell so_far (ask_each f list) ≡ Waits item
-gathered_wait so_far f list i x old new out None item at some gives g = absurd (cc)
-gathered_wait so_far f list i x old new out (Some other) item at some gives g =
-    let same : other ≡ item = cc in sym (rests_wait so_far f list i g.front x item at (gives ∙ ap Waits same) g.rests)
+pub gathered_wait : {X : Type 0} (sight : Sight Item Meaning Question Told) (f : X → Asks (List GoMethod)) (list : List X) (i : ℕ) (x : X) (old new out : List GoMethod) (o : Option Item) (item : Item) → slice_get list i ≡ Some x
+    → o ≡ Some item → Gives sight (f x) old new o → Gathered sight f list i out → tell sight (ask_each f list) ≡ Waits item
+gathered_wait sight f list i x old new out None item at some gives g = absurd (cc)
+gathered_wait sight f list i x old new out (Some other) item at some gives g =
+    let same : other ≡ item = cc in sym (rests_wait sight f list i g.front x item at (gives ∙ ap Waits same) g.rests)
 
-pub gathered_all : {X : Type 0} (so_far : Item → Option Meaning) (f : X → Asks (List GoMethod)) (list : List X) (i : ℕ) (out : List GoMethod) → length list ≤ i → Gathered so_far f list i out
-    → GivesAll so_far (ask_each f list) out None
-gathered_all so_far f list i out low g = (g.front, sym (rests_end so_far f list i g.front low g.rests), g.are)
+pub gathered_all : {X : Type 0} (sight : Sight Item Meaning Question Told) (f : X → Asks (List GoMethod)) (list : List X) (i : ℕ) (out : List GoMethod) → length list ≤ i → Gathered sight f list i out
+    → GivesAll sight (ask_each f list) out None
+gathered_all sight f list i out low g = (g.front, sym (rests_end sight f list i g.front low g.rests), g.are)
 
 -- ---- what goes on with all methods
 
-pub told_all : (so_far : Item → Option Meaning) (asked : Asks (List (List GoMethod))) (rest : List GoMethod → Rule) (list : List GoMethod) (o : Option Item) → o ≡ None → GivesAll so_far asked list o
-    → tell so_far (rest list) ≡ tell so_far (bind asked (λ xss. rest (all_of xss)))
-told_all so_far asked rest list None none (xss, told, is) = ap (λ l. tell so_far (rest l)) is ∙ sym (told_bind so_far asked (λ xss. rest (all_of xss)) (Says xss) told)
-told_all so_far asked rest list (Some item) none gives = absurd (cc)
+pub told_all : (sight : Sight Item Meaning Question Told) (asked : Asks (List (List GoMethod))) (rest : List GoMethod → Rule) (list : List GoMethod) (o : Option Item) → o ≡ None → GivesAll sight asked list o
+    → tell sight (rest list) ≡ tell sight (bind asked (λ xss. rest (all_of xss)))
+told_all sight asked rest list None none (xss, told, is) = ap (λ l. tell sight (rest l)) is ∙ sym (told_bind sight asked (λ xss. rest (all_of xss)) (Says xss) told)
+told_all sight asked rest list (Some item) none gives = absurd (cc)
 
-pub waits_all : (so_far : Item → Option Meaning) (asked : Asks (List (List GoMethod))) (rest : List (List GoMethod) → Rule) (list : List GoMethod) (o : Option Item) (item : Item) → o ≡ Some item
-    → GivesAll so_far asked list o → Waits item ≡ tell so_far (bind asked rest)
-waits_all so_far asked rest list None item some gives = absurd (cc)
-waits_all so_far asked rest list (Some other) item some told =
-    let same : other ≡ item = cc in sym (told_bind so_far asked rest (Waits item) (told ∙ ap Waits same))
+pub waits_all : (sight : Sight Item Meaning Question Told) (asked : Asks (List (List GoMethod))) (rest : List (List GoMethod) → Rule) (list : List GoMethod) (o : Option Item) (item : Item) → o ≡ Some item
+    → GivesAll sight asked list o → Waits item ≡ tell sight (bind asked rest)
+waits_all sight asked rest list None item some gives = absurd (cc)
+waits_all sight asked rest list (Some other) item some told =
+    let same : other ≡ item = cc in sym (told_bind sight asked rest (Waits item) (told ∙ ap Waits same))

@@ -6,7 +6,8 @@ use Rattle.std.proofs.lemmas.Bool.{eqb-true}
 use Rattle.std.proofs.lemmas.Slice.Eq.{bytes_eq-Decides}
 use Rattle.go_tree.specs.declared.tree.NodeRef.{NodeRef}
 use Rattle.mark_walk.specs.Asks.{done, ask}
-use Rattle.mark_walk.specs.Telling.{Says, tell}
+use Rattle.mark_walk.specs.Telling.{Says, Sight, tell}
+use Rattle.type_questions.specs.Questions.{Question, Told}
 use Rattle.type_model.specs.declared.term.TypeId.{TypeId}
 use Rattle.type_model.specs.declared.term.TypeName.{TypeName}
 use Rattle.type_model.specs.GoTypes.{GoType, BasicType, DefinedType, PointerTo, SliceOf, ArrayOf, MapOf, ChanOf, FuncOf, StructOf, InterfaceOf}
@@ -116,10 +117,10 @@ abbrev ask_if : Bool → Item → Rule
 ask_if b i = if b then ask i (λ m. done m) else done Quiet
 
 -- what is good is the mark of a node that stands there
-pub standing : (u : Unit) (marks : Item → Option Meaning) (stage : Stage) (block node : ℕ) (m : Meaning) (x : Known)
-    → Says m ≡ tell marks (mark_ask u stage block node) → Some x ≡ known_told m → stands u block node ≡ true
-standing u marks stage block node m x told known = by (stands u block node) told where
-  by : (b : Bool) → Says m ≡ tell marks (ask_if b (item stage block node)) → b ≡ true
+pub standing : (u : Unit) (seen : Sight Item Meaning Question Told) (stage : Stage) (block node : ℕ) (m : Meaning) (x : Known)
+    → Says m ≡ tell seen (mark_ask u stage block node) → Some x ≡ known_told m → stands u block node ≡ true
+standing u seen stage block node m x told known = by (stands u block node) told where
+  by : (b : Bool) → Says m ≡ tell seen (ask_if b (item stage block node)) → b ≡ true
   by true told = refl
   by false told =
       let quiet : m ≡ Quiet = cc in

@@ -7,7 +7,8 @@ use Rattle.package_objects.specs.Declares.{part}
 use Rattle.type_model.specs.Parts.{GoMethod}
 use Rattle.type_model.specs.GoTypes.{GoType, GoFields, GoSignature, BasicType, DefinedType, PointerTo, SliceOf, ArrayOf, MapOf, ChanOf, FuncOf, StructOf, InterfaceOf, NoField, AndField}
 use Rattle.mark_walk.specs.Asks.{done, bind}
-use Rattle.mark_walk.specs.Telling.{Says, Waits, tell}
+use Rattle.mark_walk.specs.Telling.{Says, Waits, tell, Sight}
+use Rattle.type_questions.specs.Questions.{Question, Told}
 use Rattle.typed_marks.specs.declared.item.Item.{Item}
 use Rattle.typed_marks.specs.declared.item.Stage.TheVariants as s
 use Rattle.typed_marks.specs.Meanings.{Known, Meaning}
@@ -108,11 +109,11 @@ methods_ask u under name = ask_each (method_ask u under) (methods_of u name)
 -- ---- in code
 
 -- what was asked gives these methods behind the old ones, or the item for which it waits
-abbrev pub Gives : (Item → Option Meaning) → Asks (List GoMethod) → List GoMethod → List GoMethod → Option Item → Type 0
-Gives so_far asked old new None = (xs : List GoMethod) × (tell so_far asked ≡ Says xs) × (new ≡ old ++ xs)
-Gives so_far asked old new (Some item) = tell so_far asked ≡ Waits item
+abbrev pub Gives : Sight Item Meaning Question Told → Asks (List GoMethod) → List GoMethod → List GoMethod → Option Item → Type 0
+Gives sight asked old new None = (xs : List GoMethod) × (tell sight asked ≡ Says xs) × (new ≡ old ++ xs)
+Gives sight asked old new (Some item) = tell sight asked ≡ Waits item
 
 -- what was asked for all gives these methods, or the item for which one of them waits
-abbrev pub GivesAll : (Item → Option Meaning) → Asks (List (List GoMethod)) → List GoMethod → Option Item → Type 0
-GivesAll so_far asked list None = (xss : List (List GoMethod)) × (tell so_far asked ≡ Says xss) × (list ≡ all_of xss)
-GivesAll so_far asked list (Some item) = tell so_far asked ≡ Waits item
+abbrev pub GivesAll : Sight Item Meaning Question Told → Asks (List (List GoMethod)) → List GoMethod → Option Item → Type 0
+GivesAll sight asked list None = (xss : List (List GoMethod)) × (tell sight asked ≡ Says xss) × (list ≡ all_of xss)
+GivesAll sight asked list (Some item) = tell sight asked ≡ Waits item

@@ -1,9 +1,8 @@
 //! Constants (Go 1.17, "Constant declarations").
 ghost use Rattle.std.specs.Prelude.{◌≡◌, Some, option_map};
 ghost use Rattle.mark_walk.specs.Telling.{tell};
-ghost use Rattle.typed_marks.specs.States.{so_far};
 ghost use Rattle.unit_read.specs.Subjects.{unit_of, IsRead};
-ghost use Rattle.rule_words.specs.Scenes.{IsScene, said, IsMarkOf, part_in, IsSeenOf, type_in, IsTypeOf, MayBeTypeOf};
+ghost use Rattle.rule_words.specs.Scenes.{sight, IsScene, said, IsMarkOf, part_in, IsSeenOf, type_in, IsTypeOf, MayBeTypeOf};
 ghost use Rattle.rule_words.specs.Steps.{step_in, IsStepOf};
 ghost use Rattle.rule_words.specs.Good.{known_of, AreFactsOf};
 ghost use Rattle.decl_rules.specs.Objects.{placed_ask, untyped_constant, typed_constant, of_type, of_part, with_typing, typed_in, constant_in, block_of, constant_by, constant_rule};
@@ -22,7 +21,7 @@ use unit_read::Subject;
 /// A constant of the type of its value.
 fn untyped(s: &State, m: Mark) -> Step
     requires { IsMarkOf s.now m }
-    ensures is { step_in s.now result ≡ tell (so_far s.now) (untyped_constant (said s.now m)) }
+    ensures is { step_in s.now result ≡ tell (sight s.now) (untyped_constant (said s.now m)) }
     ensures over { IsStepOf s.now result }
 {
     match known(s, m) {
@@ -40,7 +39,7 @@ fn untyped(s: &State, m: Mark) -> Step
 fn typed(s: &State, t: Facts, m: Mark) -> Step
     requires facts { AreFactsOf s.now t }
     requires mark { IsMarkOf s.now m }
-    ensures is { step_in s.now result ≡ tell (so_far s.now) (typed_constant (known_of s.now t) (said s.now m)) }
+    ensures is { step_in s.now result ≡ tell (sight s.now) (typed_constant (known_of s.now t) (said s.now m)) }
     ensures over { IsStepOf s.now result }
 {
     match known(s, m) {
@@ -56,7 +55,7 @@ fn typed(s: &State, t: Facts, m: Mark) -> Step
 
 fn untyped_by(u: &Subject, s: &State, block: usize, n: u32) -> Step
     requires { IsScene u.now s.now }
-    ensures is { step_in s.now result ≡ tell (so_far s.now) (placed_ask (unit_of u.now) block (Some n) untyped_constant) }
+    ensures is { step_in s.now result ≡ tell (sight s.now) (placed_ask (unit_of u.now) block (Some n) untyped_constant) }
     ensures over { IsStepOf s.now result }
 {
     match look(u, s, Stage::Placed, block, n) {
@@ -67,7 +66,7 @@ fn untyped_by(u: &Subject, s: &State, block: usize, n: u32) -> Step
 
 fn untyped_at(u: &Subject, s: &State, block: usize, value: Option<u32>) -> Step
     requires { IsScene u.now s.now }
-    ensures is { step_in s.now result ≡ tell (so_far s.now) (placed_ask (unit_of u.now) block value untyped_constant) }
+    ensures is { step_in s.now result ≡ tell (sight s.now) (placed_ask (unit_of u.now) block value untyped_constant) }
     ensures over { IsStepOf s.now result }
 {
     match value {
@@ -79,7 +78,7 @@ fn untyped_at(u: &Subject, s: &State, block: usize, value: Option<u32>) -> Step
 fn typed_at(u: &Subject, s: &State, block: usize, value: Option<u32>, t: Facts) -> Step
     requires scene { IsScene u.now s.now }
     requires facts { AreFactsOf s.now t }
-    ensures is { step_in s.now result ≡ tell (so_far s.now) (placed_ask (unit_of u.now) block value (typed_constant (known_of s.now t))) }
+    ensures is { step_in s.now result ≡ tell (sight s.now) (placed_ask (unit_of u.now) block value (typed_constant (known_of s.now t))) }
     ensures over { IsStepOf s.now result }
 {
     let Some(n) = value else {
@@ -102,7 +101,7 @@ fn of_type(
     requires scene { IsScene u.now s.now }
     requires facts { AreFactsOf s.now t }
     requires under { IsTypeOf s.now under }
-    ensures is { step_in s.now result ≡ tell (so_far s.now) (of_type (unit_of u.now) block value (known_of s.now t) (type_in s.now under)) }
+    ensures is { step_in s.now result ≡ tell (sight s.now) (of_type (unit_of u.now) block value (known_of s.now t) (type_in s.now under)) }
     ensures over { IsStepOf s.now result }
 {
     if has_constants(s, under) {
@@ -123,7 +122,7 @@ fn of_part(
     requires scene { IsScene u.now s.now }
     requires facts { AreFactsOf s.now t }
     requires under { MayBeTypeOf s.now under }
-    ensures is { step_in s.now result ≡ tell (so_far s.now) (of_part (unit_of u.now) block value (option_map (type_in s.now) under) (known_of s.now t)) }
+    ensures is { step_in s.now result ≡ tell (sight s.now) (of_part (unit_of u.now) block value (option_map (type_in s.now) under) (known_of s.now t)) }
     ensures over { IsStepOf s.now result }
 {
     match under {
@@ -135,7 +134,7 @@ fn of_part(
 fn with_typing(u: &Subject, s: &State, block: usize, value: Option<u32>, p: Seen) -> Step
     requires scene { IsScene u.now s.now }
     requires part { IsSeenOf s.now p }
-    ensures is { step_in s.now result ≡ tell (so_far s.now) (with_typing (unit_of u.now) block value (part_in s.now p)) }
+    ensures is { step_in s.now result ≡ tell (sight s.now) (with_typing (unit_of u.now) block value (part_in s.now p)) }
     ensures over { IsStepOf s.now result }
 {
     match known(s, p.mark) {
@@ -147,7 +146,7 @@ fn with_typing(u: &Subject, s: &State, block: usize, value: Option<u32>, p: Seen
 /// Its type is read where it is written.
 fn typed_in(u: &Subject, s: &State, file: usize, block: usize, t: u32, value: Option<u32>) -> Step
     requires { IsScene u.now s.now }
-    ensures is { step_in s.now result ≡ tell (so_far s.now) (typed_in (unit_of u.now) file block t value) }
+    ensures is { step_in s.now result ≡ tell (sight s.now) (typed_in (unit_of u.now) file block t value) }
     ensures over { IsStepOf s.now result }
 {
     let read = Read {
@@ -169,7 +168,7 @@ fn constant_in(
     value: Option<u32>,
 ) -> Step
     requires { IsScene u.now s.now }
-    ensures is { step_in s.now result ≡ tell (so_far s.now) (constant_in (unit_of u.now) file block typing value) }
+    ensures is { step_in s.now result ≡ tell (sight s.now) (constant_in (unit_of u.now) file block typing value) }
     ensures over { IsStepOf s.now result }
 {
     match typing {
@@ -195,7 +194,7 @@ fn block_of(u: &Subject, file: u32, nodes: &[Node], spec: Spec) -> Option<usize>
 
 fn constant_by(u: &Subject, s: &State, file: u32, nodes: &[Node], i: usize, spec: Spec) -> Step
     requires { IsScene u.now s.now }
-    ensures is { step_in s.now result ≡ tell (so_far s.now) (constant_by (unit_of u.now) file nodes.now i spec) }
+    ensures is { step_in s.now result ≡ tell (sight s.now) (constant_by (unit_of u.now) file nodes.now i spec) }
     ensures over { IsStepOf s.now result }
 {
     match block_of(u, file, nodes, spec) {
@@ -214,7 +213,7 @@ fn constant_by(u: &Subject, s: &State, file: u32, nodes: &[Node], i: usize, spec
 /// The constant that is the name of this place in its specification.
 pub fn judge_constant(u: &Subject, s: &State, name: NodeRef, i: usize) -> Step
     requires { IsScene u.now s.now }
-    ensures is { step_in s.now result ≡ tell (so_far s.now) (constant_rule (unit_of u.now) name i) }
+    ensures is { step_in s.now result ≡ tell (sight s.now) (constant_rule (unit_of u.now) name i) }
     ensures over { IsStepOf s.now result }
 {
     match u.spec_at(name) {

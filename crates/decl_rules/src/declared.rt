@@ -4,11 +4,10 @@ ghost use Rattle.mark_walk.specs.Telling.{tell, Says};
 ghost use Rattle.type_model.specs.GoTypes.{BasicType};
 ghost use Rattle.rule_words.specs.Words.{nothing};
 ghost use Rattle.type_model.specs.Tables.{IsTable};
-ghost use Rattle.typed_marks.specs.States.{so_far};
 ghost use Rattle.typed_tree.specs.Declarations.{has_constants};
 ghost use Rattle.typed_tree.specs.Basics.{HasBasics};
 ghost use Rattle.unit_read.specs.Subjects.{unit_of, IsRead};
-ghost use Rattle.rule_words.specs.Scenes.{type_in, IsTypeOf, MayBeTypeOf};
+ghost use Rattle.rule_words.specs.Scenes.{sight, type_in, IsTypeOf, MayBeTypeOf};
 ghost use Rattle.rule_words.specs.Steps.{step_in, IsStepOf};
 ghost use Rattle.decl_rules.specs.Specifications.{is_fit, counted_rule, const_rule, declared_name_rule};
 
@@ -72,7 +71,7 @@ pub fn nothing(s: &State) -> Step
 
 fn counted(s: &State, fit: bool, nodes: &[Node], spec: Spec) -> Step
     requires { HasBasics s.now.table }
-    ensures is { step_in s.now result ≡ tell (so_far s.now) (counted_rule fit nodes.now spec) }
+    ensures is { step_in s.now result ≡ tell (sight s.now) (counted_rule fit nodes.now spec) }
     ensures over { IsStepOf s.now result }
 {
     if !fit {
@@ -89,7 +88,7 @@ fn counted(s: &State, fit: bool, nodes: &[Node], spec: Spec) -> Step
 pub fn constants(u: &Subject, s: &State, at: NodeRef, fit: bool) -> Step
     requires read { IsRead u.now }
     requires basics { HasBasics s.now.table }
-    ensures is { step_in s.now result ≡ tell (so_far s.now) (const_rule (unit_of u.now) at fit) }
+    ensures is { step_in s.now result ≡ tell (sight s.now) (const_rule (unit_of u.now) at fit) }
     ensures over { IsStepOf s.now result }
 {
     match u.spec_at(at) {
@@ -102,7 +101,7 @@ pub fn constants(u: &Subject, s: &State, at: NodeRef, fit: bool) -> Step
 pub fn declared_name(u: &Subject, s: &State, at: NodeRef) -> Step
     requires read { IsRead u.now }
     requires basics { HasBasics s.now.table }
-    ensures is { step_in s.now result ≡ tell (so_far s.now) (declared_name_rule (unit_of u.now) at) }
+    ensures is { step_in s.now result ≡ tell (sight s.now) (declared_name_rule (unit_of u.now) at) }
     ensures over { IsStepOf s.now result }
 {
     if u.is_repeat(at) {

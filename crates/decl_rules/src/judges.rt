@@ -2,9 +2,8 @@
 ghost use Rattle.std.specs.Prelude.{◌≡◌, IfOk};
 ghost use Rattle.mark_walk.specs.Telling.{tell};
 ghost use Rattle.typed_tree.specs.Basics.{HasBasics};
-ghost use Rattle.typed_marks.specs.States.{so_far};
 ghost use Rattle.unit_read.specs.Subjects.{unit_of};
-ghost use Rattle.rule_words.specs.Scenes.{IsScene, part_in, IsSeenOf, parts_in, AreSeenOf};
+ghost use Rattle.rule_words.specs.Scenes.{sight, IsScene, part_in, IsSeenOf, parts_in, AreSeenOf};
 ghost use Rattle.rule_words.specs.Steps.{step_in, IsStepOf};
 ghost use Rattle.rule_words.specs.Wanting.{wanted_of, IsWantedOf};
 ghost use Rattle.decl_rules.specs.Specifications.{member_rule};
@@ -34,7 +33,7 @@ use unit_read::Subject;
 fn judge_simple(s: &State, form: Simple, a: Seen, b: Seen) -> Step
     requires a { IsSeenOf s.now a }
     requires b { IsSeenOf s.now b }
-    ensures is { step_in s.now result ≡ tell (so_far s.now) (simple_rule form (part_in s.now a) (part_in s.now b)) }
+    ensures is { step_in s.now result ≡ tell (sight s.now) (simple_rule form (part_in s.now a) (part_in s.now b)) }
     ensures over { IsStepOf s.now result }
 {
     match form {
@@ -48,7 +47,7 @@ fn judge_simple(s: &State, form: Simple, a: Seen, b: Seen) -> Step
 
 fn of_simple(s: &State, form: Simple, parts: &[Seen]) -> Step
     requires { AreSeenOf s.now parts.now }
-    ensures is { step_in s.now result ≡ tell (so_far s.now) (simple_of (parts_in s.now parts.now) form) }
+    ensures is { step_in s.now result ≡ tell (sight s.now) (simple_of (parts_in s.now parts.now) form) }
     ensures over { IsStepOf s.now result }
 {
     let first = part_at(s, parts, 0);
@@ -59,7 +58,7 @@ fn of_simple(s: &State, form: Simple, parts: &[Seen]) -> Step
 fn embedded(u: &Subject, s: &State, at: NodeRef, p: Seen) -> Step
     requires scene { IsScene u.now s.now }
     requires part { IsSeenOf s.now p }
-    ensures is { step_in s.now result ≡ tell (so_far s.now) (member_rule (unit_of u.now) at (same_rule (part_in s.now p))) }
+    ensures is { step_in s.now result ≡ tell (sight s.now) (member_rule (unit_of u.now) at (same_rule (part_in s.now p))) }
     ensures over { IsStepOf s.now result }
 {
     if u.is_repeat(at) {
@@ -71,7 +70,7 @@ fn embedded(u: &Subject, s: &State, at: NodeRef, p: Seen) -> Step
 fn embedded_pointer(u: &Subject, s: &State, at: NodeRef, p: Seen) -> Step
     requires scene { IsScene u.now s.now }
     requires part { IsSeenOf s.now p }
-    ensures is { step_in s.now result ≡ tell (so_far s.now) (member_rule (unit_of u.now) at (pointing_rule (part_in s.now p))) }
+    ensures is { step_in s.now result ≡ tell (sight s.now) (member_rule (unit_of u.now) at (pointing_rule (part_in s.now p))) }
     ensures over { IsStepOf s.now result }
 {
     if u.is_repeat(at) {
@@ -83,7 +82,7 @@ fn embedded_pointer(u: &Subject, s: &State, at: NodeRef, p: Seen) -> Step
 fn judge_member(u: &Subject, s: &State, at: NodeRef, node: &Node, p: Seen, form: Member) -> Step
     requires scene { IsScene u.now s.now }
     requires part { IsSeenOf s.now p }
-    ensures is { step_in s.now result ≡ tell (so_far s.now) (member_of (unit_of u.now) at node.now (part_in s.now p) form) }
+    ensures is { step_in s.now result ≡ tell (sight s.now) (member_of (unit_of u.now) at node.now (part_in s.now p) form) }
     ensures over { IsStepOf s.now result }
 {
     match form {
@@ -96,7 +95,7 @@ fn judge_member(u: &Subject, s: &State, at: NodeRef, node: &Node, p: Seen, form:
 fn of_member(u: &Subject, s: &State, at: NodeRef, node: &Node, parts: &[Seen], form: Member) -> Step
     requires scene { IsScene u.now s.now }
     requires parts { AreSeenOf s.now parts.now }
-    ensures is { step_in s.now result ≡ tell (so_far s.now) (in_member (unit_of u.now) at node.now (parts_in s.now parts.now) form) }
+    ensures is { step_in s.now result ≡ tell (sight s.now) (in_member (unit_of u.now) at node.now (parts_in s.now parts.now) form) }
     ensures over { IsStepOf s.now result }
 {
     let first = part_at(s, parts, 0);
@@ -113,7 +112,7 @@ fn method(
     node: &Node,
 ) -> Result<Step, NoMemory>
     requires { IsScene u.now s.now }
-    ensures is { IfOk result (λ step. step_in s.now step ≡ tell (so_far s.now) (method_rule (unit_of u.now) block at node.now)) }
+    ensures is { IfOk result (λ step. step_in s.now step ≡ tell (sight s.now) (method_rule (unit_of u.now) block at node.now)) }
     ensures over { IfOk result (IsStepOf s.now) }
 {
     if u.is_repeat(at) {
@@ -133,7 +132,7 @@ fn of_signed(
     form: Signed,
 ) -> Result<Step, NoMemory>
     requires { IsScene u.now s.now }
-    ensures is { IfOk result (λ step. step_in s.now step ≡ tell (so_far s.now) (signed_rule (unit_of u.now) block at node.now form)) }
+    ensures is { IfOk result (λ step. step_in s.now step ≡ tell (sight s.now) (signed_rule (unit_of u.now) block at node.now form)) }
     ensures over { IfOk result (IsStepOf s.now) }
 {
     let nodes = u.nodes_at(at.file);
@@ -168,7 +167,7 @@ fn of_listed(
 ) -> Result<Step, NoMemory>
     requires scene { IsScene u.now s.now }
     requires parts { AreSeenOf s.now parts.now }
-    ensures is { IfOk result (λ step. step_in s.now step ≡ tell (so_far s.now) (listed_rule (unit_of u.now) at node.now (parts_in s.now parts.now) form)) }
+    ensures is { IfOk result (λ step. step_in s.now step ≡ tell (sight s.now) (listed_rule (unit_of u.now) at node.now (parts_in s.now parts.now) form)) }
     ensures over { IfOk result (IsStepOf s.now) }
 {
     match form {
@@ -189,7 +188,7 @@ fn of_listed(
 
 fn limited(s: &State, limit: Option<Limit>) -> Step
     requires { HasBasics s.now.table }
-    ensures is { step_in s.now result ≡ tell (so_far s.now) (limited limit) }
+    ensures is { step_in s.now result ≡ tell (sight s.now) (limited limit) }
     ensures over { IsStepOf s.now result }
 {
     match limit {
@@ -200,7 +199,7 @@ fn limited(s: &State, limit: Option<Limit>) -> Step
 
 fn judge_import(u: &Subject, s: &State, at: NodeRef) -> Step
     requires { IsScene u.now s.now }
-    ensures is { step_in s.now result ≡ tell (so_far s.now) (import_rule (unit_of u.now) at) }
+    ensures is { step_in s.now result ≡ tell (sight s.now) (import_rule (unit_of u.now) at) }
     ensures over { IsStepOf s.now result }
 {
     match u.lead_at(at) {
@@ -212,7 +211,7 @@ fn judge_import(u: &Subject, s: &State, at: NodeRef) -> Step
 fn judge_line(u: &Subject, s: &State, at: NodeRef, p: Seen, form: Line) -> Step
     requires scene { IsScene u.now s.now }
     requires part { IsSeenOf s.now p }
-    ensures is { step_in s.now result ≡ tell (so_far s.now) (line_rule (unit_of u.now) at (part_in s.now p) form) }
+    ensures is { step_in s.now result ≡ tell (sight s.now) (line_rule (unit_of u.now) at (part_in s.now p) form) }
     ensures over { IsStepOf s.now result }
 {
     match form {
@@ -226,7 +225,7 @@ fn judge_line(u: &Subject, s: &State, at: NodeRef, p: Seen, form: Line) -> Step
 fn of_line(u: &Subject, s: &State, at: NodeRef, parts: &[Seen], form: Line) -> Step
     requires scene { IsScene u.now s.now }
     requires parts { AreSeenOf s.now parts.now }
-    ensures is { step_in s.now result ≡ tell (so_far s.now) (line_of (unit_of u.now) at (parts_in s.now parts.now) form) }
+    ensures is { step_in s.now result ≡ tell (sight s.now) (line_of (unit_of u.now) at (parts_in s.now parts.now) form) }
     ensures over { IsStepOf s.now result }
 {
     let first = part_at(s, parts, 0);
@@ -236,7 +235,7 @@ fn of_line(u: &Subject, s: &State, at: NodeRef, parts: &[Seen], form: Line) -> S
 fn or_line(u: &Subject, s: &State, at: NodeRef, node: &Node, parts: &[Seen]) -> Step
     requires scene { IsScene u.now s.now }
     requires parts { AreSeenOf s.now parts.now }
-    ensures is { step_in s.now result ≡ tell (so_far s.now) (or_line (unit_of u.now) at node.now (parts_in s.now parts.now)) }
+    ensures is { step_in s.now result ≡ tell (sight s.now) (or_line (unit_of u.now) at node.now (parts_in s.now parts.now)) }
     ensures over { IsStepOf s.now result }
 {
     match line_form(node.kind) {
@@ -248,7 +247,7 @@ fn or_line(u: &Subject, s: &State, at: NodeRef, node: &Node, parts: &[Seen]) -> 
 fn or_member(u: &Subject, s: &State, at: NodeRef, node: &Node, parts: &[Seen]) -> Step
     requires scene { IsScene u.now s.now }
     requires parts { AreSeenOf s.now parts.now }
-    ensures is { step_in s.now result ≡ tell (so_far s.now) (or_member (unit_of u.now) at node.now (parts_in s.now parts.now)) }
+    ensures is { step_in s.now result ≡ tell (sight s.now) (or_member (unit_of u.now) at node.now (parts_in s.now parts.now)) }
     ensures over { IsStepOf s.now result }
 {
     match member_form(node.kind) {
@@ -267,7 +266,7 @@ fn or_listed(
 ) -> Result<Step, NoMemory>
     requires scene { IsScene u.now s.now }
     requires parts { AreSeenOf s.now parts.now }
-    ensures is { IfOk result (λ step. step_in s.now step ≡ tell (so_far s.now) (or_listed (unit_of u.now) at node.now (parts_in s.now parts.now))) }
+    ensures is { IfOk result (λ step. step_in s.now step ≡ tell (sight s.now) (or_listed (unit_of u.now) at node.now (parts_in s.now parts.now))) }
     ensures over { IfOk result (IsStepOf s.now) }
 {
     match listed_form(node.kind) {
@@ -290,7 +289,7 @@ fn or_signed(
 ) -> Result<Step, NoMemory>
     requires scene { IsScene u.now s.now }
     requires parts { AreSeenOf s.now parts.now }
-    ensures is { IfOk result (λ step. step_in s.now step ≡ tell (so_far s.now) (or_signed (unit_of u.now) block at node.now (parts_in s.now parts.now))) }
+    ensures is { IfOk result (λ step. step_in s.now step ≡ tell (sight s.now) (or_signed (unit_of u.now) block at node.now (parts_in s.now parts.now))) }
     ensures over { IfOk result (IsStepOf s.now) }
 {
     match signed_form(node.kind) {
@@ -319,7 +318,7 @@ pub fn judge_decl(
     requires scene { IsScene u.now s.now }
     requires parts { AreSeenOf s.now parts.now }
     requires wanted { IsWantedOf s.now wanted }
-    ensures is { IfOk result (λ step. step_in s.now step ≡ tell (so_far s.now) (decl_rule (unit_of u.now) block at node.now (parts_in s.now parts.now) (wanted_of s.now wanted))) }
+    ensures is { IfOk result (λ step. step_in s.now step ≡ tell (sight s.now) (decl_rule (unit_of u.now) block at node.now (parts_in s.now parts.now) (wanted_of s.now wanted))) }
     ensures over { IfOk result (IsStepOf s.now) }
 {
     let _ = wanted;

@@ -5,9 +5,9 @@ ghost use Rattle.mark_walk.specs.Asks.{done};
 ghost use Rattle.mark_walk.specs.Telling.{tell};
 ghost use Rattle.type_model.specs.Tables.{IsTable};
 ghost use Rattle.typed_marks.specs.Meanings.{Quiet};
-ghost use Rattle.typed_marks.specs.States.{so_far, IsState};
+ghost use Rattle.typed_marks.specs.States.{IsState};
 ghost use Rattle.unit_read.specs.Subjects.{unit_of};
-ghost use Rattle.rule_words.specs.Scenes.{IsScene, said, IsMarkOf, type_in, IsTypeOf, MayBeTypeOf};
+ghost use Rattle.rule_words.specs.Scenes.{sight, IsScene, said, IsMarkOf, type_in, IsTypeOf, MayBeTypeOf};
 ghost use Rattle.rule_words.specs.Steps.{step_in, IsStepOf};
 ghost use Rattle.rule_words.specs.Good.{known_of, AreFactsOf};
 ghost use Rattle.decl_rules.specs.Late.{key_of, key_mark, key_rule, map_part, may_be_embedded, embedded_under, embedded_known, embedded_of, embedded_mark, embedded_ask, embedded_rule, member_by, member_of_kind, member_part};
@@ -24,7 +24,7 @@ use unit_read::{Place, Subject};
 
 fn key_of(s: &State, x: Facts) -> Step
     requires { AreFactsOf s.now x }
-    ensures is { step_in s.now result ≡ tell (so_far s.now) (key_of (known_of s.now x)) }
+    ensures is { step_in s.now result ≡ tell (sight s.now) (key_of (known_of s.now x)) }
     ensures over { IsStepOf s.now result }
 {
     let _ = s;
@@ -36,7 +36,7 @@ fn key_of(s: &State, x: Facts) -> Step
 
 fn key_mark(s: &State, m: Mark) -> Step
     requires { IsMarkOf s.now m }
-    ensures is { step_in s.now result ≡ tell (so_far s.now) (key_mark (said s.now m)) }
+    ensures is { step_in s.now result ≡ tell (sight s.now) (key_mark (said s.now m)) }
     ensures over { IsStepOf s.now result }
 {
     match known(s, m) {
@@ -48,7 +48,7 @@ fn key_mark(s: &State, m: Mark) -> Step
 /// E12 of a type in the place of a map's key.
 fn key(u: &Subject, s: &State, at: NodeRef) -> Step
     requires { IsScene u.now s.now }
-    ensures is { step_in s.now result ≡ tell (so_far s.now) (key_rule (unit_of u.now) at) }
+    ensures is { step_in s.now result ≡ tell (sight s.now) (key_rule (unit_of u.now) at) }
     ensures over { IsStepOf s.now result }
 {
     match look(u, s, Stage::Placed, at.file as usize, at.node) {
@@ -60,7 +60,7 @@ fn key(u: &Subject, s: &State, at: NodeRef) -> Step
 /// What is said late of a part of a map type.
 pub fn map_part(u: &Subject, s: &State, at: NodeRef, p: Place) -> Step
     requires { IsScene u.now s.now }
-    ensures is { step_in s.now result ≡ tell (so_far s.now) (map_part (unit_of u.now) at p) }
+    ensures is { step_in s.now result ≡ tell (sight s.now) (map_part (unit_of u.now) at p) }
     ensures over { IsStepOf s.now result }
 {
     if p.slot == 0 { key(u, s, at) } else { silent() }
@@ -88,7 +88,7 @@ fn may_be_embedded(s: &State, behind: bool, of: TypeId) -> bool
 fn embedded_under(s: &State, behind: bool, under: TypeId) -> Step
     requires state { IsState s.now }
     requires under { IsTypeOf s.now under }
-    ensures is { step_in s.now result ≡ tell (so_far s.now) (embedded_under behind (type_in s.now under)) }
+    ensures is { step_in s.now result ≡ tell (sight s.now) (embedded_under behind (type_in s.now under)) }
     ensures over { IsStepOf s.now result }
 {
     if may_be_embedded(s, behind, under) {
@@ -101,7 +101,7 @@ fn embedded_under(s: &State, behind: bool, under: TypeId) -> Step
 fn embedded_known(s: &State, behind: bool, under: Option<TypeId>) -> Step
     requires state { IsState s.now }
     requires under { MayBeTypeOf s.now under }
-    ensures is { step_in s.now result ≡ tell (so_far s.now) (embedded_known behind (option_map (type_in s.now) under)) }
+    ensures is { step_in s.now result ≡ tell (sight s.now) (embedded_known behind (option_map (type_in s.now) under)) }
     ensures over { IsStepOf s.now result }
 {
     match under {
@@ -113,7 +113,7 @@ fn embedded_known(s: &State, behind: bool, under: Option<TypeId>) -> Step
 fn embedded_of(u: &Subject, s: &State, behind: bool, x: Facts) -> Step
     requires scene { IsScene u.now s.now }
     requires facts { AreFactsOf s.now x }
-    ensures is { step_in s.now result ≡ tell (so_far s.now) (embedded_of (unit_of u.now) behind (known_of s.now x)) }
+    ensures is { step_in s.now result ≡ tell (sight s.now) (embedded_of (unit_of u.now) behind (known_of s.now x)) }
     ensures over { IsStepOf s.now result }
 {
     match under_of(u, s, x.of) {
@@ -125,7 +125,7 @@ fn embedded_of(u: &Subject, s: &State, behind: bool, x: Facts) -> Step
 fn embedded_mark(u: &Subject, s: &State, behind: bool, m: Mark) -> Step
     requires scene { IsScene u.now s.now }
     requires mark { IsMarkOf s.now m }
-    ensures is { step_in s.now result ≡ tell (so_far s.now) (embedded_mark (unit_of u.now) behind (said s.now m)) }
+    ensures is { step_in s.now result ≡ tell (sight s.now) (embedded_mark (unit_of u.now) behind (said s.now m)) }
     ensures over { IsStepOf s.now result }
 {
     match known(s, m) {
@@ -136,7 +136,7 @@ fn embedded_mark(u: &Subject, s: &State, behind: bool, m: Mark) -> Step
 
 fn embedded_ask(u: &Subject, s: &State, file: u32, behind: bool, n: u32) -> Step
     requires { IsScene u.now s.now }
-    ensures is { step_in s.now result ≡ tell (so_far s.now) (embedded_ask (unit_of u.now) file behind n) }
+    ensures is { step_in s.now result ≡ tell (sight s.now) (embedded_ask (unit_of u.now) file behind n) }
     ensures over { IsStepOf s.now result }
 {
     match look(u, s, Stage::Placed, file as usize, n) {
@@ -148,7 +148,7 @@ fn embedded_ask(u: &Subject, s: &State, file: u32, behind: bool, n: u32) -> Step
 /// E13 of an embedded field.
 fn embedded(u: &Subject, s: &State, file: u32, behind: bool, node: &Node) -> Step
     requires { IsScene u.now s.now }
-    ensures is { step_in s.now result ≡ tell (so_far s.now) (embedded_rule (unit_of u.now) file behind node.now) }
+    ensures is { step_in s.now result ≡ tell (sight s.now) (embedded_rule (unit_of u.now) file behind node.now) }
     ensures over { IsStepOf s.now result }
 {
     match part_of(node, 0) {
@@ -159,7 +159,7 @@ fn embedded(u: &Subject, s: &State, file: u32, behind: bool, node: &Node) -> Ste
 
 fn member(u: &Subject, s: &State, file: u32, node: &Node) -> Step
     requires { IsScene u.now s.now }
-    ensures is { step_in s.now result ≡ tell (so_far s.now) (member_by (unit_of u.now) file node.now.kind node.now) }
+    ensures is { step_in s.now result ≡ tell (sight s.now) (member_by (unit_of u.now) file node.now.kind node.now) }
     ensures over { IsStepOf s.now result }
 {
     match node.kind {
@@ -172,7 +172,7 @@ fn member(u: &Subject, s: &State, file: u32, node: &Node) -> Step
 /// What is said late of a member of a struct type.
 pub fn member_part(u: &Subject, s: &State, at: NodeRef) -> Step
     requires { IsScene u.now s.now }
-    ensures is { step_in s.now result ≡ tell (so_far s.now) (member_part (unit_of u.now) at) }
+    ensures is { step_in s.now result ≡ tell (sight s.now) (member_part (unit_of u.now) at) }
     ensures over { IsStepOf s.now result }
 {
     match u.node_at(at) {

@@ -2,10 +2,9 @@
 ghost use Rattle.std.specs.Prelude.{◌≡◌, Some, option_map};
 ghost use Rattle.mark_walk.specs.Telling.{tell};
 ghost use Rattle.type_model.specs.Tables.{IsTable};
-ghost use Rattle.typed_marks.specs.States.{so_far};
 ghost use Rattle.unit_read.specs.Methods.{is_repeated_method};
 ghost use Rattle.unit_read.specs.Subjects.{unit_of, IsRead};
-ghost use Rattle.rule_words.specs.Scenes.{IsScene, said, IsMarkOf, type_in, IsTypeOf, MayBeTypeOf};
+ghost use Rattle.rule_words.specs.Scenes.{sight, IsScene, said, IsMarkOf, type_in, IsTypeOf, MayBeTypeOf};
 ghost use Rattle.rule_words.specs.Steps.{step_in, IsStepOf};
 ghost use Rattle.rule_words.specs.Good.{known_of, AreFactsOf};
 ghost use Rattle.decl_rules.specs.Objects.{is_its_field, beside_fields, of_owner, by_owner, owned_rule, unrepeated_rule, method_rule, method_part};
@@ -35,7 +34,7 @@ fn is_its_field(u: &Subject, s: &State, under: TypeId, name: &str) -> bool
 fn beside_struct(u: &Subject, s: &State, name: NodeRef, at: NodeRef, under: TypeId) -> Step
     requires scene { IsScene u.now s.now }
     requires under { IsTypeOf s.now under }
-    ensures is { step_in s.now result ≡ tell (so_far s.now) (beside_fields (unit_of u.now) name at (Some (type_in s.now under))) }
+    ensures is { step_in s.now result ≡ tell (sight s.now) (beside_fields (unit_of u.now) name at (Some (type_in s.now under))) }
     ensures over { IsStepOf s.now result }
 {
     if is_its_field(u, s, under, u.name_text(name)) {
@@ -48,7 +47,7 @@ fn beside_struct(u: &Subject, s: &State, name: NodeRef, at: NodeRef, under: Type
 fn beside_fields(u: &Subject, s: &State, name: NodeRef, at: NodeRef, under: Option<TypeId>) -> Step
     requires scene { IsScene u.now s.now }
     requires under { MayBeTypeOf s.now under }
-    ensures is { step_in s.now result ≡ tell (so_far s.now) (beside_fields (unit_of u.now) name at (option_map (type_in s.now) under)) }
+    ensures is { step_in s.now result ≡ tell (sight s.now) (beside_fields (unit_of u.now) name at (option_map (type_in s.now) under)) }
     ensures over { IsStepOf s.now result }
 {
     match under {
@@ -60,7 +59,7 @@ fn beside_fields(u: &Subject, s: &State, name: NodeRef, at: NodeRef, under: Opti
 fn of_owner(u: &Subject, s: &State, name: NodeRef, at: NodeRef, x: Facts) -> Step
     requires scene { IsScene u.now s.now }
     requires facts { AreFactsOf s.now x }
-    ensures is { step_in s.now result ≡ tell (so_far s.now) (of_owner (unit_of u.now) name at (known_of s.now x)) }
+    ensures is { step_in s.now result ≡ tell (sight s.now) (of_owner (unit_of u.now) name at (known_of s.now x)) }
     ensures over { IsStepOf s.now result }
 {
     match under_of(u, s, x.of) {
@@ -72,7 +71,7 @@ fn of_owner(u: &Subject, s: &State, name: NodeRef, at: NodeRef, x: Facts) -> Ste
 fn by_owner(u: &Subject, s: &State, name: NodeRef, at: NodeRef, m: Mark) -> Step
     requires scene { IsScene u.now s.now }
     requires mark { IsMarkOf s.now m }
-    ensures is { step_in s.now result ≡ tell (so_far s.now) (by_owner (unit_of u.now) name at (said s.now m)) }
+    ensures is { step_in s.now result ≡ tell (sight s.now) (by_owner (unit_of u.now) name at (said s.now m)) }
     ensures over { IsStepOf s.now result }
 {
     match known(s, m) {
@@ -84,7 +83,7 @@ fn by_owner(u: &Subject, s: &State, name: NodeRef, at: NodeRef, m: Mark) -> Step
 /// Beside the fields of the type whose name stands there.
 fn owned(u: &Subject, s: &State, name: NodeRef, at: NodeRef, t: NodeRef) -> Step
     requires { IsScene u.now s.now }
-    ensures is { step_in s.now result ≡ tell (so_far s.now) (owned_rule (unit_of u.now) name at t) }
+    ensures is { step_in s.now result ≡ tell (sight s.now) (owned_rule (unit_of u.now) name at t) }
     ensures over { IsStepOf s.now result }
 {
     match look(u, s, Stage::Object, t.file as usize, t.node) {
@@ -95,7 +94,7 @@ fn owned(u: &Subject, s: &State, name: NodeRef, at: NodeRef, t: NodeRef) -> Step
 
 fn unrepeated(u: &Subject, s: &State, name: NodeRef, at: NodeRef) -> Step
     requires { IsScene u.now s.now }
-    ensures is { step_in s.now result ≡ tell (so_far s.now) (unrepeated_rule (unit_of u.now) name at) }
+    ensures is { step_in s.now result ≡ tell (sight s.now) (unrepeated_rule (unit_of u.now) name at) }
     ensures over { IsStepOf s.now result }
 {
     match u.owner(at) {
@@ -106,7 +105,7 @@ fn unrepeated(u: &Subject, s: &State, name: NodeRef, at: NodeRef) -> Step
 
 fn method(u: &Subject, s: &State, name: NodeRef, at: NodeRef) -> Step
     requires { IsScene u.now s.now }
-    ensures is { step_in s.now result ≡ tell (so_far s.now) (method_rule (unit_of u.now) name at) }
+    ensures is { step_in s.now result ≡ tell (sight s.now) (method_rule (unit_of u.now) name at) }
     ensures over { IsStepOf s.now result }
 {
     if u.is_repeated_method(at) {
@@ -119,7 +118,7 @@ fn method(u: &Subject, s: &State, name: NodeRef, at: NodeRef) -> Step
 /// The mark of the method at whose name this stands: E14 where an earlier method of its type has the name, or a field.
 pub(crate) fn method_part(u: &Subject, s: &State, name: NodeRef, p: Place) -> Step
     requires { IsScene u.now s.now }
-    ensures is { step_in s.now result ≡ tell (so_far s.now) (method_part (unit_of u.now) name p) }
+    ensures is { step_in s.now result ≡ tell (sight s.now) (method_part (unit_of u.now) name p) }
     ensures over { IsStepOf s.now result }
 {
     if p.slot == 1 {

@@ -5,11 +5,11 @@ ghost use Rattle.type_model.specs.Parts.{GoMethod};
 ghost use Rattle.type_model.specs.GoTypes.{fields_of, MethodsBelow};
 ghost use Rattle.type_model.specs.Tables.{types_in, count, IsTable};
 ghost use Rattle.typed_tree.specs.Basics.{HasBasics};
-ghost use Rattle.typed_marks.specs.States.{so_far, IsState};
+ghost use Rattle.typed_marks.specs.States.{IsState};
 ghost use Rattle.unit_read.specs.Methods.{part_name, method_name};
 ghost use Rattle.unit_read.specs.Subjects.{unit_of, IsRead};
 ghost use Rattle.unit_read.specs.Units.{is_blank};
-ghost use Rattle.rule_words.specs.Scenes.{IsScene, said, IsMarkOf, type_in, IsTypeOf};
+ghost use Rattle.rule_words.specs.Scenes.{sight, IsScene, said, IsMarkOf, type_in, IsTypeOf};
 ghost use Rattle.type_rules.specs.Elements.{method_in};
 ghost use Rattle.decl_rules.specs.Methods.{same_name, is_field_of, has_field, is_left_out, first_entry, receiver_entry, entry_ask, receiver_ask, signature_ask, node_ask, method_ask, methods_ask, Gives, GivesAll};
 ghost use Rattle.type_rules.specs.Structs.{owner_of};
@@ -128,7 +128,7 @@ fn entry(
     requires scene { IsScene u.now s.now }
     requires mark { IsMarkOf s.now m }
     requires below { MethodsBelow (count s.now.table) out.old.items }
-    ensures gives { IfOk result (Gives (so_far s.now) (entry_ask (unit_of u.now) at name.now (said s.now m) entry) (map (method_in s.now) out.old.items) (map (method_in s.now) out.new.items)) }
+    ensures gives { IfOk result (Gives (sight s.now) (entry_ask (unit_of u.now) at name.now (said s.now m) entry) (map (method_in s.now) out.old.items) (map (method_in s.now) out.new.items)) }
     ensures below { OnOk result (MethodsBelow (count s.now.table) out.new.items) }
 {
     match look(u, s, Stage::Placed, at.file as usize, entry) {
@@ -153,7 +153,7 @@ fn receiver(
     requires scene { IsScene u.now s.now }
     requires mark { IsMarkOf s.now m }
     requires below { MethodsBelow (count s.now.table) out.old.items }
-    ensures gives { IfOk result (Gives (so_far s.now) (receiver_ask (unit_of u.now) at node.now name.now (said s.now m)) (map (method_in s.now) out.old.items) (map (method_in s.now) out.new.items)) }
+    ensures gives { IfOk result (Gives (sight s.now) (receiver_ask (unit_of u.now) at node.now name.now (said s.now m)) (map (method_in s.now) out.old.items) (map (method_in s.now) out.new.items)) }
     ensures below { OnOk result (MethodsBelow (count s.now.table) out.new.items) }
 {
     match receiver_entry(u.nodes_at(at.file), node) {
@@ -176,7 +176,7 @@ fn signature(
 ) -> Result<Option<Item>, NoMemory>
     requires scene { IsScene u.now s.now }
     requires below { MethodsBelow (count s.now.table) out.old.items }
-    ensures gives { IfOk result (Gives (so_far s.now) (signature_ask (unit_of u.now) at node.now name.now) (map (method_in s.now) out.old.items) (map (method_in s.now) out.new.items)) }
+    ensures gives { IfOk result (Gives (sight s.now) (signature_ask (unit_of u.now) at node.now name.now) (map (method_in s.now) out.old.items) (map (method_in s.now) out.new.items)) }
     ensures below { OnOk result (MethodsBelow (count s.now.table) out.new.items) }
 {
     match look(u, s, Stage::Placed, at.file as usize, at.node) {
@@ -220,7 +220,7 @@ fn node_method(
     requires scene { IsScene u.now s.now }
     requires under { IsTypeOf s.now under }
     requires below { MethodsBelow (count s.now.table) out.old.items }
-    ensures gives { IfOk result (Gives (so_far s.now) (node_ask (unit_of u.now) (type_in s.now under) at node.now) (map (method_in s.now) out.old.items) (map (method_in s.now) out.new.items)) }
+    ensures gives { IfOk result (Gives (sight s.now) (node_ask (unit_of u.now) (type_in s.now under) at node.now) (map (method_in s.now) out.old.items) (map (method_in s.now) out.new.items)) }
     ensures below { OnOk result (MethodsBelow (count s.now.table) out.new.items) }
 {
     let name = method_name(u, at);
@@ -243,7 +243,7 @@ fn method(
     requires scene { IsScene u.now s.now }
     requires under { IsTypeOf s.now under }
     requires below { MethodsBelow (count s.now.table) out.old.items }
-    ensures gives { IfOk result (Gives (so_far s.now) (method_ask (unit_of u.now) (type_in s.now under) at) (map (method_in s.now) out.old.items) (map (method_in s.now) out.new.items)) }
+    ensures gives { IfOk result (Gives (sight s.now) (method_ask (unit_of u.now) (type_in s.now under) at) (map (method_in s.now) out.old.items) (map (method_in s.now) out.new.items)) }
     ensures below { OnOk result (MethodsBelow (count s.now.table) out.new.items) }
 {
     match u.node_at(at) {
@@ -274,7 +274,7 @@ pub fn add_methods(
     requires scene { IsScene u.now s.now }
     requires under { IsTypeOf s.now under }
     requires bare { out.old.items ≡ [] }
-    ensures gives { IfOk result (GivesAll (so_far s.now) (methods_ask (unit_of u.now) (type_in s.now under) name) (map (method_in s.now) out.new.items)) }
+    ensures gives { IfOk result (GivesAll (sight s.now) (methods_ask (unit_of u.now) (type_in s.now under) name) (map (method_in s.now) out.new.items)) }
     ensures below { OnOk result (MethodsBelow (count s.now.table) out.new.items) }
 {
     let methods = u.methods_of(name);

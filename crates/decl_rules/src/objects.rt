@@ -1,10 +1,9 @@
 //! The mark of an object, by where its name stands.
 ghost use Rattle.std.specs.Prelude.{◌≡◌, Some, IfOk, option_map};
 ghost use Rattle.mark_walk.specs.Telling.{tell};
-ghost use Rattle.typed_marks.specs.States.{so_far};
 ghost use Rattle.unit_read.specs.Subjects.{unit_of, IsRead};
 ghost use Rattle.unit_read.specs.Units.{type_name_at};
-ghost use Rattle.rule_words.specs.Scenes.{IsScene, said, IsMarkOf};
+ghost use Rattle.rule_words.specs.Scenes.{sight, IsScene, said, IsMarkOf};
 ghost use Rattle.rule_words.specs.Steps.{step_in, IsStepOf};
 ghost use Rattle.decl_rules.specs.Objects.{variable_mark, function_mark, alias_mark, placed_ask, defined_rule, form_rule, kind_rule, object_in, placed_object, object_rule};
 
@@ -28,7 +27,7 @@ use variable_rules::judge_variable_object;
 
 fn variable(s: &State, m: Mark) -> Step
     requires { IsMarkOf s.now m }
-    ensures is { step_in s.now result ≡ tell (so_far s.now) (variable_mark (said s.now m)) }
+    ensures is { step_in s.now result ≡ tell (sight s.now) (variable_mark (said s.now m)) }
     ensures over { IsStepOf s.now result }
 {
     match known(s, m) {
@@ -44,7 +43,7 @@ fn variable(s: &State, m: Mark) -> Step
 
 fn function(s: &State, m: Mark) -> Step
     requires { IsMarkOf s.now m }
-    ensures is { step_in s.now result ≡ tell (so_far s.now) (function_mark (said s.now m)) }
+    ensures is { step_in s.now result ≡ tell (sight s.now) (function_mark (said s.now m)) }
     ensures over { IsStepOf s.now result }
 {
     match known(s, m) {
@@ -60,7 +59,7 @@ fn function(s: &State, m: Mark) -> Step
 
 fn alias(s: &State, m: Mark) -> Step
     requires { IsMarkOf s.now m }
-    ensures is { step_in s.now result ≡ tell (so_far s.now) (alias_mark (said s.now m)) }
+    ensures is { step_in s.now result ≡ tell (sight s.now) (alias_mark (said s.now m)) }
     ensures over { IsStepOf s.now result }
 {
     match known(s, m) {
@@ -76,7 +75,7 @@ fn alias(s: &State, m: Mark) -> Step
 
 fn variable_by(u: &Subject, s: &State, file: u32, n: u32) -> Step
     requires { IsScene u.now s.now }
-    ensures is { step_in s.now result ≡ tell (so_far s.now) (placed_ask (unit_of u.now) file (Some n) variable_mark) }
+    ensures is { step_in s.now result ≡ tell (sight s.now) (placed_ask (unit_of u.now) file (Some n) variable_mark) }
     ensures over { IsStepOf s.now result }
 {
     match look(u, s, Stage::Placed, file as usize, n) {
@@ -87,7 +86,7 @@ fn variable_by(u: &Subject, s: &State, file: u32, n: u32) -> Step
 
 fn variable_at(u: &Subject, s: &State, file: u32, n: Option<u32>) -> Step
     requires { IsScene u.now s.now }
-    ensures is { step_in s.now result ≡ tell (so_far s.now) (placed_ask (unit_of u.now) file n variable_mark) }
+    ensures is { step_in s.now result ≡ tell (sight s.now) (placed_ask (unit_of u.now) file n variable_mark) }
     ensures over { IsStepOf s.now result }
 {
     match n {
@@ -98,7 +97,7 @@ fn variable_at(u: &Subject, s: &State, file: u32, n: Option<u32>) -> Step
 
 pub(crate) fn function_at(u: &Subject, s: &State, file: u32, n: u32) -> Step
     requires { IsScene u.now s.now }
-    ensures is { step_in s.now result ≡ tell (so_far s.now) (placed_ask (unit_of u.now) file (Some n) function_mark) }
+    ensures is { step_in s.now result ≡ tell (sight s.now) (placed_ask (unit_of u.now) file (Some n) function_mark) }
     ensures over { IsStepOf s.now result }
 {
     match look(u, s, Stage::Placed, file as usize, n) {
@@ -109,7 +108,7 @@ pub(crate) fn function_at(u: &Subject, s: &State, file: u32, n: u32) -> Step
 
 fn alias_by(u: &Subject, s: &State, file: u32, n: u32) -> Step
     requires { IsScene u.now s.now }
-    ensures is { step_in s.now result ≡ tell (so_far s.now) (placed_ask (unit_of u.now) file (Some n) alias_mark) }
+    ensures is { step_in s.now result ≡ tell (sight s.now) (placed_ask (unit_of u.now) file (Some n) alias_mark) }
     ensures over { IsStepOf s.now result }
 {
     match look(u, s, Stage::Placed, file as usize, n) {
@@ -120,7 +119,7 @@ fn alias_by(u: &Subject, s: &State, file: u32, n: u32) -> Step
 
 fn alias_at(u: &Subject, s: &State, file: u32, n: Option<u32>) -> Step
     requires { IsScene u.now s.now }
-    ensures is { step_in s.now result ≡ tell (so_far s.now) (placed_ask (unit_of u.now) file n alias_mark) }
+    ensures is { step_in s.now result ≡ tell (sight s.now) (placed_ask (unit_of u.now) file n alias_mark) }
     ensures over { IsStepOf s.now result }
 {
     match n {
@@ -146,7 +145,7 @@ pub fn type_name(alloc: Global, u: &Subject, at: NodeRef, local: u64) -> Result<
 
 fn defined(alloc: Global, u: &Subject, s: &State, at: NodeRef) -> Result<Step, NoMemory>
     requires { IsScene u.now s.now }
-    ensures is { IfOk result (λ step. step_in s.now step ≡ tell (so_far s.now) (defined_rule (unit_of u.now) at)) }
+    ensures is { IfOk result (λ step. step_in s.now step ≡ tell (sight s.now) (defined_rule (unit_of u.now) at)) }
     ensures over { IfOk result (IsStepOf s.now) }
 {
     match u.local_at(at) {
@@ -168,7 +167,7 @@ fn judge_form(
     form: Named,
 ) -> Result<Step, NoMemory>
     requires { IsScene u.now s.now }
-    ensures is { IfOk result (λ step. step_in s.now step ≡ tell (so_far s.now) (form_rule (unit_of u.now) name p node.now form)) }
+    ensures is { IfOk result (λ step. step_in s.now step ≡ tell (sight s.now) (form_rule (unit_of u.now) name p node.now form)) }
     ensures over { IfOk result (IsStepOf s.now) }
 {
     let file = name.file;
@@ -198,7 +197,7 @@ fn judge_kind(
     node: &Node,
 ) -> Result<Step, NoMemory>
     requires { IsScene u.now s.now }
-    ensures is { IfOk result (λ step. step_in s.now step ≡ tell (so_far s.now) (kind_rule (unit_of u.now) name p node.now)) }
+    ensures is { IfOk result (λ step. step_in s.now step ≡ tell (sight s.now) (kind_rule (unit_of u.now) name p node.now)) }
     ensures over { IfOk result (IsStepOf s.now) }
 {
     match named_form(node.kind) {
@@ -219,7 +218,7 @@ fn object_in(
     node: &Node,
 ) -> Result<Step, NoMemory>
     requires { IsScene u.now s.now }
-    ensures is { IfOk result (λ step. step_in s.now step ≡ tell (so_far s.now) (object_in (unit_of u.now) name p node.now)) }
+    ensures is { IfOk result (λ step. step_in s.now step ≡ tell (sight s.now) (object_in (unit_of u.now) name p node.now)) }
     ensures over { IfOk result (IsStepOf s.now) }
 {
     match refusal_of(u, name, is_exempt(u.nodes_at(name.file), node)) {
@@ -239,7 +238,7 @@ fn placed_object(
     p: Place,
 ) -> Result<Step, NoMemory>
     requires { IsScene u.now s.now }
-    ensures is { IfOk result (λ step. step_in s.now step ≡ tell (so_far s.now) (placed_object (unit_of u.now) name p)) }
+    ensures is { IfOk result (λ step. step_in s.now step ≡ tell (sight s.now) (placed_object (unit_of u.now) name p)) }
     ensures over { IfOk result (IsStepOf s.now) }
 {
     let at = NodeRef {
@@ -258,7 +257,7 @@ fn placed_object(
 /// The mark of the object that is declared at a name, or what it waits for.
 pub fn judge_object(alloc: Global, u: &Subject, s: &State, name: NodeRef) -> Result<Step, NoMemory>
     requires { IsScene u.now s.now }
-    ensures is { IfOk result (λ step. step_in s.now step ≡ tell (so_far s.now) (object_rule (unit_of u.now) name)) }
+    ensures is { IfOk result (λ step. step_in s.now step ≡ tell (sight s.now) (object_rule (unit_of u.now) name)) }
     ensures over { IfOk result (IsStepOf s.now) }
 {
     match u.place_at(name) {

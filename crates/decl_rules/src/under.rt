@@ -4,13 +4,12 @@ ghost use Rattle.mark_walk.specs.Telling.{Says, tell};
 ghost use Rattle.type_model.specs.GoTypes.{is_defined};
 ghost use Rattle.type_model.specs.Tables.{IsTable};
 ghost use Rattle.typed_marks.specs.declared.item.Stage.TheVariants as stage;
-ghost use Rattle.typed_marks.specs.States.{so_far};
 ghost use Rattle.unit_read.specs.Subjects.{unit_of, IsRead};
 ghost use Rattle.unit_read.specs.Units.{Unit, is_this, is_among, defined};
 ghost use Rattle.rule_words.specs.declared.declaring.Declaring.TheVariants as d;
 ghost use Rattle.rule_words.specs.Asking.{item, stands, mark_ask};
 ghost use Rattle.rule_words.specs.Declaring.{declaring_in, IsDeclaringAt};
-ghost use Rattle.rule_words.specs.Scenes.{IsScene, said, IsMarkOf, type_in, IsTypeOf, MayBeTypeOf};
+ghost use Rattle.rule_words.specs.Scenes.{sight, IsScene, said, IsMarkOf, type_in, IsTypeOf, MayBeTypeOf};
 ghost use Rattle.rule_words.specs.Good.{known_of, AreFactsOf};
 ghost use Rattle.decl_rules.specs.Objects.{placed_ask};
 ghost use Rattle.decl_rules.specs.Under.{is_error, is_here, is_of_node, written_in, written_type, declared_with, declaring, underlying_rule, written_rule, named_rule, known_rule, own_rule, type_rule, under_rule, IsDeclaringOf};
@@ -63,7 +62,7 @@ fn declared_with(
 ) -> Result<Declaring, NoMemory>
     requires scene { IsScene u.now s.now }
     requires under { IsTypeOf s.now under }
-    ensures is { IfOk result (λ d. declaring_in s.now d ≡ tell (so_far s.now) (declared_with (unit_of u.now) name (type_in s.now under))) }
+    ensures is { IfOk result (λ d. declaring_in s.now d ≡ tell (sight s.now) (declared_with (unit_of u.now) name (type_in s.now under))) }
     ensures over { IfOk result (IsDeclaringOf (unit_of u.now) s.now of) }
 {
     if is_defined(s, under) {
@@ -87,7 +86,7 @@ fn declaring(
 ) -> Result<Declaring, NoMemory>
     requires scene { IsScene u.now s.now }
     requires under { MayBeTypeOf s.now under }
-    ensures is { IfOk result (λ d. declaring_in s.now d ≡ tell (so_far s.now) (declaring (unit_of u.now) name (option_map (type_in s.now) under))) }
+    ensures is { IfOk result (λ d. declaring_in s.now d ≡ tell (sight s.now) (declaring (unit_of u.now) name (option_map (type_in s.now) under))) }
     ensures over { IfOk result (IsDeclaringOf (unit_of u.now) s.now of) }
 {
     match under {
@@ -109,7 +108,7 @@ fn underlying(
 ) -> Result<Declaring, NoMemory>
     requires scene { IsScene u.now s.now }
     requires facts { AreFactsOf s.now x }
-    ensures is { IfOk result (λ d. declaring_in s.now d ≡ tell (so_far s.now) (underlying_rule (unit_of u.now) name (known_of s.now x))) }
+    ensures is { IfOk result (λ d. declaring_in s.now d ≡ tell (sight s.now) (underlying_rule (unit_of u.now) name (known_of s.now x))) }
     ensures over { IfOk result (IsDeclaringOf (unit_of u.now) s.now of) }
 {
     match under_of(u, s, x.of) {
@@ -131,7 +130,7 @@ fn written(
 ) -> Result<Declaring, NoMemory>
     requires scene { IsScene u.now s.now }
     requires mark { IsMarkOf s.now m }
-    ensures is { IfOk result (λ d. declaring_in s.now d ≡ tell (so_far s.now) (written_rule (unit_of u.now) name (said s.now m))) }
+    ensures is { IfOk result (λ d. declaring_in s.now d ≡ tell (sight s.now) (written_rule (unit_of u.now) name (said s.now m))) }
     ensures over { IfOk result (IsDeclaringOf (unit_of u.now) s.now of) }
 {
     match known(s, m) {
@@ -176,7 +175,7 @@ fn placed(
     n: u32,
 ) -> Result<Declaring, NoMemory>
     requires { IsScene u.now s.now }
-    ensures is { IfOk result (λ d. declaring_in s.now d ≡ tell (so_far s.now) (placed_ask (unit_of u.now) name.file (Some n) (written_rule (unit_of u.now) name))) }
+    ensures is { IfOk result (λ d. declaring_in s.now d ≡ tell (sight s.now) (placed_ask (unit_of u.now) name.file (Some n) (written_rule (unit_of u.now) name))) }
     ensures over { IfOk result (IsDeclaringOf (unit_of u.now) s.now of) }
 {
     match look(u, s, Stage::Placed, name.file as usize, n) {
@@ -196,7 +195,7 @@ fn named(
     of: TypeId,
 ) -> Result<Declaring, NoMemory>
     requires { IsScene u.now s.now }
-    ensures is { IfOk result (λ d. declaring_in s.now d ≡ tell (so_far s.now) (named_rule (unit_of u.now) name)) }
+    ensures is { IfOk result (λ d. declaring_in s.now d ≡ tell (sight s.now) (named_rule (unit_of u.now) name)) }
     ensures over { IfOk result (IsDeclaringOf (unit_of u.now) s.now of) }
 {
     match written_type(u, name) {
@@ -263,7 +262,7 @@ fn known_type(
     requires scene { IsScene u.now s.now }
     requires facts { AreFactsOf s.now x }
     requires stands { stands (unit_of u.now) name.file name.node ≡ true }
-    ensures is { IfOk result (λ d. declaring_in s.now d ≡ tell (so_far s.now) (known_rule (unit_of u.now) name (known_of s.now x))) }
+    ensures is { IfOk result (λ d. declaring_in s.now d ≡ tell (sight s.now) (known_rule (unit_of u.now) name (known_of s.now x))) }
     ensures over { IfOk result (IsDeclaringAt (unit_of u.now) s.now (item stage.Under name.file name.node)) }
 {
     if is_of_node(u, s, name, x.of) {
@@ -278,8 +277,8 @@ fn known_type(
 fn own(alloc: Global, u: &Subject, s: &State, name: NodeRef, m: Mark) -> Result<Declaring, NoMemory>
     requires scene { IsScene u.now s.now }
     requires mark { IsMarkOf s.now m }
-    requires told { Says (said s.now m) ≡ tell (so_far s.now) (mark_ask (unit_of u.now) stage.Object name.file name.node) }
-    ensures is { IfOk result (λ d. declaring_in s.now d ≡ tell (so_far s.now) (own_rule (unit_of u.now) name (said s.now m))) }
+    requires told { Says (said s.now m) ≡ tell (sight s.now) (mark_ask (unit_of u.now) stage.Object name.file name.node) }
+    ensures is { IfOk result (λ d. declaring_in s.now d ≡ tell (sight s.now) (own_rule (unit_of u.now) name (said s.now m))) }
     ensures over { IfOk result (IsDeclaringAt (unit_of u.now) s.now (item stage.Under name.file name.node)) }
 {
     match known(s, m) {
@@ -293,7 +292,7 @@ fn own(alloc: Global, u: &Subject, s: &State, name: NodeRef, m: Mark) -> Result<
 
 fn asked(alloc: Global, u: &Subject, s: &State, name: NodeRef) -> Result<Declaring, NoMemory>
     requires { IsScene u.now s.now }
-    ensures is { IfOk result (λ d. declaring_in s.now d ≡ tell (so_far s.now) (type_rule (unit_of u.now) name)) }
+    ensures is { IfOk result (λ d. declaring_in s.now d ≡ tell (sight s.now) (type_rule (unit_of u.now) name)) }
     ensures over { IfOk result (IsDeclaringAt (unit_of u.now) s.now (item stage.Under name.file name.node)) }
 {
     match look(u, s, Stage::Object, name.file as usize, name.node) {
@@ -321,7 +320,7 @@ pub fn judge_under(
     name: NodeRef,
 ) -> Result<Declaring, NoMemory>
     requires { IsScene u.now s.now }
-    ensures is { IfOk result (λ d. declaring_in s.now d ≡ tell (so_far s.now) (under_rule (unit_of u.now) name)) }
+    ensures is { IfOk result (λ d. declaring_in s.now d ≡ tell (sight s.now) (under_rule (unit_of u.now) name)) }
     ensures over { IfOk result (IsDeclaringAt (unit_of u.now) s.now (item stage.Under name.file name.node)) }
 {
     if is_among(u, name) {

@@ -6,9 +6,8 @@ ghost use Rattle.typed_marks.specs.declared.state.State.{State};
 ghost use Rattle.mark_walk.specs.Telling.{tell, Says};
 ghost use Rattle.type_model.specs.Tables.{types_in, count};
 ghost use Rattle.typed_marks.specs.Meanings.{Wishes, Free, wish_in, IsWantWithin};
-ghost use Rattle.typed_marks.specs.States.{so_far};
 ghost use Rattle.unit_read.specs.Subjects.{unit_of, IsRead};
-ghost use Rattle.rule_words.specs.Scenes.{IsScene, told_by, IfFound, said, IsMarkOf};
+ghost use Rattle.rule_words.specs.Scenes.{sight, IsScene, told_by, IfFound, said, IsMarkOf};
 ghost use Rattle.rule_words.specs.Good.{known_of, AreFactsOf};
 ghost use Rattle.rule_words.specs.Wishes.{wants};
 ghost use Rattle.decl_rules.specs.Wants.{is_type_slot, assigned_to, wish_by, file_of, declares_names, written_wants, value_wants, or_value, decl_wants};
@@ -97,7 +96,7 @@ fn file_of(u: &Subject, block: usize) -> usize
 
 fn written_at(u: &Subject, s: &State, block: usize, demand: Demand, n: u32) -> Found<Mark, Item>
     requires { IsScene u.now s.now }
-    ensures is { told_by (said s.now) result ≡ tell (so_far s.now) (written_wants (unit_of u.now) block demand (Some n)) }
+    ensures is { told_by (said s.now) result ≡ tell (sight s.now) (written_wants (unit_of u.now) block demand (Some n)) }
     ensures over { IfFound result (IsMarkOf s.now) }
 {
     match look(u, s, Stage::Placed, file_of(u, block), n) {
@@ -114,7 +113,7 @@ fn written(
     n: Option<u32>,
 ) -> Found<Mark, Item>
     requires { IsScene u.now s.now }
-    ensures is { told_by (said s.now) result ≡ tell (so_far s.now) (written_wants (unit_of u.now) block demand n) }
+    ensures is { told_by (said s.now) result ≡ tell (sight s.now) (written_wants (unit_of u.now) block demand n) }
     ensures over { IfFound result (IsMarkOf s.now) }
 {
     match n {
@@ -132,7 +131,7 @@ fn assigned(
     around: &Node,
 ) -> Found<Mark, Item>
     requires { IsScene u.now s.now }
-    ensures is { told_by (said s.now) result ≡ tell (so_far s.now) (if p.slot == 2 then written_wants (unit_of u.now) block demand (part around.now 1) else wants demands.Nothing Free) }
+    ensures is { told_by (said s.now) result ≡ tell (sight s.now) (if p.slot == 2 then written_wants (unit_of u.now) block demand (part around.now 1) else wants demands.Nothing Free) }
     ensures over { IfFound result (IsMarkOf s.now) }
 {
     if p.slot == 2 {
@@ -143,7 +142,7 @@ fn assigned(
 }
 
 fn freely(s: &State, p: Place, demand: Demand) -> Found<Mark, Item>
-    ensures is { told_by (said s.now) result ≡ tell (so_far s.now) (if p.slot == 1 then wants demand Free else wants demands.Nothing Free) }
+    ensures is { told_by (said s.now) result ≡ tell (sight s.now) (if p.slot == 1 then wants demand Free else wants demands.Nothing Free) }
     ensures over { IfFound result (IsMarkOf s.now) }
 {
     if p.slot == 1 {
@@ -162,7 +161,7 @@ fn value(
     form: Valuing,
 ) -> Found<Mark, Item>
     requires { IsScene u.now s.now }
-    ensures is { told_by (said s.now) result ≡ tell (so_far s.now) (value_wants (unit_of u.now) block p around.now form) }
+    ensures is { told_by (said s.now) result ≡ tell (sight s.now) (value_wants (unit_of u.now) block p around.now form) }
     ensures over { IfFound result (IsMarkOf s.now) }
 {
     match form {
@@ -174,7 +173,7 @@ fn value(
 
 fn or_value(u: &Subject, s: &State, block: usize, p: Place, around: &Node) -> Found<Mark, Item>
     requires { IsScene u.now s.now }
-    ensures is { told_by (said s.now) result ≡ tell (so_far s.now) (or_value (unit_of u.now) block p around.now) }
+    ensures is { told_by (said s.now) result ≡ tell (sight s.now) (or_value (unit_of u.now) block p around.now) }
     ensures over { IfFound result (IsMarkOf s.now) }
 {
     match valuing_form(around.kind) {
@@ -186,7 +185,7 @@ fn or_value(u: &Subject, s: &State, block: usize, p: Place, around: &Node) -> Fo
 /// What the node around wants of what stands at a place in it, or the item for whose mark that waits.
 pub fn want_decl(u: &Subject, s: &State, block: usize, p: Place, around: &Node) -> Found<Mark, Item>
     requires { IsScene u.now s.now }
-    ensures is { told_by (said s.now) result ≡ tell (so_far s.now) (decl_wants (unit_of u.now) block p around.now) }
+    ensures is { told_by (said s.now) result ≡ tell (sight s.now) (decl_wants (unit_of u.now) block p around.now) }
     ensures over { IfFound result (IsMarkOf s.now) }
 {
     if is_type_slot(around.kind, p.slot) {

@@ -16,10 +16,9 @@ use Rattle.type_questions.specs.Judging.{seen_as}
 use Rattle.typed_marks.specs.declared.mark.ConstId.{ConstId}
 use Rattle.typed_marks.specs.declared.state.State.{State}
 use Rattle.typed_marks.specs.Meanings.{constant_at}
-use Rattle.typed_marks.specs.States.{so_far}
 use Rattle.rule_words.specs.declared.step.Rest.{Rest}
 use Rattle.rule_words.specs.Putting.{methods_from, assigned_with}
-use Rattle.rule_words.specs.Scenes.{type_in, IsTypeOf}
+use Rattle.rule_words.specs.Scenes.{sight, type_in, IsTypeOf}
 use Rattle.rule_words.specs.Steps.{step_in, rest_in, IsRestOf, IsStepOf}
 use Rattle.type_answers.proofs.AnswerLemmas.{methods_same}
 use Rattle.elaborate.specs.declared.questions.Answered.TheVariants as answered
@@ -31,7 +30,7 @@ assign_with of value set to = record { v = of; value = value; set = set; to = to
 -- what is put with an operand's methods is what the rule puts
 pub told_by_methods : (s : State) (methods : Reached (Vec Method)) (of : TypeId) (value : Option ConstId) (to : TypeId) (rest : Rest)
     → step_in s (by_methods methods of value to rest)
-    ≡ tell (so_far s) (assigned_with (type_in s of) (constant_at s.constants.items value) (type_in s to) (rest_in s rest) (Listing (seen_as (λ (v : Vec Method). listed_in s.table v.items) methods)))
+    ≡ tell (sight s) (assigned_with (type_in s of) (constant_at s.constants.items value) (type_in s to) (rest_in s rest) (Listing (seen_as (λ (v : Vec Method). listed_in s.table v.items) methods)))
 told_by_methods s (Got v) of value to rest =
     ap (λ set. Puts (AssignableTo (assign_with (type_in s of) (constant_at s.constants.items value) set (type_in s to))) (rest_in s rest)) (sym (methods_same (types_in s.table) v.items))
 told_by_methods s Lost of value to rest = refl

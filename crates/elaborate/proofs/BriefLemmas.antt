@@ -1,10 +1,10 @@
 -- What holds of a step holds of it in few bytes.
 use Rattle.std.proofs.Common.{◌≡◌, sym, subst}
+use Rattle.rule_words.specs.Scenes.{sight, IsScene}
 use Rattle.std.specs.Prelude.{Result, Ok, Err, IfOk}
 use Rattle.mark_walk.specs.Asks.{bind}
 use Rattle.mark_walk.specs.Telling.{tell}
 use Rattle.typed_marks.specs.declared.state.State.{State}
-use Rattle.typed_marks.specs.States.{so_far}
 use Rattle.unit_read.specs.declared.subject.Subject.{Subject}
 use Rattle.rule_words.specs.declared.step.Step.{Step}
 use Rattle.rule_words.specs.Asking.{Asks, Rule}
@@ -19,9 +19,9 @@ brief_passes Holds (Ok brief) x same holds = subst Holds (sym same) holds
 brief_passes Holds (Err e) x same holds = tt
 
 -- a step that is what is told of the rule
-pub same_briefly : {E : Type 0} (u : Subject) (s : State) (rule : Rule) (r : Result Brief E) → IfOk r (λ brief. step_in s (step_of brief) ≡ tell (so_far s) rule) → IfOk r (ComesBriefly u s rule)
-same_briefly u s rule (Ok brief) is = same_comes u s rule (step_of brief) is
-same_briefly u s rule (Err e) is = tt
+pub same_briefly : {E : Type 0} (u : Subject) (s : State) (rule : Rule) (r : Result Brief E) → IsScene u s → IfOk r (λ brief. step_in s (step_of brief) ≡ tell (sight s) rule) → IfOk r (ComesBriefly u s rule)
+same_briefly u s rule (Ok brief) scene is = same_comes u s rule (step_of brief) scene is
+same_briefly u s rule (Err e) scene is = tt
 
 -- the inner rule gave this, and the step comes to what follows
 pub bind_briefly : {E R : Type 0} (u : Subject) (s : State) (r : Asks R) (rest : R → Rule) (x : R) (next : Result Brief E) → GivesAt u s r x → IfOk next (ComesBriefly u s (rest x))

@@ -1,32 +1,34 @@
 -- How the items of a package come to be marked, one after the other.
-use Rattle.std.proofs.Common.{◌≡◌, ◌⊎◌, ℕ, ◌<◌, ◌≤◌, ◌+◌, ◌-◌, ◌&&◌, nat_le, nat_lt, Bool, true, false, if◌then◌else◌, List, length, Option, Some, None, slice_get, refl, sym, ap, ◌∙◌, subst, inl, inr, arith}
+use Rattle.std.proofs.Common.{◌≡◌, ◌⊎◌, ℕ, ◌<◌, ◌≤◌, ◌+◌, ◌-◌, ◌^◌, ◌&&◌, nat_le, nat_lt, Bool, true, false, List, length, Option, Some, None, slice_get, refl, sym, ap, ◌∙◌, subst, inl, inr, arith}
 use Rattle.std.specs.Option.{option_map_or}
 use Rattle.std.proofs.lemmas.Option.{slice_get_within}
 use Rattle.std.proofs.lemmas.Bool.{le-leb, lt-ltb}
 use Rattle.gv_base.proofs.Lists.{same_some}
-use Rattle.mark_walk.specs.Asks.{done, Gives, Keeps, Adds, IsMarked, Sound, IsFirst, AreAllMarked, IsTheAnnotation, filled}
+use Rattle.mark_walk.specs.Asks.{done, Gives, Awaits, Keeps, Adds, IsMarked, Sound, IsFirst, GivesAlone, AreAllMarked, IsTheAnnotation, filled}
+use Rattle.mark_walk.specs.Waiting.{IsCircle}
 use Rattle.mark_walk.specs.declared.walk.Walk.{Walk}
 use Rattle.mark_walk.proofs.AskLaws.{goes_itself, goes_then, goes_step, marked_still, first_sound, the_annotation}
 use Rattle.typed_marks.specs.declared.item.Item.{Item}
 use Rattle.typed_marks.specs.declared.item.Stage.{Stage}
 use Rattle.typed_marks.specs.declared.item.Block.{Block}
 use Rattle.typed_marks.specs.declared.state.State.{State}
-use Rattle.typed_marks.specs.Items.{is_in, is_item, IsItem, stage_number}
+use Rattle.typed_marks.specs.Items.{is_in, is_item, is_nowhere, IsItem, stage_number}
 use Rattle.typed_marks.specs.Meanings.{Meaning, Quiet}
 use Rattle.typed_marks.specs.States.{so_far, IsState}
 use Rattle.typed_marks.proofs.NumberLemmas.{one_stage, stage_low, in_is, block_of}
-use Rattle.typed_marks.proofs.CellLemmas.{no_item_quiet}
 use Rattle.unit_read.specs.declared.subject.Subject.{Subject}
 use Rattle.unit_read.specs.Units.{Unit, base_of}
-use Rattle.unit_read.specs.Subjects.{unit_of, IsRead}
-use Rattle.rule_words.specs.Asking.{Rule, declaration_told, item}
+use Rattle.unit_read.specs.Passages.{passages}
+use Rattle.unit_read.specs.Subjects.{full_of, unit_of, IsRead}
+use Rattle.rule_words.specs.Asking.{Rule, type_item, declaration_told, item}
 use Rattle.rule_words.specs.Scenes.{IsScene}
 use Rattle.type_model.specs.Tables.{declarations_in, terms_in, Extends}
 use Rattle.type_model.specs.declared.table.TypeTable.{TypeTable}
 use Rattle.type_model.specs.declared.term.TypeName.{TypeName}
 use Rattle.typed_tree.specs.Basics.{HasBasics}
-use Rattle.elaborate.proofs.WalkLemmas.{first_declared, rule_of_item}
-use Rattle.elaborate.specs.Walks.{blocks_of, count_of, item_rule, IsItemOf}
+use Rattle.elaborate.proofs.NowhereLemmas.{rule_of_item, rule_of_none, missing_alone, missing_unmarked, quiet}
+use Rattle.elaborate.proofs.WalkLemmas.{first_declared}
+use Rattle.elaborate.specs.Walks.{blocks_of, count_of, item_rule, laid_many, IsItemOf}
 use Rattle.type_answers.specs.Answering.{says_of, pends_of, answers_last}
 use Rattle.elaborate.specs.Elaborated.{IsAtWork, IsAnnotated, IsInCircle}
 use Rattle.elaborate.specs.Types.{AreQuietTypes}
@@ -62,6 +64,15 @@ early rule u0 u1 s walk One Other circle i same is ended = record {
   waits = subst (λ (u : Unit). IsCircleAt rule u s (Some i)) same (subst (λ (o : Option Item). IsCircleAt rule u1 s o) is ended.waits);
 }
 
+-- the item that was to be marked waits for the circle
+pub circle_of_item : (rule : Unit → Item → Rule) (u : Unit) (s : State) (walk : Walk Item) (Marked : (Item → Option Meaning) → Type 0) (item i : Item) → IsItemOf u item
+    → IsCircle (λ x. Awaits (says_of u) (pends_of u) (so_far s) (item_rule rule u x)) (λ k. k ≡ item) (Some i) → Ended rule u s walk Marked (Some i)
+circle_of_item rule u s walk Marked item i is (waits, k, same, way) = record {
+  rests = λ none. absurd (let never : Some i ≡ None = none in cc);
+  marked = λ none. absurd (let never : Some i ≡ None = none in cc);
+  waits = (waits, k, subst (IsItemOf u) (sym same) is, way);
+}
+
 pub ended_well : (rule : Unit → Item → Rule) (u : Unit) (s : State) (walk : Walk Item) (Marked : (Item → Option Meaning) → Type 0) → IsAtRest u s walk → Marked (so_far s)
     → Ended rule u s walk Marked None
 ended_well rule u s walk Marked rests marked = record { rests = λ none. rests; marked = λ none. marked; waits = tt }
@@ -82,8 +93,9 @@ went_quiet rule u s next i is quiet work adds = record {
   work = work;
   subject = refl;
   unit = refl;
-  goes = goes_step (says_of (unit_of u)) (pends_of (unit_of u)) (answers_last (unit_of u)) (IsItemOf (unit_of u)) (item_rule rule (unit_of u)) (so_far s) (so_far next) i None
-      (Quiet, subst (λ (r : Rule). Gives (says_of (unit_of u)) (so_far s) r Quiet) (sym (rule_of_item rule (unit_of u) i is ∙ quiet)) refl, adds);
+  full = refl;
+  goes = goes_step (says_of (full_of u)) (pends_of (full_of u)) (answers_last (full_of u)) (IsItemOf (full_of u)) (item_rule rule (full_of u)) (so_far s) (so_far next) i None
+      (Quiet, subst (λ (r : Rule). Gives (says_of (full_of u)) (so_far s) r Quiet) (sym (rule_of_item rule (full_of u) i is ∙ quiet)) refl, adds);
 }
 
 -- ---- one more is marked
@@ -161,52 +173,50 @@ no_block u x i low = absurd (omega arith)
 
 -- ---- all of it
 
--- of what is no item nothing is said
-quiet : (s : State) (i : Item) → is_item s.blocks.items i ≡ false → so_far s i ≡ Some Quiet
-unfolding so_far
-quiet s i none = no_item_quiet s.table s.constants.items s.blocks.items s.cells.items i none
+module _ (rule : Unit → Item → Rule) (u : Unit) (s : State) (same : s.blocks.items ≡ blocks_of u) (unmarked : (i : Item) → IsItemOf u i → so_far s i ≡ None) where
+  -- what is no item has no mark where it is nowhere, and else that of which nothing is said
+  first_missing : (i : Item) → is_item (blocks_of u) i ≡ false → (b : Bool) → is_nowhere (blocks_of u) i ≡ b → (so_far s i ≡ None) ⊎ ((so_far s i ≡ Some Quiet) × (item_rule rule u i ≡ done Quiet))
+  first_missing i none true is = inl (missing_unmarked u s i same is)
+  first_missing i none false is = inr (quiet u s i same none is, rule_of_none rule u i none is)
 
-rule_of_none : (rule : Unit → Item → Rule) (u : Unit) (i : Item) → is_item (blocks_of u) i ≡ false → item_rule rule u i ≡ done Quiet
-rule_of_none rule u i none = ap (λ (b : Bool). if b then rule u i else done Quiet) none
+  first_each : (i : Item) → (b : Bool) → is_item (blocks_of u) i ≡ b → (so_far s i ≡ None) ⊎ ((so_far s i ≡ Some Quiet) × (item_rule rule u i ≡ done Quiet))
+  first_each i true is = inl (unmarked i is)
+  first_each i false is = first_missing i is (is_nowhere (blocks_of u) i) refl
 
-blocks_same : (s : State) (u : Unit) (i : Item) (b : Bool) → s.blocks.items ≡ blocks_of u → is_item (blocks_of u) i ≡ b → is_item s.blocks.items i ≡ b
-blocks_same s u i b same is = subst (λ (blocks : List Block). is_item blocks i ≡ b) (sym same) is
+  pub first : IsFirst (item_rule rule u) (so_far s)
+  first i = elim (first_each i (is_item (blocks_of u) i) refl) [
+    | inl none ↦ inl none
+    | inr (marked, gives) ↦ inr (Quiet, marked, gives)
+  ]
 
-module _ (rule : Unit → Item → Rule) (u : Unit) (s : State) (same : s.blocks.items ≡ blocks_of u) where
-  pub first : ((i : Item) → IsItemOf u i → so_far s i ≡ None) → IsFirst (item_rule rule u) (so_far s)
-  first unmarked i = by (is_item (blocks_of u) i) refl where
-    by : (b : Bool) → is_item (blocks_of u) i ≡ b → (so_far s i ≡ None) ⊎ ((m : Meaning) × (so_far s i ≡ Some m) × (item_rule rule u i ≡ done m))
-    by true is = inl (unmarked i is)
-    by false is = inr (Quiet, quiet s i (blocks_same s u i false same is), rule_of_none rule u i is)
+  pub sound_first : Sound (says_of u) (item_rule rule u) (so_far s)
+  sound_first = first_sound (says_of u) (item_rule rule u) (so_far s) first
 
-  pub sound_first : ((i : Item) → IsItemOf u i → so_far s i ≡ None) → Sound (says_of u) (item_rule rule u) (so_far s)
-  sound_first unmarked = first_sound (says_of u) (item_rule rule u) (so_far s) (first unmarked)
-
-  pub nothing_declared : ((i : Item) → IsItemOf u i → so_far s i ≡ None) → (i : Item) → option_map_or declaration_told (so_far s i) None ≡ None
-  nothing_declared unmarked i = by (is_item (blocks_of u) i) refl where
-    by : (b : Bool) → is_item (blocks_of u) i ≡ b → option_map_or declaration_told (so_far s i) None ≡ None
-    by true is = ap (λ (o : Option Meaning). option_map_or declaration_told o None) (unmarked i is)
-    by false is = ap (λ (o : Option Meaning). option_map_or declaration_told o None) (quiet s i (blocks_same s u i false same is))
+  pub nothing_declared : (i : Item) → option_map_or declaration_told (so_far s i) None ≡ None
+  nothing_declared i = elim (first_each i (is_item (blocks_of u) i) refl) [
+    | inl none ↦ ap (λ (o : Option Meaning). option_map_or declaration_told o None) none
+    | inr (marked, gives) ↦ ap (λ (o : Option Meaning). option_map_or declaration_told o None) marked
+  ]
 
 all_marked : (rule : Unit → Item → Rule) (u : Unit) (x : Item → Option Meaning) → AreBlocksMarked u (length (blocks_of u)) x → AreAllMarked Quiet (item_rule rule u) x
 all_marked rule u x all i = by (is_item (blocks_of u) i) refl where
   within : IsItemOf u i → i.block < length (blocks_of u)
   within is = let found = block_of (blocks_of u) i is in slice_get_within (blocks_of u) i.block found.0 found.1
 
-  by : (b : Bool) → is_item (blocks_of u) i ≡ b → IsMarked x i ⊎ (item_rule rule u i ≡ done Quiet)
+  by : (b : Bool) → is_item (blocks_of u) i ≡ b → IsMarked x i ⊎ GivesAlone (item_rule rule u) i Quiet
   by true is = inl (all i (within is) is)
-  by false is = inr (rule_of_none rule u i is)
+  by false is = inr (missing_alone rule u i is)
 
-module _ (rule : Unit → Item → Rule) (u0 u1 : Subject) (s0 s1 : State) (went : Went rule u0 u1 s0 s1) (sound : Sound (says_of (unit_of u0)) (item_rule rule (unit_of u0)) (so_far s0)) where
-  sound_now : Sound (says_of (unit_of u0)) (item_rule rule (unit_of u0)) (so_far s1)
+module _ (rule : Unit → Item → Rule) (u0 u1 : Subject) (s0 s1 : State) (went : Went rule u0 u1 s0 s1) (sound : Sound (says_of (full_of u0)) (item_rule rule (full_of u0)) (so_far s0)) where
+  sound_now : Sound (says_of (full_of u0)) (item_rule rule (full_of u0)) (so_far s1)
   sound_now = went.goes.sound sound
 
   pub annotated : AreBlocksMarked (unit_of u0) (length (blocks_of (unit_of u0))) (so_far s1)
-      → IsTheAnnotation (says_of (unit_of u0)) (item_rule rule (unit_of u0)) (filled Quiet (so_far s1))
-  annotated all = the_annotation (says_of (unit_of u0)) (pends_of (unit_of u0)) (answers_last (unit_of u0)) Quiet (item_rule rule (unit_of u0)) (so_far s1) sound_now
-      (all_marked rule (unit_of u0) (so_far s1) all)
+      → IsTheAnnotation (says_of (full_of u0)) (item_rule rule (full_of u0)) (filled Quiet (so_far s1))
+  annotated all = the_annotation (says_of (full_of u0)) (pends_of (full_of u0)) (answers_last (full_of u0)) Quiet (item_rule rule (full_of u0)) (so_far s1) sound_now
+      (all_marked rule (full_of u0) (so_far s1) all)
 
-  pub in_circle : (i : Item) → IsCircleAt rule (unit_of u0) s1 (Some i) → IsInCircle rule u0 s1 i
+  pub in_circle : (i : Item) → IsCircleAt rule (full_of u0) s1 (Some i) → IsInCircle rule u0 s1 i
   in_circle i waits = record { sound = sound_now; waits = waits }
 
 -- ---- the blocks of a package that is being marked
@@ -222,18 +232,21 @@ block_here u0 u1 blocks k block same now at = ap (λ (bs : List Block). slice_ge
 
 -- ---- before anything is marked
 
-pub started : (u : Subject) (s : State) (table : TypeTable) → IsRead u → HasBasics table → Extends u.env.now.types.now (terms_in table) → ((name : TypeName) → declarations_in table name ≡ base_of (unit_of u) name)
-    → IsState s → s.table ≡ table → s.blocks.items ≡ blocks_of (unit_of u) → length s.cells.items ≡ count_of (unit_of u)
+pub started : (u : Subject) (s : State) (table : TypeTable) → IsRead u → HasBasics table → Extends u.env.now.types.now (terms_in table) → ((name : TypeName) → declarations_in table name ≡ base_of (full_of u) name)
+    → IsState s → s.table ≡ table → s.blocks.items ≡ blocks_of (unit_of u) → length s.cells.items ≡ count_of (unit_of u) → length s.cells.items + 1 < 2 ^ 64
     → ((i : Item) → IsItem s.blocks.items i → so_far s i ≡ None) → IsAtWork u s
-started u s table read basics env base state same blocks cells unmarked = record {
+started u s table read basics env base state same blocks cells fits unmarked = record {
   scene = record {
     read = read;
     state = state;
+    blocks = ap (λ (bs : List Block). length bs) blocks ∙ laid_many 0 (passages (unit_of u).trees);
     basics = subst HasBasics (sym same) basics;
     env = subst (λ (t : TypeTable). Extends u.env.now.types.now (terms_in t)) (sym same) env;
     step = λ name. ap (λ (t : TypeTable). declarations_in t name) same ∙ base name
-        ∙ sym (first_declared (unit_of u) (so_far s) (nothing_declared (λ v i. done Quiet) (unit_of u) s blocks (λ i is. unmarked i (subst (λ (bs : List Block). IsItem bs i) (sym blocks) is))) name);
+        ∙ sym (first_declared (base_of (full_of u)) (type_item (unit_of u)) (so_far s)
+        (nothing_declared (λ v i. done Quiet) (unit_of u) s blocks (λ i is. unmarked i (subst (λ (bs : List Block). IsItem bs i) (sym blocks) is))) name);
   };
   blocks = blocks;
   cells = cells;
+  fits = subst (λ (n : ℕ). n + 1 < 2 ^ 64) cells fits;
 }

@@ -1,9 +1,10 @@
 -- The walk over a package's items.
 use Rattle.std.proofs.Common.{IfSome, IsTrue, MatchOption, ◌≡◌, ◌⊎◌, ℕ, zero, suc, ◌+◌, ◌<◌, ◌≤◌, Bool, true, false, if◌then◌else◌, Option, Some, None, refl, sym, ap, ◌∙◌, subst, inl, inr, arith, true≢false}
+use Rattle.rule_words.specs.Scenes.{sight, IsScene}
 use Rattle.std.specs.Option.{option_or, option_map_or}
 use Rattle.mark_walk.specs.Asks.{Ask, done, Gives, Awaits, Keeps, IsMarked}
 use Rattle.mark_walk.specs.Marking.{Goes}
-use Rattle.mark_walk.specs.Telling.{Outcome, Says, Waits, Puts, tell, Yields, Expects}
+use Rattle.mark_walk.specs.Telling.{IsTrueSight, tell}
 use Rattle.mark_walk.proofs.AskLaws.{goes_itself, goes_then, marked_still}
 use Rattle.mark_walk.proofs.TellLaws.{yields_gives, expects_awaits}
 use Rattle.type_model.specs.declared.term.TypeName.{TypeName}
@@ -16,13 +17,13 @@ use Rattle.typed_marks.specs.States.{so_far}
 use Rattle.type_model.specs.declared.term.TypeId.{TypeId}
 use Rattle.type_model.specs.declared.table.TypeTable.{TypeTable}
 use Rattle.type_model.specs.GoTypes.{DefinedType, type_at}
-use Rattle.type_model.specs.Declarations.{Declaration}
+use Rattle.type_model.specs.Declarations.{Declaration, Declarations}
 use Rattle.type_model.specs.Tables.{types_in}
 use Rattle.type_questions.specs.Judging.{RestsOn, RestsOnNothing}
-use Rattle.type_questions.specs.Over.{declared, IsOfNothing, IsPending}
+use Rattle.type_questions.specs.Over.{declared}
 use Rattle.unit_read.specs.declared.subject.Subject.{Subject}
-use Rattle.unit_read.specs.Units.{Unit, base_of}
-use Rattle.unit_read.specs.Subjects.{unit_of}
+use Rattle.unit_read.specs.Units.{Unit}
+use Rattle.unit_read.specs.Subjects.{full_of, unit_of}
 use Rattle.rule_words.specs.declared.step.Asked.{Asked}
 use Rattle.rule_words.specs.declared.step.Rest.{Rest}
 use Rattle.rule_words.specs.declared.step.Step.{Step}
@@ -32,35 +33,33 @@ use Rattle.elaborate.specs.declared.questions.Answered.{Answered}
 use Rattle.rule_words.specs.Answers.{answer_in}
 use Rattle.rule_words.specs.Steps.{IsStepOf}
 use Rattle.elaborate.specs.Settling.{told_in, Follows, IsSettled, left, outcome_of}
-use Rattle.rule_words.specs.Asking.{Rule, type_item, declaration_told, item}
+use Rattle.rule_words.specs.Asking.{Rule, declaration_told, item}
 use Rattle.mark_walk.specs.declared.walk.Walk.{Walk}
 use Rattle.elaborate.specs.Walks.{blocks_of, item_rule, IsItemOf}
 use Rattle.type_answers.specs.Answering.{says_of, pends_of}
+use Rattle.type_answers.specs.Coming.{says_at, pends_at}
+use Rattle.type_answers.proofs.PendingLemmas.{true_sight}
 use Rattle.elaborate.specs.Elaborated.{IsAtWork}
 use Rattle.elaborate.specs.Covering.{Went, Ended, AreStagesMarked, AreStagesOfNodes, AreNodesMarked, AreBlocksMarked}
-
--- ---- rules of items
-
-pub rule_of_item : (rule : Unit → Item → Rule) (u : Unit) (i : Item) → IsItemOf u i → item_rule rule u i ≡ rule u i
-rule_of_item rule u i is = ap (λ (b : Bool). if b then rule u i else done Quiet) is
 
 -- ---- from state to state
 
 pub went_itself : (rule : Unit → Item → Rule) (u : Subject) (s : State) → IsAtWork u s → Went rule u u s s
-went_itself rule u s work = record { work = work; subject = refl; unit = refl; goes = goes_itself (says_of (unit_of u)) (item_rule rule (unit_of u)) (so_far s) }
+went_itself rule u s work = record { work = work; subject = refl; unit = refl; full = refl; goes = goes_itself (says_of (full_of u)) (item_rule rule (full_of u)) (so_far s) }
 
 -- the same package, so the same unit
-pub went_by : (rule : Unit → Item → Rule) (u0 u1 : Subject) (s0 s1 : State) → IsAtWork u1 s1 → u1 ≡ u0 → Goes (says_of (unit_of u0)) (item_rule rule (unit_of u0)) (so_far s0) (so_far s1)
+pub went_by : (rule : Unit → Item → Rule) (u0 u1 : Subject) (s0 s1 : State) → IsAtWork u1 s1 → u1 ≡ u0 → Goes (says_of (full_of u0)) (item_rule rule (full_of u0)) (so_far s0) (so_far s1)
     → Went rule u0 u1 s0 s1
-went_by rule u0 u1 s0 s1 work same goes = record { work = work; subject = same; unit = ap unit_of same; goes = goes }
+went_by rule u0 u1 s0 s1 work same goes = record { work = work; subject = same; unit = ap unit_of same; full = ap full_of same; goes = goes }
 
 pub went_then : (rule : Unit → Item → Rule) (u0 u1 u2 : Subject) (s0 s1 s2 : State) → Went rule u0 u1 s0 s1 → Went rule u1 u2 s1 s2 → Went rule u0 u2 s0 s2
 went_then rule u0 u1 u2 s0 s1 s2 a b = record {
   work = b.work;
   subject = b.subject ∙ a.subject;
   unit = b.unit ∙ a.unit;
-  goes = goes_then (says_of (unit_of u0)) (item_rule rule (unit_of u0)) (so_far s0) (so_far s1) (so_far s2) a.goes
-      (subst (λ (u : Unit). Goes (says_of u) (item_rule rule u) (so_far s1) (so_far s2)) a.unit b.goes);
+  full = b.full ∙ a.full;
+  goes = goes_then (says_of (full_of u0)) (item_rule rule (full_of u0)) (so_far s0) (so_far s1) (so_far s2) a.goes
+      (subst (λ (u : Unit). Goes (says_of u) (item_rule rule u) (so_far s1) (so_far s2)) a.full b.goes);
 }
 
 -- what is said of one package is said of the other, which is the same
@@ -98,21 +97,26 @@ follows_itself u s x = record { yields = λ m is. is; expects = λ i is. is }
 pub follows_then : (u : Subject) (s : State) (x y z : Step) → Follows u s x y → Follows u s y z → Follows u s x z
 follows_then u s x y z a b = record { yields = λ m is. a.yields m (b.yields m is); expects = λ i is. a.expects i (b.expects i is) }
 
+-- what the table tells of questions is so
+pub sight_so : (u : Subject) (s : State) → IsScene u s → IsTrueSight (says_of (full_of u)) (pends_of (full_of u)) (sight s)
+unfolding says_at pends_at
+sight_so u s scene = true_sight u s scene
+
 -- once the question is answered, the step goes on as its rest says
-pub follows_told : (u : Subject) (s : State) (asked : Asked) (rest : Rest) (told : Answered) (next : Step)
-    → says_of (unit_of u) (so_far s) (question_in s asked) (told_in s told) → step_in s next ≡ tell (so_far s) (rest_in s rest (told_in s told))
+pub follows_told : (u : Subject) (s : State) (asked : Asked) (rest : Rest) (told : Answered) (next : Step) → IsScene u s
+    → says_of (full_of u) (so_far s) (question_in s asked) (told_in s told) → step_in s next ≡ tell (sight s) (rest_in s rest (told_in s told))
     → Follows u s (step.Puts asked rest) next
-follows_told u s asked rest told next said is = record {
-  yields = λ m more. (told_in s told, said, yields_gives (says_of (unit_of u)) (so_far s) (rest_in s rest (told_in s told)) (step_in s next) m (sym is) more);
-  expects = λ i more. inr (told_in s told, said, expects_awaits (says_of (unit_of u)) (pends_of (unit_of u)) (so_far s) (rest_in s rest (told_in s told)) (step_in s next) i (sym is) more);
+follows_told u s asked rest told next scene said is = record {
+  yields = λ m more. (told_in s told, said, yields_gives (says_of (full_of u)) (sight s) (pends_of (full_of u)) (sight_so u s scene) (rest_in s rest (told_in s told)) (step_in s next) m (sym is) more);
+  expects = λ i more. inr (told_in s told, said, expects_awaits (says_of (full_of u)) (sight s) (pends_of (full_of u)) (sight_so u s scene) (rest_in s rest (told_in s told)) (step_in s next) i (sym is) more);
 }
 
 -- while the question waits, so does the step
-pub follows_waits : (u : Subject) (s : State) (asked : Asked) (rest : Rest) (item : Item) → pends_of (unit_of u) (so_far s) (question_in s asked) item
+pub follows_waits : (u : Subject) (s : State) (asked : Asked) (rest : Rest) (item : Item) → pends_of (full_of u) (so_far s) (question_in s asked) item
     → Follows u s (step.Puts asked rest) (step.Waits item)
 follows_waits u s asked rest item waits = record {
   yields = λ m never. absurd never;
-  expects = λ i same. inl (subst (λ (j : Item). pends_of (unit_of u) (so_far s) (question_in s asked) j) same waits);
+  expects = λ i same. inl (subst (λ (j : Item). pends_of (full_of u) (so_far s) (question_in s asked) j) same waits);
 }
 
 -- ---- before anything is marked
@@ -121,12 +125,12 @@ or_none : (b : Option Declaration) → option_or b None ≡ b
 or_none None = refl
 or_none (Some d) = refl
 
-pub first_declared : (u : Unit) (so_far : Item → Option Meaning) → ((i : Item) → option_map_or declaration_told (so_far i) None ≡ None) → (name : TypeName)
-    → declared (base_of u) (type_item u) declaration_told so_far name ≡ base_of u name
-first_declared u so_far none name = by (type_item u name) where
-  by : (o : Option Item) → option_or (base_of u name) (option_map_or declaration_told (option_map_or so_far o None) None) ≡ base_of u name
-  by None = or_none (base_of u name)
-  by (Some i) = ap (λ x. option_or (base_of u name) x) (none i) ∙ or_none (base_of u name)
+pub first_declared : (base : Declarations) (under : TypeName → Option Item) (so_far : Item → Option Meaning) → ((i : Item) → option_map_or declaration_told (so_far i) None ≡ None)
+    → (name : TypeName) → declared base under declaration_told so_far name ≡ base name
+first_declared base under so_far none name = by (under name) where
+  by : (o : Option Item) → option_or (base name) (option_map_or declaration_told (option_map_or so_far o None) None) ≡ base name
+  by None = or_none (base name)
+  by (Some i) = ap (λ x. option_or (base name) x) (none i) ∙ or_none (base name)
 
 -- a step that puts no question comes to its outcome
 pub outcome_settled : (u : Subject) (s : State) (first now : Step) → left now ≡ 0 → IsStepOf s now → Follows u s first now → IsSettled u s first (outcome_of now)

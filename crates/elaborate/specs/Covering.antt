@@ -13,9 +13,9 @@ use Rattle.typed_marks.specs.Meanings.{Meaning}
 use Rattle.typed_marks.specs.States.{so_far}
 use Rattle.unit_read.specs.declared.subject.Subject.{Subject}
 use Rattle.unit_read.specs.Units.{Unit}
-use Rattle.unit_read.specs.Subjects.{unit_of}
+use Rattle.unit_read.specs.Subjects.{full_of, unit_of}
 use Rattle.rule_words.specs.Asking.{Rule, item}
-use Rattle.elaborate.specs.Walks.{IsItemOf, count_of, number_in, item_rule}
+use Rattle.elaborate.specs.Walks.{IsItemOf, IsAwaited, awaited_number, awaited_count, item_rule}
 use Rattle.type_answers.specs.Answering.{says_of, pends_of}
 use Rattle.rule_words.specs.Scenes.{IsScene}
 use Rattle.elaborate.specs.declared.whole.Elaborated.{Elaborated}
@@ -27,14 +27,15 @@ pub record Went (rule : Unit → Item → Rule) (u0 u1 : Subject) (s0 s1 : State
   pub work : IsAtWork u1 s1
   pub subject : u1 ≡ u0
   pub unit : unit_of u1 ≡ unit_of u0
-  pub goes : Goes (says_of (unit_of u0)) (item_rule rule (unit_of u0)) (so_far s0) (so_far s1)
+  pub full : full_of u1 ≡ full_of u0
+  pub goes : Goes (says_of (full_of u0)) (item_rule rule (full_of u0)) (so_far s0) (so_far s1)
 
 -- nothing waits
 abbrev pub IsAtRest : Unit → State → Walk Item → Type 0
-IsAtRest u s walk = Rests (IsItemOf u) (number_in u) (count_of u) (so_far s) walk
+IsAtRest u s walk = Rests (IsAwaited u) (awaited_number u) (awaited_count u) (so_far s) walk
 
 abbrev pub IsCircleAt : (Unit → Item → Rule) → Unit → State → Option Item → Type 0
-IsCircleAt rule u s circle = IsCircle (λ x. Awaits (says_of u) (pends_of u) (so_far s) (item_rule rule u x)) circle
+IsCircleAt rule u s circle = IsCircle (λ x. Awaits (says_of u) (pends_of u) (so_far s) (item_rule rule u x)) (IsItemOf u) circle
 
 -- this is marked, and nothing waits; or an item waits for itself
 pub record Ended (rule : Unit → Item → Rule) (u : Unit) (s : State) (walk : Walk Item) (Marked : (Item → Option Meaning) → Type 0) (circle : Option Item) : Type 0 where

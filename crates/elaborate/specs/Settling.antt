@@ -20,7 +20,7 @@ use Rattle.type_questions.specs.declared.reached.Found.{Found}
 use Rattle.type_questions.specs.declared.reached.Found.TheVariants as f
 use Rattle.type_questions.specs.Questions.{Question, IsComparable, Told, Holds, Listing}
 use Rattle.unit_read.specs.declared.subject.Subject.{Subject}
-use Rattle.unit_read.specs.Subjects.{unit_of}
+use Rattle.unit_read.specs.Subjects.{full_of}
 use Rattle.rule_words.specs.declared.answer.Answer.{Answer}
 use Rattle.rule_words.specs.declared.answer.Answer.TheVariants as answer
 use Rattle.typed_marks.specs.declared.mark.Mark.TheVariants.{Silent}
@@ -63,10 +63,10 @@ left (step.Waits item) = 0
 left (step.Puts asked rest) = 1 + rest_left rest
 
 abbrev pub YieldsAt : Subject → State → Step → Meaning → Type 0
-YieldsAt u s x m = Yields (says_of (unit_of u)) (so_far s) (step_in s x) m
+YieldsAt u s x m = Yields (says_of (full_of u)) (so_far s) (step_in s x) m
 
 abbrev pub ExpectsAt : Subject → State → Step → Item → Type 0
-ExpectsAt u s x i = Expects (says_of (unit_of u)) (pends_of (unit_of u)) (so_far s) (step_in s x) i
+ExpectsAt u s x i = Expects (says_of (full_of u)) (pends_of (full_of u)) (so_far s) (step_in s x) i
 
 -- what comes of one step comes of another
 pub record Follows (u : Subject) (s : State) (first next : Step) : Type 0 where
@@ -80,8 +80,8 @@ IsSettled u s first (f.Wait item) = ExpectsAt u s first item
 
 -- an answer to a question over the marks so far, or an item for which it waits
 abbrev pub IsAnsweredTo : Subject → State → Question → Found Answered Item → Type 0
-IsAnsweredTo u s q (f.Is told) = IsToldOf s told × says_of (unit_of u) (so_far s) q (told_in s told)
-IsAnsweredTo u s q (f.Wait item) = pends_of (unit_of u) (so_far s) q item
+IsAnsweredTo u s q (f.Is told) = IsToldOf s told × says_of (full_of u) (so_far s) q (told_in s told)
+IsAnsweredTo u s q (f.Wait item) = pends_of (full_of u) (so_far s) q item
 
 -- what is put once an operand's methods are told
 abbrev pub by_methods : Reached (Vec Method) → TypeId → Option ConstId → TypeId → Rest → Step
@@ -101,8 +101,8 @@ StepsAs u s next i rule (Some j) = AwaitsAt u s rule j × Stays (so_far s) (so_f
 
 -- One step of marking, by how far the item's rule goes: the item is marked, or its rule waits for another.
 abbrev pub StepsBy : Subject → State → State → Item → Outcome Item Meaning Question Told Meaning → Option Item → Type 0
-StepsBy u s next i outcome None = (m : Meaning) × Yields (says_of (unit_of u)) (so_far s) outcome m × Adds (so_far s) (so_far next) i m
-StepsBy u s next i outcome (Some j) = Expects (says_of (unit_of u)) (pends_of (unit_of u)) (so_far s) outcome j × Stays (so_far s) (so_far next)
+StepsBy u s next i outcome None = (m : Meaning) × Yields (says_of (full_of u)) (so_far s) outcome m × Adds (so_far s) (so_far next) i m
+StepsBy u s next i outcome (Some j) = Expects (says_of (full_of u)) (pends_of (full_of u)) (so_far s) outcome j × Stays (so_far s) (so_far next)
 
 abbrev pub is_got : Reached Bool → Bool
 is_got (Got b) = true
@@ -110,6 +110,6 @@ is_got Lost = false
 
 -- whether all is declared that a type holds: an answer to the question whether its values may be compared, or an item for which that waits
 abbrev pub IsWholeBy : Subject → State → GoType → Found Bool Item → Type 0
-IsWholeBy u s of (f.Is true) = (b : Bool) × says_of (unit_of u) (so_far s) (IsComparable of) (Holds (Got b))
-IsWholeBy u s of (f.Is false) = says_of (unit_of u) (so_far s) (IsComparable of) (Holds Lost)
-IsWholeBy u s of (f.Wait item) = pends_of (unit_of u) (so_far s) (IsComparable of) item
+IsWholeBy u s of (f.Is true) = (b : Bool) × says_of (full_of u) (so_far s) (IsComparable of) (Holds (Got b))
+IsWholeBy u s of (f.Is false) = says_of (full_of u) (so_far s) (IsComparable of) (Holds Lost)
+IsWholeBy u s of (f.Wait item) = pends_of (full_of u) (so_far s) (IsComparable of) item

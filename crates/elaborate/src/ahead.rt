@@ -2,7 +2,7 @@
 ghost use Rattle.std.specs.Prelude.{◌≡◌, ◌<◌, Some, IfOk, OnOk, length, slice_get};
 ghost use Rattle.typed_marks.specs.declared.item.Block.{Block as ABlock};
 ghost use Rattle.typed_marks.specs.States.{IsState};
-ghost use Rattle.unit_read.specs.Subjects.{unit_of};
+ghost use Rattle.unit_read.specs.Subjects.{full_of};
 ghost use Rattle.elaborate.specs.Elaborated.{IsAtWork};
 ghost use Rattle.elaborate.specs.Covering.{Went, IsAtRest, Ended, IsAnything};
 
@@ -36,9 +36,9 @@ fn mark_within<R: Rules>(
 ) -> Result<Option<Item>, NoMemory>
     requires work { IsAtWork work.old.subject.now work.old.state }
     requires block { slice_get work.old.state.blocks.items stretch.block ≡ Some block }
-    requires rests { IsAtRest (unit_of work.old.subject.now) work.old.state walk.old }
+    requires rests { IsAtRest (full_of work.old.subject.now) work.old.state walk.old }
     ensures went { OnOk result (Went R.rule work.old.subject.now work.new.subject.now work.old.state work.new.state) }
-    ensures ended { IfOk result (Ended R.rule (unit_of work.old.subject.now) work.new.state walk.new IsAnything) }
+    ensures ended { IfOk result (Ended R.rule (full_of work.old.subject.now) work.new.state walk.new IsAnything) }
 {
     let low = stretch.low.max(block.low);
     let end = stretch.end.min(block.end);
@@ -64,9 +64,9 @@ fn mark_stretch<R: Rules>(
     stretch: Stretch,
 ) -> Result<Option<Item>, NoMemory>
     requires work { IsAtWork work.old.subject.now work.old.state }
-    requires rests { IsAtRest (unit_of work.old.subject.now) work.old.state walk.old }
+    requires rests { IsAtRest (full_of work.old.subject.now) work.old.state walk.old }
     ensures went { OnOk result (Went R.rule work.old.subject.now work.new.subject.now work.old.state work.new.state) }
-    ensures ended { IfOk result (Ended R.rule (unit_of work.old.subject.now) work.new.state walk.new IsAnything) }
+    ensures ended { IfOk result (Ended R.rule (full_of work.old.subject.now) work.new.state walk.new IsAnything) }
 {
     if is_done(&work.state, stretch) {
         return Ok(None);
@@ -93,9 +93,9 @@ pub fn mark_ahead<R: Rules>(
     first: &[Stretch],
 ) -> Result<Option<Item>, NoMemory>
     requires work { IsAtWork work.old.subject.now work.old.state }
-    requires rests { IsAtRest (unit_of work.old.subject.now) work.old.state walk.old }
+    requires rests { IsAtRest (full_of work.old.subject.now) work.old.state walk.old }
     ensures went { OnOk result (Went R.rule work.old.subject.now work.new.subject.now work.old.state work.new.state) }
-    ensures ended { IfOk result (Ended R.rule (unit_of work.old.subject.now) work.new.state walk.new IsAnything) }
+    ensures ended { IfOk result (Ended R.rule (full_of work.old.subject.now) work.new.state walk.new IsAnything) }
 {
     for i in 0..first.len() {
         let circle = mark_stretch(walk, work, nth(first, i))?;

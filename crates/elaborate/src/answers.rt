@@ -2,9 +2,8 @@
 ghost use Rattle.std.specs.Prelude.{◌≡◌, ◌≤◌, true};
 ghost use Rattle.mark_walk.specs.Telling.{tell};
 ghost use Rattle.type_questions.specs.Questions.{Holds};
-ghost use Rattle.typed_marks.specs.States.{so_far};
 ghost use Rattle.rule_words.specs.Putting.{held, either, other, second, compared, other_ask};
-ghost use Rattle.rule_words.specs.Scenes.{said, IsMarkOf};
+ghost use Rattle.rule_words.specs.Scenes.{sight, said, IsMarkOf};
 ghost use Rattle.rule_words.specs.Answers.{is_plain};
 ghost use Rattle.rule_words.specs.Steps.{pair_in, rest_in, step_in, IsPairOf, IsRestOf, IsStepOf};
 ghost use Rattle.elaborate.specs.Settling.{told_in, IsToldOf, by_methods, rest_left, left};
@@ -25,7 +24,7 @@ fn mark(mark: Mark) -> Step
 fn hold(s: &State, good: Mark, rule: Rule, reached: Reached<bool>) -> Step
     requires good { IsMarkOf s.now good }
     requires plain { is_plain good ≡ true }
-    ensures is { step_in s.now result ≡ tell (so_far s.now) (held (said s.now good) rule (Holds reached)) }
+    ensures is { step_in s.now result ≡ tell (sight s.now) (held (said s.now good) rule (Holds reached)) }
     ensures over { IsStepOf s.now result }
     ensures left { left result ≡ 0 }
 {
@@ -43,7 +42,7 @@ fn hold(s: &State, good: Mark, rule: Rule, reached: Reached<bool>) -> Step
 
 fn compare(s: &State, pair: Pair) -> Step
     requires { IsPairOf s.now pair }
-    ensures is { step_in s.now result ≡ tell (so_far s.now) (compared (pair_in s.now pair)) }
+    ensures is { step_in s.now result ≡ tell (sight s.now) (compared (pair_in s.now pair)) }
     ensures over { IsStepOf s.now result }
     ensures left { left result ≤ 2 }
 {
@@ -52,7 +51,7 @@ fn compare(s: &State, pair: Pair) -> Step
 
 fn compare_second(s: &State, pair: Pair, reached: Reached<bool>) -> Step
     requires { IsPairOf s.now pair }
-    ensures is { step_in s.now result ≡ tell (so_far s.now) (second (pair_in s.now pair) (Holds reached)) }
+    ensures is { step_in s.now result ≡ tell (sight s.now) (second (pair_in s.now pair) (Holds reached)) }
     ensures over { IsStepOf s.now result }
     ensures left { left result ≤ 1 }
 {
@@ -73,7 +72,7 @@ fn compare_second(s: &State, pair: Pair, reached: Reached<bool>) -> Step
 
 fn assign_other(s: &State, pair: Pair) -> Step
     requires { IsPairOf s.now pair }
-    ensures is { step_in s.now result ≡ tell (so_far s.now) (other_ask (pair_in s.now pair)) }
+    ensures is { step_in s.now result ≡ tell (sight s.now) (other_ask (pair_in s.now pair)) }
     ensures over { IsStepOf s.now result }
     ensures left { left result ≤ 4 }
 {
@@ -86,7 +85,7 @@ fn assign_other(s: &State, pair: Pair) -> Step
 
 fn take_either(s: &State, pair: Pair, reached: Reached<bool>) -> Step
     requires { IsPairOf s.now pair }
-    ensures is { step_in s.now result ≡ tell (so_far s.now) (either (pair_in s.now pair) (Holds reached)) }
+    ensures is { step_in s.now result ≡ tell (sight s.now) (either (pair_in s.now pair) (Holds reached)) }
     ensures over { IsStepOf s.now result }
     ensures left { left result ≤ 4 }
 {
@@ -104,7 +103,7 @@ fn take_either(s: &State, pair: Pair, reached: Reached<bool>) -> Step
 
 fn take_other(s: &State, pair: Pair, reached: Reached<bool>) -> Step
     requires { IsPairOf s.now pair }
-    ensures is { step_in s.now result ≡ tell (so_far s.now) (other (pair_in s.now pair) (Holds reached)) }
+    ensures is { step_in s.now result ≡ tell (sight s.now) (other (pair_in s.now pair) (Holds reached)) }
     ensures over { IsStepOf s.now result }
     ensures left { left result ≤ 2 }
 {
@@ -139,7 +138,7 @@ fn assign_by(
 /// How a rule goes on with whether a relation holds.
 fn with_bool(s: &State, rest: Rest, reached: Reached<bool>) -> Step
     requires { IsRestOf s.now rest }
-    ensures is { step_in s.now result ≡ tell (so_far s.now) (rest_in s.now rest (Holds reached)) }
+    ensures is { step_in s.now result ≡ tell (sight s.now) (rest_in s.now rest (Holds reached)) }
     ensures over { IsStepOf s.now result }
     ensures left { left result ≤ rest_left rest }
 {
@@ -158,7 +157,7 @@ fn with_bool(s: &State, rest: Rest, reached: Reached<bool>) -> Step
 fn with_methods(s: &State, rest: Rest, methods: Reached<Vec<Method>>) -> Step
     requires rest { IsRestOf s.now rest }
     requires methods { IsToldOf s.now (Answered.Methods methods) }
-    ensures is { step_in s.now result ≡ tell (so_far s.now) (rest_in s.now rest (told_in s.now (Answered.Methods methods))) }
+    ensures is { step_in s.now result ≡ tell (sight s.now) (rest_in s.now rest (told_in s.now (Answered.Methods methods))) }
     ensures over { IsStepOf s.now result }
     ensures left { left result ≤ rest_left rest }
 {
@@ -179,7 +178,7 @@ fn with_methods(s: &State, rest: Rest, methods: Reached<Vec<Method>>) -> Step
 pub fn go_on(s: &State, rest: Rest, told: Answered) -> Step
     requires rest { IsRestOf s.now rest }
     requires told { IsToldOf s.now told }
-    ensures is { step_in s.now result ≡ tell (so_far s.now) (rest_in s.now rest (told_in s.now told)) }
+    ensures is { step_in s.now result ≡ tell (sight s.now) (rest_in s.now rest (told_in s.now told)) }
     ensures over { IsStepOf s.now result }
     ensures left { left result ≤ rest_left rest }
 {

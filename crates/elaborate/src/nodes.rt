@@ -4,7 +4,7 @@ ghost use Rattle.mark_walk.specs.Asks.{IsMarked, done};
 ghost use Rattle.typed_marks.specs.Items.{stage_number};
 ghost use Rattle.typed_marks.specs.Meanings.{Quiet};
 ghost use Rattle.typed_marks.specs.States.{so_far};
-ghost use Rattle.unit_read.specs.Subjects.{unit_of};
+ghost use Rattle.unit_read.specs.Subjects.{full_of, unit_of};
 ghost use Rattle.elaborate.specs.Walks.{IsItemOf};
 ghost use Rattle.elaborate.specs.Elaborated.{IsAtWork};
 ghost use Rattle.elaborate.specs.Covering.{Went, IsAtRest, Ended, IsNodeOf, AreNodesOf, AreStagesMarked, AreStagesOfNodes};
@@ -42,9 +42,9 @@ fn mark_one<R: Rules>(
 ) -> Result<Option<Item>, NoMemory>
     requires work { IsAtWork work.old.subject.now work.old.state }
     requires item { IsItemOf (unit_of work.old.subject.now) item }
-    requires rests { IsAtRest (unit_of work.old.subject.now) work.old.state walk.old }
+    requires rests { IsAtRest (full_of work.old.subject.now) work.old.state walk.old }
     ensures went { OnOk result (Went R.rule work.old.subject.now work.new.subject.now work.old.state work.new.state) }
-    ensures ended { IfOk result (Ended R.rule (unit_of work.old.subject.now) work.new.state walk.new (λ marks. IsMarked marks item)) }
+    ensures ended { IfOk result (Ended R.rule (full_of work.old.subject.now) work.new.state walk.new (λ marks. IsMarked marks item)) }
 {
     if work.state.is_marked(item) {
         return Ok(None);
@@ -87,9 +87,9 @@ fn mark_node<R: Rules>(
     requires node { IsNodeOf (unit_of work.old.subject.now) block node }
     requires marked { AreStagesMarked block node marked (so_far work.old.state) }
     requires stages { stages ≤ 6 }
-    requires rests { IsAtRest (unit_of work.old.subject.now) work.old.state walk.old }
+    requires rests { IsAtRest (full_of work.old.subject.now) work.old.state walk.old }
     ensures went { OnOk result (Went R.rule work.old.subject.now work.new.subject.now work.old.state work.new.state) }
-    ensures ended { IfOk result (Ended R.rule (unit_of work.old.subject.now) work.new.state walk.new (AreStagesMarked block node stages)) }
+    ensures ended { IfOk result (Ended R.rule (full_of work.old.subject.now) work.new.state walk.new (AreStagesMarked block node stages)) }
 {
     for number in marked..stages {
         let item = Item {
@@ -120,9 +120,9 @@ pub fn mark_nodes<R: Rules>(
     requires nodes { AreNodesOf (unit_of work.old.subject.now) block low end }
     requires marked { AreStagesOfNodes block low end marked (so_far work.old.state) }
     requires stages { stages ≤ 6 }
-    requires rests { IsAtRest (unit_of work.old.subject.now) work.old.state walk.old }
+    requires rests { IsAtRest (full_of work.old.subject.now) work.old.state walk.old }
     ensures went { OnOk result (Went R.rule work.old.subject.now work.new.subject.now work.old.state work.new.state) }
-    ensures ended { IfOk result (Ended R.rule (unit_of work.old.subject.now) work.new.state walk.new (AreStagesOfNodes block low end stages)) }
+    ensures ended { IfOk result (Ended R.rule (full_of work.old.subject.now) work.new.state walk.new (AreStagesOfNodes block low end stages)) }
 {
     for node in low..end {
         let circle = mark_node(walk, work, block, node, marked, stages)?;

@@ -5,11 +5,10 @@ ghost use Rattle.mark_walk.specs.Telling.{tell};
 ghost use Rattle.typed_marks.specs.declared.item.Item.{Item as AnItem};
 ghost use Rattle.typed_marks.specs.Items.{IsItem};
 ghost use Rattle.typed_marks.specs.Meanings.{Quiet};
-ghost use Rattle.typed_marks.specs.States.{so_far};
 ghost use Rattle.unit_read.specs.Units.{Unit};
 ghost use Rattle.unit_read.specs.Subjects.{unit_of, IsRead};
 ghost use Rattle.rule_words.specs.Asking.{Rule};
-ghost use Rattle.rule_words.specs.Scenes.{IsScene};
+ghost use Rattle.rule_words.specs.Scenes.{sight, IsScene};
 ghost use Rattle.rule_words.specs.Declaring.{declaring_in, IsDeclaringAt};
 ghost use Rattle.elaborate.specs.Briefs.{ComesBriefly, IsBriefOf};
 ghost use Rattle.elaborate.specs.Types.{AreQuietTypes};
@@ -77,6 +76,6 @@ pub trait Rules {
         requires scene { IsScene u.now s.now }
         requires item { IsItem s.now.blocks.items item }
         requires stage { is_declaring item.stage ≡ true }
-        ensures is { IfOk result (λ declaring. declaring_in s.now declaring ≡ tell (so_far s.now) (rule (unit_of u.now) item)) }
+        ensures is { IfOk result (λ declaring. declaring_in s.now declaring ≡ tell (sight s.now) (rule (unit_of u.now) item)) }
         ensures over { IfOk result (IsDeclaringAt (unit_of u.now) s.now item) };
 }

@@ -5,7 +5,7 @@ ghost use Rattle.mark_walk.specs.Asks.{Adds};
 ghost use Rattle.typed_marks.specs.Meanings.{Quiet};
 ghost use Rattle.typed_marks.specs.States.{so_far};
 ghost use Rattle.unit_read.specs.Subjects.{unit_of};
-ghost use Rattle.rule_words.specs.Scenes.{IsScene, IsTypeOf, type_in};
+ghost use Rattle.rule_words.specs.Scenes.{sight, IsScene, IsTypeOf, type_in};
 ghost use Rattle.rule_words.specs.Declaring.{declaring_in, IsDeclaration};
 ghost use Rattle.rule_words.specs.Steps.{IsStepOf};
 ghost use Rattle.type_answers.specs.Coming.{ComesTo};
@@ -167,7 +167,7 @@ pub fn declare_by<R: Rules>(
     requires stage { is_declaring item.stage ≡ true }
     requires unmarked { so_far s.old item ≡ None }
     ensures work { OnOk result (IsAtWork u.now s.new) }
-    ensures steps { IfOk result (StepsBy u.now s.old s.new item (tell (so_far s.old) (R.rule (unit_of u.now) item))) }
+    ensures steps { IfOk result (StepsBy u.now s.old s.new item (tell (sight s.old) (R.rule (unit_of u.now) item))) }
 {
     let declaring = rules.declare(alloc, u, s, item)?;
     match declaring {

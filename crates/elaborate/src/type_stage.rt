@@ -3,7 +3,7 @@ ghost use Rattle.std.specs.Prelude.{◌≡◌, ◌<◌, ◌≤◌, false, IfOk, 
 ghost use Rattle.mark_walk.specs.Asks.{IsMarked, done};
 ghost use Rattle.typed_marks.specs.Meanings.{Quiet};
 ghost use Rattle.typed_marks.specs.States.{so_far};
-ghost use Rattle.unit_read.specs.Subjects.{unit_of};
+ghost use Rattle.unit_read.specs.Subjects.{full_of, unit_of};
 ghost use Rattle.elaborate.specs.Walks.{IsItemOf};
 ghost use Rattle.elaborate.specs.Elaborated.{IsAtWork};
 ghost use Rattle.elaborate.specs.Covering.{Went, IsAtRest, Ended, IsNodeOf, AreNodesOf, AreStagesMarked, AreStagesOfNodes};
@@ -51,9 +51,9 @@ fn mark_type<R: Rules>(
     requires within { node < end }
     requires marked { AreStagesMarked block node 5 (so_far work.old.state) }
     requires flags { AreQuietTypes R.rule (unit_of work.old.subject.now) block flags.now }
-    requires rests { IsAtRest (unit_of work.old.subject.now) work.old.state walk.old }
+    requires rests { IsAtRest (full_of work.old.subject.now) work.old.state walk.old }
     ensures went { OnOk result (Went R.rule work.old.subject.now work.new.subject.now work.old.state work.new.state) }
-    ensures ended { IfOk result (Ended R.rule (unit_of work.old.subject.now) work.new.state walk.new (AreStagesMarked block node 6)) }
+    ensures ended { IfOk result (Ended R.rule (full_of work.old.subject.now) work.new.state walk.new (AreStagesMarked block node 6)) }
 {
     if flag(flags, node) {
         let item = Item {
@@ -82,9 +82,9 @@ pub fn mark_types<R: Rules>(
     requires nodes { AreNodesOf (unit_of work.old.subject.now) block low end }
     requires marked { AreStagesOfNodes block low end 5 (so_far work.old.state) }
     requires flags { AreQuietTypes R.rule (unit_of work.old.subject.now) block flags.now }
-    requires rests { IsAtRest (unit_of work.old.subject.now) work.old.state walk.old }
+    requires rests { IsAtRest (full_of work.old.subject.now) work.old.state walk.old }
     ensures went { OnOk result (Went R.rule work.old.subject.now work.new.subject.now work.old.state work.new.state) }
-    ensures ended { IfOk result (Ended R.rule (unit_of work.old.subject.now) work.new.state walk.new (AreStagesOfNodes block low end 6)) }
+    ensures ended { IfOk result (Ended R.rule (full_of work.old.subject.now) work.new.state walk.new (AreStagesOfNodes block low end 6)) }
 {
     for node in low..end {
         let circle = mark_type(walk, work, block, node, end, flags)?;

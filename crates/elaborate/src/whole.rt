@@ -1,5 +1,5 @@
 //! All items of a package.
-ghost use Rattle.std.specs.Prelude.{◌≡◌, ◌<◌, ◌≤◌, ◌+◌, ℕ, Some, None, IfOk, OnOk, length, slice_get};
+ghost use Rattle.std.specs.Prelude.{◌≡◌, ◌<◌, ◌≤◌, ◌+◌, ◌^◌, ℕ, Some, None, IfOk, OnOk, length, slice_get};
 ghost use Rattle.type_model.specs.Tables.{declarations_in, terms_in, Extends};
 ghost use Rattle.type_model.specs.declared.term.TypeName.{TypeName};
 ghost use Rattle.typed_tree.specs.Basics.{HasBasics};
@@ -8,7 +8,7 @@ ghost use Rattle.typed_marks.specs.declared.item.Block.{Block as ABlock};
 ghost use Rattle.typed_marks.specs.States.{so_far};
 ghost use Rattle.unit_read.specs.Units.{base_of};
 ghost use Rattle.unit_read.specs.Passages.{passages, spans};
-ghost use Rattle.unit_read.specs.Subjects.{unit_of, IsRead};
+ghost use Rattle.unit_read.specs.Subjects.{full_of, unit_of, IsRead};
 ghost use Rattle.elaborate.specs.Walks.{IsItemOf, blocks_of};
 ghost use Rattle.elaborate.specs.Elaborated.{IsAtWork, IsAnnotated, IsInCircle};
 ghost use Rattle.elaborate.specs.Covering.{Went, IsAtRest, Ended, IsElaborated, IsAnything, AreStagesOfNodes, AreNodesMarked, AreBlocksMarked};
@@ -43,9 +43,9 @@ fn mark_early<R: Rules>(
 ) -> Result<Option<Item>, NoMemory>
     requires work { IsAtWork work.old.subject.now work.old.state }
     requires block { slice_get (blocks_of (unit_of work.old.subject.now)) number ≡ Some block }
-    requires rests { IsAtRest (unit_of work.old.subject.now) work.old.state walk.old }
+    requires rests { IsAtRest (full_of work.old.subject.now) work.old.state walk.old }
     ensures went { OnOk result (Went R.rule work.old.subject.now work.new.subject.now work.old.state work.new.state) }
-    ensures ended { IfOk result (Ended R.rule (unit_of work.old.subject.now) work.new.state walk.new (AreStagesOfNodes number block.low block.end 4)) }
+    ensures ended { IfOk result (Ended R.rule (full_of work.old.subject.now) work.new.state walk.new (AreStagesOfNodes number block.low block.end 4)) }
 {
     let circle = mark_nodes(walk, work, number, block.low, block.end, 0, NODE_STAGES)?;
     Ok(circle)
@@ -61,9 +61,9 @@ fn mark_objects<R: Rules>(
     requires work { IsAtWork work.old.subject.now work.old.state }
     requires block { slice_get (blocks_of (unit_of work.old.subject.now)) number ≡ Some block }
     requires early { AreStagesOfNodes number block.low block.end 4 (so_far work.old.state) }
-    requires rests { IsAtRest (unit_of work.old.subject.now) work.old.state walk.old }
+    requires rests { IsAtRest (full_of work.old.subject.now) work.old.state walk.old }
     ensures went { OnOk result (Went R.rule work.old.subject.now work.new.subject.now work.old.state work.new.state) }
-    ensures ended { IfOk result (Ended R.rule (unit_of work.old.subject.now) work.new.state walk.new (AreStagesOfNodes number block.low block.end 5)) }
+    ensures ended { IfOk result (Ended R.rule (full_of work.old.subject.now) work.new.state walk.new (AreStagesOfNodes number block.low block.end 5)) }
 {
     let circle = mark_nodes(
         walk,
@@ -87,9 +87,9 @@ fn mark_declared<R: Rules>(
     requires work { IsAtWork work.old.subject.now work.old.state }
     requires block { slice_get (blocks_of (unit_of work.old.subject.now)) number ≡ Some block }
     requires early { AreStagesOfNodes number block.low block.end 5 (so_far work.old.state) }
-    requires rests { IsAtRest (unit_of work.old.subject.now) work.old.state walk.old }
+    requires rests { IsAtRest (full_of work.old.subject.now) work.old.state walk.old }
     ensures went { OnOk result (Went R.rule work.old.subject.now work.new.subject.now work.old.state work.new.state) }
-    ensures ended { IfOk result (Ended R.rule (unit_of work.old.subject.now) work.new.state walk.new (AreNodesMarked number block.low block.end)) }
+    ensures ended { IfOk result (Ended R.rule (full_of work.old.subject.now) work.new.state walk.new (AreNodesMarked number block.low block.end)) }
 {
     let flags = work.rules.quiet_types(work.alloc, work.subject, number)?;
     let circle = mark_types(walk, work, number, block.low, block.end, &flags)?;
@@ -106,9 +106,9 @@ fn mark_whole<R: Rules>(
     requires work { IsAtWork work.old.subject.now work.old.state }
     requires block { slice_get (blocks_of (unit_of work.old.subject.now)) number ≡ Some block }
     requires early { AreStagesOfNodes number block.low block.end 4 (so_far work.old.state) }
-    requires rests { IsAtRest (unit_of work.old.subject.now) work.old.state walk.old }
+    requires rests { IsAtRest (full_of work.old.subject.now) work.old.state walk.old }
     ensures went { OnOk result (Went R.rule work.old.subject.now work.new.subject.now work.old.state work.new.state) }
-    ensures ended { IfOk result (Ended R.rule (unit_of work.old.subject.now) work.new.state walk.new (AreNodesMarked number block.low block.end)) }
+    ensures ended { IfOk result (Ended R.rule (full_of work.old.subject.now) work.new.state walk.new (AreNodesMarked number block.low block.end)) }
 {
     let objects = mark_objects(walk, work, number, block)?;
     if let Some(other) = objects {
@@ -127,9 +127,9 @@ fn mark_block<R: Rules>(
 ) -> Result<Option<Item>, NoMemory>
     requires work { IsAtWork work.old.subject.now work.old.state }
     requires block { slice_get (blocks_of (unit_of work.old.subject.now)) number ≡ Some block }
-    requires rests { IsAtRest (unit_of work.old.subject.now) work.old.state walk.old }
+    requires rests { IsAtRest (full_of work.old.subject.now) work.old.state walk.old }
     ensures went { OnOk result (Went R.rule work.old.subject.now work.new.subject.now work.old.state work.new.state) }
-    ensures ended { IfOk result (Ended R.rule (unit_of work.old.subject.now) work.new.state walk.new (AreNodesMarked number block.low block.end)) }
+    ensures ended { IfOk result (Ended R.rule (full_of work.old.subject.now) work.new.state walk.new (AreNodesMarked number block.low block.end)) }
 {
     let early = mark_early(walk, work, number, block)?;
     if let Some(other) = early {
@@ -149,9 +149,9 @@ fn block_at(blocks: &[Block], k: usize) -> Block
 /// Marks the items of all blocks.
 fn mark_all<R: Rules>(walk: &mut Walk<Item>, work: &mut Work<R>) -> Result<Option<Item>, NoMemory>
     requires work { IsAtWork work.old.subject.now work.old.state }
-    requires rests { IsAtRest (unit_of work.old.subject.now) work.old.state walk.old }
+    requires rests { IsAtRest (full_of work.old.subject.now) work.old.state walk.old }
     ensures went { OnOk result (Went R.rule work.old.subject.now work.new.subject.now work.old.state work.new.state) }
-    ensures ended { IfOk result (Ended R.rule (unit_of work.old.subject.now) work.new.state walk.new (λ marks. AreBlocksMarked (unit_of work.old.subject.now) (length (blocks_of (unit_of work.old.subject.now))) marks)) }
+    ensures ended { IfOk result (Ended R.rule (full_of work.old.subject.now) work.new.state walk.new (λ marks. AreBlocksMarked (unit_of work.old.subject.now) (length (blocks_of (unit_of work.old.subject.now))) marks)) }
 {
     let count = work.state.blocks.len();
     for k in 0..count {
@@ -171,9 +171,9 @@ fn mark_in_turn<R: Rules>(
     first: &[Stretch],
 ) -> Result<Option<Item>, NoMemory>
     requires work { IsAtWork work.old.subject.now work.old.state }
-    requires rests { IsAtRest (unit_of work.old.subject.now) work.old.state walk.old }
+    requires rests { IsAtRest (full_of work.old.subject.now) work.old.state walk.old }
     ensures went { OnOk result (Went R.rule work.old.subject.now work.new.subject.now work.old.state work.new.state) }
-    ensures ended { IfOk result (Ended R.rule (unit_of work.old.subject.now) work.new.state walk.new (λ marks. AreBlocksMarked (unit_of work.old.subject.now) (length (blocks_of (unit_of work.old.subject.now))) marks)) }
+    ensures ended { IfOk result (Ended R.rule (full_of work.old.subject.now) work.new.state walk.new (λ marks. AreBlocksMarked (unit_of work.old.subject.now) (length (blocks_of (unit_of work.old.subject.now))) marks)) }
 {
     let early = mark_ahead(walk, work, first)?;
     if let Some(other) = early {
@@ -202,17 +202,25 @@ fn span_at(list: &[Passage], k: usize) -> Span
     list[k].span
 }
 
+/// A state's cells and one more can be counted.
+fn counted(state: &State)
+    ensures { length state.now.cells.items + 1 < 2 ^ 64 }
+{
+    let _ = state.cells.len();
+}
+
 /// No marks, over a table that has the types of the environment and declares what is declared from the start.
 fn start(alloc: Global, u: &Subject, table: TypeTable) -> Result<State, NoMemory>
     requires read { IsRead u.now }
     requires basics { HasBasics table }
     requires env { Extends u.now.env.now.types.now (terms_in table) }
-    requires base { (name : TypeName) → declarations_in table name ≡ base_of (unit_of u.now) name }
+    requires base { (name : TypeName) → declarations_in table name ≡ base_of (full_of u.now) name }
     ensures work { IfOk result (IsAtWork u.now) }
     ensures unmarked { IfOk result (λ s. (i : AnItem) → IsItemOf (unit_of u.now) i → so_far s i ≡ None) }
 {
     let list = spans_of(alloc, u)?;
     let state = State::new(alloc, table, &list)?;
+    counted(&state);
     Ok(state)
 }
 
@@ -229,7 +237,7 @@ pub fn elaborate<R: Rules>(
     requires read { IsRead u.now }
     requires basics { HasBasics table }
     requires env { Extends u.now.env.now.types.now (terms_in table) }
-    requires base { (name : TypeName) → declarations_in table name ≡ base_of (unit_of u.now) name }
+    requires base { (name : TypeName) → declarations_in table name ≡ base_of (full_of u.now) name }
     ensures { IfOk result (IsElaborated R.rule u.now) }
 {
     let state = start(alloc, u, table)?;

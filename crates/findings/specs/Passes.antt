@@ -6,12 +6,13 @@ use Rattle.typed_marks.specs.declared.item.Item.{Item}
 use Rattle.typed_marks.specs.Meanings.{Meaning, Quiet}
 use Rattle.typed_marks.specs.States.{so_far}
 use Rattle.unit_read.specs.Units.{Unit}
-use Rattle.unit_read.specs.Subjects.{unit_of}
+use Rattle.unit_read.specs.Subjects.{full_of}
 use Rattle.rule_words.specs.Scenes.{IsScene}
 use Rattle.findings.specs.declared.passing.Pass.{Pass}
 
+-- the package, with all that is known of other packages
 abbrev pub unit_in : Pass → Unit
-unit_in p = unit_of p.subject.now
+unit_in p = full_of p.subject.now
 
 -- what the marks say; nothing where there is none
 abbrev pub marks_in : Pass → Item → Meaning

@@ -13,14 +13,15 @@ use Rattle.type_model.specs.declared.term.Term.{Term}
 use Rattle.type_model.proofs.TypeLaws.{extends-itself}
 use Rattle.typed_marks.specs.declared.item.Item.{Item}
 use Rattle.typed_marks.specs.Meanings.{Meaning}
-use Rattle.bind.specs.Answers.{AreSmall, AreSpelled}
+use Rattle.bind.specs.Answers.{AreSmall}
 use Rattle.unit_read.specs.declared.subject.Subject.{Subject}
-use Rattle.unit_read.specs.Subjects.{unit_of, IsRead}
+use Rattle.unit_read.specs.Subjects.{full_of, IsRead}
 use Rattle.unit_read.specs.Units.{Unit}
 use Rattle.rule_words.specs.Scenes.{IsScene}
 use Rattle.check_pkg.specs.declared.typing.Typed.{Typed}
 use Rattle.check_pkg.specs.Packages.{IsUnit, Package, known_of, package_of}
-use Rattle.check_pkg.specs.Typings.{IsOneAnnotation, IsTyped, marks_of, unit_by}
+use Rattle.check_pkg.specs.Refusals.{IsOneAnnotation}
+use Rattle.check_pkg.specs.Typings.{IsTyped, marks_of, unit_by}
 use Rattle.check_pkg.proofs.OneUnit.{the_unit}
 use Rattle.check_pkg.proofs.TypedLaws.{typed_scene, typed_unit}
 use Rattle.handed_facts.specs.Handed.{ArePathsApart}
@@ -87,7 +88,7 @@ module _ (l : Loaded) (input : LoadInput) (of : IsLoadOf l input) where
   pub few-files : length l.trees.items < 2 ^ 32
   few-files = few-trees input.files l.trees.items of.files of.few
 
-  pub scene-of : (s : Subject) → IsRead s → unit_of s ≡ unit_loaded l input → s.env.now.types.now ≡ terms_in l.typed.state.table → IsScene s l.typed.state
+  pub scene-of : (s : Subject) → IsRead s → full_of s ≡ unit_loaded l input → s.env.now.types.now ≡ terms_in l.typed.state.table → IsScene s l.typed.state
   scene-of s read same types =
       typed_scene rule own-unit l.typed typed s read (same ∙ unit-is) (subst (λ (terms : List Term). Extends terms (terms_in l.typed.state.table)) (sym types) (extends-itself (terms_in l.typed.state.table)))
 

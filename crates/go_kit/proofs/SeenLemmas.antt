@@ -28,7 +28,7 @@ use Rattle.check_pkg.specs.declared.refusal.Refusal.{Refusal}
 use Rattle.check_pkg.specs.Checks.{HasExported, table_of, IsOutcomeOf as Comes}
 use Rattle.check_pkg.specs.Interfaces.{HasExports, HasObjects, declarations_of, unit_name}
 use Rattle.check_pkg.specs.Packages.{Package, package_name}
-use Rattle.check_pkg.specs.Refusals.{IsAnnotation}
+use Rattle.check_pkg.specs.Refusals.{HasMarks, IsAnnotation}
 use Rattle.action_graph.specs.Judging.{AllKnown, Env, HasNothing, IsFit, Tells, line_of}
 use Rattle.action_graph.specs.Judging.Judged.{Accepts, Refuses}
 use Rattle.action_graph.proofs.OneFinding.{one-objects}
@@ -111,8 +111,8 @@ module _ (p : Package) (env : Env) (c : Checked) (comes : Comes rule p env (outc
       record {
         export =
             exported-as (declarations_of comes.unit marks.marks) (declarations_in (table_of c)) comes.unit.path p.path (unit_name comes.unit) (package_name p) f.objects (objects_of c) f
-            (sym (declares marks.marks marks.annotated)) comes.is.path name-is
-            (one-objects comes.unit marks.marks marks.annotated f.objects (objects_of c) exports.objects exported.objects) (exports.reached marks.marks marks.annotated);
+            (sym (declares marks.marks marks.annotated.is)) comes.is.path name-is
+            (one-objects comes.unit marks.marks marks.annotated.is f.objects (objects_of c) exports.objects exported.objects) (exports.reached marks.marks marks.annotated.is);
         value = value;
         known = known;
       }
@@ -126,7 +126,7 @@ module _ (p : Package) (env : Env) (c : Checked) (comes : Comes rule p env (outc
   from-base : (name : TypeName) (d : Declaration) → base_of comes.unit name ≡ Some d → declarations_in (table_of c) name ≡ Some d
   from-base name d base =
       let marks = comes.comes.marks in
-      exported.declared marks.marks marks.annotated name ∙ or-first (base_of comes.unit name) _ d base
+      exported.declared marks.marks marks.annotated.is name ∙ or-first (base_of comes.unit name) _ d base
 
   -- what is given with this package is declared in the table: its own types as they are seen, `error` and the types of others by `base_of`
   given-same : (place : List ℕ → Option ℕ) (f : Face) → IsSeenOf p.path (package_name p) place c f → SameUnder (given [] (f ∷ env)) (declarations_in (table_of c))
@@ -157,9 +157,9 @@ module _ (p : Package) (env : Env) (c : Checked) (comes : Comes rule p env (outc
   -- where nothing of this kind is seen, nothing can be told
   pub nothing-told : (place : List ℕ → Option ℕ) → ((q : List ℕ) → place q ≡ place_of (paths_in env) q) → ((f : Face) → IsSeenOf p.path (package_name p) place c f → ⊥) → HasNothing p env
   nothing-told place places unseen = inr (record {
-    checked = c;
-    comes = comes;
-    none = none;
+    unit = comes.unit;
+    «is» = comes.is;
+    marks = subst (λ (list : List Refusal). HasMarks rule comes.unit list) none comes.comes.marks;
     untold = λ f exports value fits. unseen f (exports-seen place f exports value (known-as (place_of (paths_in env)) place f (λ q. sym (places q)) fits.known));
   })
 
@@ -176,5 +176,5 @@ found-told p env c place text comes places accepted refused = by c.refused.items
   by : (list : List Refusal) → c.refused.items ≡ list → TellsOf p env text
   by [] is =
       let seen = accepted is in
-      record { judged = Accepts seen.0; finds = (c, comes, is, seen-exports p env c comes is place seen.0 seen.1, fit p env c comes is place seen.0 places seen.1); tells = seen.2 }
-  by (x ∷ xs) is = record { judged = Refuses (map line_of c.refused.items); finds = (c, comes, none x xs is, refl); tells = refused (none x xs is) }
+      record { judged = Accepts seen.0; finds = record { unit = comes.unit; «is» = comes.is; marks = subst (λ (list : List Refusal). HasMarks rule comes.unit list) is comes.comes.marks; exports = seen-exports p env c comes is place seen.0 seen.1; fit = fit p env c comes is place seen.0 places seen.1 }; tells = seen.2 }
+  by (x ∷ xs) is = record { judged = Refuses (map line_of c.refused.items); finds = record { unit = comes.unit; «is» = comes.is; list = c.refused.items; marks = comes.comes.marks; ordered = comes.comes.ordered; some = none x xs is; lines_are = refl }; tells = refused (none x xs is) }

@@ -6,7 +6,7 @@ ghost use Rattle.typed_marks.specs.Meanings.{Quiet};
 ghost use Rattle.typed_marks.specs.States.{so_far};
 ghost use Rattle.unit_read.specs.Environments.{IsEnvironment, faces_in};
 ghost use Rattle.unit_read.specs.Index.{texts_of};
-ghost use Rattle.unit_read.specs.Subjects.{unit_of};
+ghost use Rattle.unit_read.specs.Subjects.{full_of};
 ghost use Rattle.check_pkg.specs.Packages.{known_of};
 ghost use Rattle.check_pkg.specs.Typings.{marks_of};
 ghost use Rattle.findings.specs.Passes.{IsPass};
@@ -37,9 +37,9 @@ fn found_in(
     named: &[(Text, Text)],
 ) -> Result<Found, NoMemory>
     requires pass { IsPass (record { subject = subject; state = state }) }
-    requires given { AreGiven (unit_of subject.now) files.now named.now asked.now.facts }
-    ensures found { IfOk result (λ f. FoundBy asked.now.analyzer (unit_of subject.now) (filled Quiet (so_far state.now)) (map path_of files.now) asked.now.facts f.found.items) }
-    ensures facts { IfOk result (λ f. FactsBy asked.now.analyzer (unit_of subject.now) (filled Quiet (so_far state.now)) asked.now.facts f.facts) }
+    requires given { AreGiven (full_of subject.now) files.now named.now asked.now.facts }
+    ensures found { IfOk result (λ f. FoundBy asked.now.analyzer (full_of subject.now) (filled Quiet (so_far state.now)) (map path_of files.now) asked.now.facts f.found.items) }
+    ensures facts { IfOk result (λ f. FactsBy asked.now.analyzer (full_of subject.now) (filled Quiet (so_far state.now)) asked.now.facts f.facts) }
 {
     let pass = Pass { subject, state };
     let facts = asked.facts.as_slice();
@@ -57,8 +57,8 @@ fn outcome_in(
     named: &[(Text, Text)],
 ) -> Result<RunOutcome, NoMemory>
     requires pass { IsPass (record { subject = subject; state = state }) }
-    requires given { AreGiven (unit_of subject.now) files.now named.now asked.now.facts }
-    ensures { IfOk result (IsOutcomeIn asked.now (unit_of subject.now) (filled Quiet (so_far state.now)) (map path_of files.now)) }
+    requires given { AreGiven (full_of subject.now) files.now named.now asked.now.facts }
+    ensures { IfOk result (IsOutcomeIn asked.now (full_of subject.now) (filled Quiet (so_far state.now)) (map path_of files.now)) }
 {
     let told = found_in(alloc, asked, subject, state, files, named)?;
     let Found { found, facts } = told;
@@ -80,9 +80,9 @@ fn outcomes_in(
     named: &[(Text, Text)],
 ) -> Result<Vec<RunOutcome>, NoMemory>
     requires pass { IsPass (record { subject = subject; state = state }) }
-    requires given { (k : ℕ) (r : OneRun) → slice_get asked.now k ≡ Some r → AreGiven (unit_of subject.now) files.now named.now r.facts }
+    requires given { (k : ℕ) (r : OneRun) → slice_get asked.now k ≡ Some r → AreGiven (full_of subject.now) files.now named.now r.facts }
     ensures size { IfOk result (λ outcomes. length outcomes.items ≡ length asked.now) }
-    ensures each { IfOk result (λ outcomes. AreOutcomesIn (unit_of subject.now) (filled Quiet (so_far state.now)) (map path_of files.now) asked.now outcomes.items) }
+    ensures each { IfOk result (λ outcomes. AreOutcomesIn (full_of subject.now) (filled Quiet (so_far state.now)) (map path_of files.now) asked.now outcomes.items) }
 {
     let mut outcomes = Vec::with_capacity(alloc, asked.len())?;
     for run in asked {

@@ -4,7 +4,7 @@ use Rattle.std.specs.Option.{option_map_or}
 use Rattle.go_tree.specs.declared.tree.Node.{Node}
 use Rattle.package_objects.specs.Declares.{part, kind_at}
 use Rattle.mark_walk.specs.Asks.{done, ask, put, bind}
-use Rattle.mark_walk.specs.Telling.{tell, Waits, Puts}
+use Rattle.mark_walk.specs.Telling.{tell, Waits, Puts, Sight}
 use Rattle.type_questions.specs.Questions.{Question, Told}
 use Rattle.typed_marks.specs.declared.item.Item.{Item}
 use Rattle.typed_marks.specs.declared.item.Stage.{Stage}
@@ -55,14 +55,14 @@ asking_signature : (u : Unit) (block : ℕ) (nodes : List Node) (node : Node) (i
 asking_signature u block nodes node i =
     asking_map (params_ask u block nodes (results_node nodes node (i + 1))) (part node i) _ (λ n. asking_params u block nodes (results_node nodes node (i + 1)) n) tt
 
-puts_nothing : {R : Type 0} (so_far : Item → Option Meaning) (r : Asks R) (q : Question) (rest : Told → Asks R) → IsAsking r → tell so_far r ≡ Puts q rest → ⊥
-puts_nothing so_far (done x) q rest is e = absurd cc
-puts_nothing {R} so_far (ask i more) q rest is e = by (so_far i) e (λ m. puts_nothing so_far (more m) q rest (is m)) where
-  by : (o : Option Meaning) → option_map_or (λ m. tell so_far (more m)) o (Waits i) ≡ Puts q rest → ((m : Meaning) → tell so_far (more m) ≡ Puts q rest → ⊥) → ⊥
+puts_nothing : {R : Type 0} (sight : Sight Item Meaning Question Told) (r : Asks R) (q : Question) (rest : Told → Asks R) → IsAsking r → tell sight r ≡ Puts q rest → ⊥
+puts_nothing sight (done x) q rest is e = absurd cc
+puts_nothing {R} sight (ask i more) q rest is e = by (sight.marks i) e (λ m. puts_nothing sight (more m) q rest (is m)) where
+  by : (o : Option Meaning) → option_map_or (λ m. tell sight (more m)) o (Waits i) ≡ Puts q rest → ((m : Meaning) → tell sight (more m) ≡ Puts q rest → ⊥) → ⊥
   by None e each = absurd cc
   by (Some m) e each = each m e
-puts_nothing so_far (put p more) q rest is e = is
+puts_nothing sight (put p more) q rest is e = is
 
-pub signature_puts_nothing : (u : Unit) (block : ℕ) (nodes : List Node) (node : Node) (i : ℕ) (so_far : Item → Option Meaning) (q : Question) (rest : Told → Rule)
-    → tell so_far (signature_rule u block nodes node i) ≡ Puts q rest → ⊥
-signature_puts_nothing u block nodes node i so_far q rest e = puts_nothing so_far (signature_rule u block nodes node i) q rest (asking_signature u block nodes node i) e
+pub signature_puts_nothing : (u : Unit) (block : ℕ) (nodes : List Node) (node : Node) (i : ℕ) (sight : Sight Item Meaning Question Told) (q : Question) (rest : Told → Rule)
+    → tell sight (signature_rule u block nodes node i) ≡ Puts q rest → ⊥
+signature_puts_nothing u block nodes node i sight q rest e = puts_nothing sight (signature_rule u block nodes node i) q rest (asking_signature u block nodes node i) e

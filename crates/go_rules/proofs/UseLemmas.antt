@@ -1,5 +1,6 @@
 -- The rule of a use of what is declared in the package, where no type is wanted, asks for the mark of the object alone.
 use Rattle.std.proofs.Common.{◌≡◌, ℕ, Bool, true, false, not, ◌&&◌, List, [], Option, Some, None, length, refl, sym, ap, ◌∙◌, eqb-true}
+use Rattle.rule_words.specs.Scenes.{IsScene, sight}
 use Rattle.std.specs.Prelude.{◌==◌, if◌then◌else◌}
 use Rattle.go_tree.specs.declared.bindings.Object.{Object}
 use Rattle.go_tree.specs.declared.bindings.Object.TheVariants as o
@@ -17,7 +18,6 @@ use Rattle.typed_marks.specs.declared.mark.Want.{Want}
 use Rattle.typed_marks.specs.declared.mark.Want.TheVariants as w
 use Rattle.typed_marks.specs.declared.state.State.{State}
 use Rattle.typed_marks.specs.Meanings.{Free, wish_in}
-use Rattle.typed_marks.specs.States.{so_far}
 use Rattle.unit_read.specs.declared.subject.Subject.{Subject}
 use Rattle.unit_read.specs.Subjects.{unit_of}
 use Rattle.unit_read.specs.Units.{Unit, nodes_at, first_spelled, is_blank, object_at}
@@ -102,11 +102,11 @@ use_rule u stage block at node demand name plain object =
     ∙ (name_denotes u block at node demand (not_so (is_blank (first_spelled u at.file node)) written) ∙ denoted_at u (iota_of u block at) (object_at u at) name object))
 
 -- what the mark of what is declared tells of its use is what comes of the rule of that
-pub use_comes : (u : Subject) (s : State) (stage : Stage) (block : ℕ) (at : NodeRef) (node : Node) (wanted : InCode) (name : NodeRef) (step : Step) → free_use (unit_of u) at node wanted.want ≡ Some name
-    → step_in s step ≡ tell (so_far s) (object_ask (unit_of u) name Free) → ComesTo u s (with_parts (unit_of u) stage block at node (wanted_of s wanted)) step
-use_comes u s stage block at node wanted name step uses told =
+pub use_comes : (u : Subject) (s : State) (stage : Stage) (block : ℕ) (at : NodeRef) (node : Node) (wanted : InCode) (name : NodeRef) (step : Step) → IsScene u s → free_use (unit_of u) at node wanted.want ≡ Some name
+    → step_in s step ≡ tell (sight s) (object_ask (unit_of u) name Free) → ComesTo u s (with_parts (unit_of u) stage block at node (wanted_of s wanted)) step
+use_comes u s stage block at node wanted name step scene uses told =
     let (holds, object) = chosen (is_free_use (unit_of u) at node wanted.want) (declared_at (object_at (unit_of u) at)) name uses in
     let (free, plain) = both (is_free wanted.want) (is_plain_name (unit_of u) at node) holds in
     let same : wanted_of s wanted ≡ record { demand = wanted.demand; wish = Free } = ap (λ (want : Want). record { demand = wanted.demand; wish = wish_in (types_in s.table) want }) (free_want wanted.want free) in
-    same_comes u s (with_parts (unit_of u) stage block at node (wanted_of s wanted)) step
-    (told ∙ sym (ap (tell (so_far s)) (ap (with_parts (unit_of u) stage block at node) same ∙ use_rule (unit_of u) stage block at node wanted.demand name plain object)))
+    same_comes u s (with_parts (unit_of u) stage block at node (wanted_of s wanted)) step scene
+    (told ∙ sym (ap (tell (sight s)) (ap (with_parts (unit_of u) stage block at node) same ∙ use_rule (unit_of u) stage block at node wanted.demand name plain object)))

@@ -4,10 +4,9 @@ ghost use Rattle.go_tree.specs.Head.{head_of};
 ghost use Rattle.mark_walk.specs.Telling.{tell, Says};
 ghost use Rattle.type_model.specs.GoTypes.{BasicType};
 ghost use Rattle.typed_tree.specs.Basics.{HasBasics};
-ghost use Rattle.typed_marks.specs.States.{so_far};
 ghost use Rattle.unit_read.specs.Subjects.{unit_of};
 ghost use Rattle.unit_read.specs.Units.{text_in};
-ghost use Rattle.rule_words.specs.Scenes.{type_in, IsTypeOf};
+ghost use Rattle.rule_words.specs.Scenes.{sight, type_in, IsTypeOf};
 ghost use Rattle.rule_words.specs.Steps.{step_in, IsStepOf};
 ghost use Rattle.rule_words.specs.Words.{nothing};
 ghost use Rattle.go_rules.specs.Clause.{constraint_limit, clause_limit, clause_mark, clause_rule};
@@ -97,7 +96,7 @@ fn clause_mark(s: &State, limit: Option<Limit>) -> Step
 /// The mark of the package clause of a file, which bears its build constraint.
 pub fn judge_clause(alloc: Global, u: &Subject, s: &State, file: u32) -> Result<Step, NoMemory>
     requires { HasBasics s.now.table }
-    ensures is { IfOk result (λ step. step_in s.now step ≡ tell (so_far s.now) (clause_rule (unit_of u.now) file)) }
+    ensures is { IfOk result (λ step. step_in s.now step ≡ tell (sight s.now) (clause_rule (unit_of u.now) file)) }
     ensures over { IfOk result (IsStepOf s.now) }
 {
     let limit = clause_limit(alloc, u, file)?;

@@ -1,9 +1,8 @@
 //! What types are declared with.
 ghost use Rattle.std.specs.Prelude.{◌≡◌, true, IfOk};
 ghost use Rattle.mark_walk.specs.Telling.{tell};
-ghost use Rattle.typed_marks.specs.States.{so_far};
 ghost use Rattle.unit_read.specs.Subjects.{unit_of};
-ghost use Rattle.rule_words.specs.Scenes.{IsScene};
+ghost use Rattle.rule_words.specs.Scenes.{sight, IsScene};
 ghost use Rattle.rule_words.specs.Declaring.{declaring_in, IsDeclaringAt};
 ghost use Rattle.decl_rules.specs.Under.{under_rule};
 ghost use Rattle.elaborate.specs.Walks.{is_declaring};
@@ -29,7 +28,7 @@ fn declare_own(
     requires scene { IsScene u.now s.now }
     requires stage { is_declaring item.stage ≡ true }
     requires node { item.node ≡ at.node }
-    ensures is { IfOk result (λ d. declaring_in s.now d ≡ tell (so_far s.now) (in_own item.block at (under_rule (unit_of u.now) at))) }
+    ensures is { IfOk result (λ d. declaring_in s.now d ≡ tell (sight s.now) (in_own item.block at (under_rule (unit_of u.now) at))) }
     ensures over { IfOk result (IsDeclaringAt (unit_of u.now) s.now item) }
 {
     if item.block == at.file as usize {
@@ -50,7 +49,7 @@ fn declare_at(
     requires scene { IsScene u.now s.now }
     requires stage { is_declaring item.stage ≡ true }
     requires node { item.node ≡ at.node }
-    ensures is { IfOk result (λ d. declaring_in s.now d ≡ tell (so_far s.now) (at_node (unit_of u.now) item at)) }
+    ensures is { IfOk result (λ d. declaring_in s.now d ≡ tell (sight s.now) (at_node (unit_of u.now) item at)) }
     ensures over { IfOk result (IsDeclaringAt (unit_of u.now) s.now item) }
 {
     match u.node_at(at) {
@@ -73,7 +72,7 @@ fn declare_nth(
     requires scene { IsScene u.now s.now }
     requires stage { is_declaring item.stage ≡ true }
     requires node { item.node ≡ node }
-    ensures is { IfOk result (λ d. declaring_in s.now d ≡ tell (so_far s.now) (nth_rule (unit_of u.now) item file node)) }
+    ensures is { IfOk result (λ d. declaring_in s.now d ≡ tell (sight s.now) (nth_rule (unit_of u.now) item file node)) }
     ensures over { IfOk result (IsDeclaringAt (unit_of u.now) s.now item) }
 {
     let declaring = declare_at(alloc, u, s, item, NodeRef { file, node })?;
@@ -89,7 +88,7 @@ fn declare_in(
 ) -> Result<Declaring, NoMemory>
     requires scene { IsScene u.now s.now }
     requires stage { is_declaring item.stage ≡ true }
-    ensures is { IfOk result (λ d. declaring_in s.now d ≡ tell (so_far s.now) (in_file (unit_of u.now) item file)) }
+    ensures is { IfOk result (λ d. declaring_in s.now d ≡ tell (sight s.now) (in_file (unit_of u.now) item file)) }
     ensures over { IfOk result (IsDeclaringAt (unit_of u.now) s.now item) }
 {
     match number(item.node) {
@@ -110,7 +109,7 @@ pub fn declare_item(
 ) -> Result<Declaring, NoMemory>
     requires scene { IsScene u.now s.now }
     requires stage { is_declaring item.stage ≡ true }
-    ensures is { IfOk result (λ d. declaring_in s.now d ≡ tell (so_far s.now) (rule (unit_of u.now) item)) }
+    ensures is { IfOk result (λ d. declaring_in s.now d ≡ tell (sight s.now) (rule (unit_of u.now) item)) }
     ensures over { IfOk result (IsDeclaringAt (unit_of u.now) s.now item) }
 {
     match u.passage_at(item.block) {

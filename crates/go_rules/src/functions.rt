@@ -1,11 +1,10 @@
 //! Function literals.
 ghost use Rattle.std.specs.Prelude.{◌≡◌, IfOk};
 ghost use Rattle.mark_walk.specs.Telling.{tell};
-ghost use Rattle.typed_marks.specs.States.{so_far};
 ghost use Rattle.unit_read.specs.Subjects.{unit_of};
 ghost use Rattle.unit_read.specs.Units.{nodes_at};
 ghost use Rattle.rule_words.specs.Answers.{answer_in, IsAnswerOf};
-ghost use Rattle.rule_words.specs.Scenes.{IsScene, said, IsMarkOf, type_in, IsTypeOf};
+ghost use Rattle.rule_words.specs.Scenes.{sight, IsScene, said, IsMarkOf, type_in, IsTypeOf};
 ghost use Rattle.rule_words.specs.Steps.{step_in, IsStepOf};
 ghost use Rattle.type_rules.specs.Signatures.{signature_rule};
 ghost use Rattle.go_rules.specs.Functions.{value_of, valued, function_rule};
@@ -72,7 +71,7 @@ fn signature_of(
     node: &Node,
 ) -> Result<Step, NoMemory>
     requires { IsScene u.now s.now }
-    ensures is { IfOk result (λ step. step_in s.now step ≡ tell (so_far s.now) (signature_rule (unit_of u.now) block (nodes_at (unit_of u.now) at.file) node.now 0)) }
+    ensures is { IfOk result (λ step. step_in s.now step ≡ tell (sight s.now) (signature_rule (unit_of u.now) block (nodes_at (unit_of u.now) at.file) node.now 0)) }
     ensures over { IfOk result (IsStepOf s.now) }
 {
     judge_signature(alloc, u, s, block, u.nodes_at(at.file), node, 0)
@@ -88,7 +87,7 @@ pub fn judge_function(
     node: &Node,
 ) -> Result<Step, NoMemory>
     requires { IsScene u.now s.now }
-    ensures is { IfOk result (λ step. step_in s.now step ≡ tell (so_far s.now) (function_rule (unit_of u.now) block at node.now)) }
+    ensures is { IfOk result (λ step. step_in s.now step ≡ tell (sight s.now) (function_rule (unit_of u.now) block at node.now)) }
     ensures over { IfOk result (IsStepOf s.now) }
 {
     let step = signature_of(alloc, u, s, block, at, node)?;

@@ -1,9 +1,8 @@
 //! The objects that are declared at names, and what is tested late of types.
 ghost use Rattle.std.specs.Prelude.{◌≡◌, IfOk};
 ghost use Rattle.mark_walk.specs.Telling.{tell};
-ghost use Rattle.typed_marks.specs.States.{so_far};
 ghost use Rattle.unit_read.specs.Subjects.{unit_of};
-ghost use Rattle.rule_words.specs.Scenes.{IsScene};
+ghost use Rattle.rule_words.specs.Scenes.{sight, IsScene};
 ghost use Rattle.rule_words.specs.Steps.{step_in, IsStepOf};
 ghost use Rattle.elaborate.specs.Briefs.{step_of, IsBriefOf};
 ghost use Rattle.go_rules.specs.Stages.{in_own, is_late, object_beside, object_in_place, object_of_part, object_of, object_as};
@@ -44,7 +43,7 @@ fn object_beside(
     around: &Node,
 ) -> Result<Step, NoMemory>
     requires { IsScene u.now s.now }
-    ensures is { IfOk result (λ step. step_in s.now step ≡ tell (so_far s.now) (object_beside (unit_of u.now) at around.now)) }
+    ensures is { IfOk result (λ step. step_in s.now step ≡ tell (sight s.now) (object_beside (unit_of u.now) at around.now)) }
     ensures over { IfOk result (IsStepOf s.now) }
 {
     if is_late(around.kind) {
@@ -62,7 +61,7 @@ fn object_in_place(
     p: Place,
 ) -> Result<Step, NoMemory>
     requires { IsScene u.now s.now }
-    ensures is { IfOk result (λ step. step_in s.now step ≡ tell (so_far s.now) (object_in_place (unit_of u.now) at p)) }
+    ensures is { IfOk result (λ step. step_in s.now step ≡ tell (sight s.now) (object_in_place (unit_of u.now) at p)) }
     ensures over { IfOk result (IsStepOf s.now) }
 {
     let whole = NodeRef {
@@ -77,7 +76,7 @@ fn object_in_place(
 
 fn object_of_part(alloc: Global, u: &Subject, s: &State, at: NodeRef) -> Result<Step, NoMemory>
     requires { IsScene u.now s.now }
-    ensures is { IfOk result (λ step. step_in s.now step ≡ tell (so_far s.now) (object_of_part (unit_of u.now) at)) }
+    ensures is { IfOk result (λ step. step_in s.now step ≡ tell (sight s.now) (object_of_part (unit_of u.now) at)) }
     ensures over { IfOk result (IsStepOf s.now) }
 {
     match u.place_at(at) {
@@ -95,7 +94,7 @@ fn object_of(
     node: &Node,
 ) -> Result<Step, NoMemory>
     requires { IsScene u.now s.now }
-    ensures is { IfOk result (λ step. step_in s.now step ≡ tell (so_far s.now) (object_of (unit_of u.now) at node.now)) }
+    ensures is { IfOk result (λ step. step_in s.now step ≡ tell (sight s.now) (object_of (unit_of u.now) at node.now)) }
     ensures over { IfOk result (IsStepOf s.now) }
 {
     if is_type_clause(node.kind) {
@@ -113,7 +112,7 @@ fn object_as(
     node: &Node,
 ) -> Result<Step, NoMemory>
     requires { IsScene u.now s.now }
-    ensures is { IfOk result (λ step. step_in s.now step ≡ tell (so_far s.now) (object_as role (unit_of u.now) at node.now)) }
+    ensures is { IfOk result (λ step. step_in s.now step ≡ tell (sight s.now) (object_as role (unit_of u.now) at node.now)) }
     ensures over { IfOk result (IsStepOf s.now) }
 {
     match role {
@@ -136,7 +135,7 @@ pub fn object(
     node: &Node,
 ) -> Result<Brief, NoMemory>
     requires { IsScene u.now s.now }
-    ensures is { IfOk result (λ brief. step_in s.now (step_of brief) ≡ tell (so_far s.now) (in_own block at (object_as role (unit_of u.now) at node.now))) }
+    ensures is { IfOk result (λ brief. step_in s.now (step_of brief) ≡ tell (sight s.now) (in_own block at (object_as role (unit_of u.now) at node.now))) }
     ensures over { IfOk result (IsBriefOf s.now) }
 {
     if block == at.file as usize {

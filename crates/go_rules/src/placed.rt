@@ -2,9 +2,8 @@
 ghost use Rattle.std.specs.Prelude.{◌≡◌, IfOk};
 ghost use Rattle.mark_walk.specs.Telling.{tell};
 ghost use Rattle.typed_marks.specs.Meanings.{Right};
-ghost use Rattle.typed_marks.specs.States.{so_far};
 ghost use Rattle.unit_read.specs.Subjects.{unit_of};
-ghost use Rattle.rule_words.specs.Scenes.{IsScene, said, IsMarkOf};
+ghost use Rattle.rule_words.specs.Scenes.{sight, IsScene, said, IsMarkOf};
 ghost use Rattle.rule_words.specs.Steps.{step_in};
 ghost use Rattle.rule_words.specs.Good.{known_of, AreFactsOf};
 ghost use Rattle.elaborate.specs.Briefs.{step_of, ComesBriefly, IsBriefOf};
@@ -78,7 +77,7 @@ fn embedded_good(
 ) -> Result<Brief, NoMemory>
     requires scene { IsScene u.now s.now }
     requires facts { AreFactsOf s.now x }
-    ensures is { IfOk result (λ brief. step_in s.now (step_of brief) ≡ tell (so_far s.now) (placed_embedded (unit_of u.now) block at p around.now (Right (known_of s.now x)))) }
+    ensures is { IfOk result (λ brief. step_in s.now (step_of brief) ≡ tell (sight s.now) (placed_embedded (unit_of u.now) block at p around.now (Right (known_of s.now x)))) }
     ensures over { IfOk result (IsBriefOf s.now) }
 {
     if is_type(x.mode) {
@@ -102,7 +101,7 @@ fn placed_embedded(
 ) -> Result<Brief, NoMemory>
     requires scene { IsScene u.now s.now }
     requires mark { IsMarkOf s.now j }
-    ensures is { IfOk result (λ brief. step_in s.now (step_of brief) ≡ tell (so_far s.now) (placed_embedded (unit_of u.now) block at p around.now (said s.now j))) }
+    ensures is { IfOk result (λ brief. step_in s.now (step_of brief) ≡ tell (sight s.now) (placed_embedded (unit_of u.now) block at p around.now (said s.now j))) }
     ensures over { IfOk result (IsBriefOf s.now) }
 {
     match j {

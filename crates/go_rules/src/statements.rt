@@ -1,9 +1,8 @@
 //! What statements add to the rules of names.
 ghost use Rattle.std.specs.Prelude.{◌≡◌, IfOk};
 ghost use Rattle.mark_walk.specs.Telling.{tell};
-ghost use Rattle.typed_marks.specs.States.{so_far};
 ghost use Rattle.unit_read.specs.Subjects.{unit_of};
-ghost use Rattle.rule_words.specs.Scenes.{IsScene, said, IsMarkOf};
+ghost use Rattle.rule_words.specs.Scenes.{sight, IsScene, said, IsMarkOf};
 ghost use Rattle.rule_words.specs.Steps.{step_in, IsStepOf};
 ghost use Rattle.go_rules.specs.Statements.{switched_use, switched_rule, stated_object, declared_in, declared_beside, declared_object, is_type_clause};
 
@@ -24,7 +23,7 @@ use unit_read::{Place, Subject};
 
 fn switched_use(s: &State, m: Mark) -> Step
     requires { IsMarkOf s.now m }
-    ensures is { step_in s.now result ≡ tell (so_far s.now) (switched_use (said s.now m)) }
+    ensures is { step_in s.now result ≡ tell (sight s.now) (switched_use (said s.now m)) }
     ensures over { IsStepOf s.now result }
 {
     let _ = s;
@@ -41,7 +40,7 @@ fn switched_use(s: &State, m: Mark) -> Step
 /// A use of a type switch's name: it denotes the variable of the clause in which it stands.
 pub fn judge_switched(u: &Subject, s: &State, file: u32, clause: u32) -> Step
     requires { IsScene u.now s.now }
-    ensures is { step_in s.now result ≡ tell (so_far s.now) (switched_rule (unit_of u.now) file clause) }
+    ensures is { step_in s.now result ≡ tell (sight s.now) (switched_rule (unit_of u.now) file clause) }
     ensures over { IsStepOf s.now result }
 {
     match look(u, s, Stage::Object, file as usize, clause) {
@@ -54,7 +53,7 @@ pub fn judge_switched(u: &Subject, s: &State, file: u32, clause: u32) -> Step
 
 fn stated_object(u: &Subject, s: &State, name: NodeRef, p: Place, around: &Node) -> Step
     requires { IsScene u.now s.now }
-    ensures is { step_in s.now result ≡ tell (so_far s.now) (stated_object (unit_of u.now) name p around.now) }
+    ensures is { step_in s.now result ≡ tell (sight s.now) (stated_object (unit_of u.now) name p around.now) }
     ensures over { IsStepOf s.now result }
 {
     // E1
@@ -73,7 +72,7 @@ fn declared_in(
     around: &Node,
 ) -> Result<Step, NoMemory>
     requires { IsScene u.now s.now }
-    ensures is { IfOk result (λ step. step_in s.now step ≡ tell (so_far s.now) (declared_in (unit_of u.now) name p around.now)) }
+    ensures is { IfOk result (λ step. step_in s.now step ≡ tell (sight s.now) (declared_in (unit_of u.now) name p around.now)) }
     ensures over { IfOk result (IsStepOf s.now) }
 {
     if states_names(around.kind, p.slot) {
@@ -90,7 +89,7 @@ fn declared_beside(
     p: Place,
 ) -> Result<Step, NoMemory>
     requires { IsScene u.now s.now }
-    ensures is { IfOk result (λ step. step_in s.now step ≡ tell (so_far s.now) (declared_beside (unit_of u.now) name p)) }
+    ensures is { IfOk result (λ step. step_in s.now step ≡ tell (sight s.now) (declared_beside (unit_of u.now) name p)) }
     ensures over { IfOk result (IsStepOf s.now) }
 {
     let whole = NodeRef {
@@ -111,7 +110,7 @@ pub fn judge_declared(
     name: NodeRef,
 ) -> Result<Step, NoMemory>
     requires { IsScene u.now s.now }
-    ensures is { IfOk result (λ step. step_in s.now step ≡ tell (so_far s.now) (declared_object (unit_of u.now) name)) }
+    ensures is { IfOk result (λ step. step_in s.now step ≡ tell (sight s.now) (declared_object (unit_of u.now) name)) }
     ensures over { IfOk result (IsStepOf s.now) }
 {
     match u.place_at(name) {

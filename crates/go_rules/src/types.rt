@@ -1,9 +1,8 @@
 //! Types in expressions.
 ghost use Rattle.std.specs.Prelude.{◌≡◌, IfOk};
 ghost use Rattle.mark_walk.specs.Telling.{tell};
-ghost use Rattle.typed_marks.specs.States.{so_far};
 ghost use Rattle.unit_read.specs.Subjects.{unit_of};
-ghost use Rattle.rule_words.specs.Scenes.{IsScene, parts_in, AreSeenOf};
+ghost use Rattle.rule_words.specs.Scenes.{sight, IsScene, parts_in, AreSeenOf};
 ghost use Rattle.rule_words.specs.Steps.{step_in, IsStepOf};
 ghost use Rattle.rule_words.specs.Wanting.{wanted_of, IsWantedOf};
 ghost use Rattle.go_rules.specs.Types.{type_rule};
@@ -34,7 +33,7 @@ pub fn judge_type(
     requires scene { IsScene u.now s.now }
     requires parts { AreSeenOf s.now parts.now }
     requires wanted { IsWantedOf s.now w }
-    ensures is { IfOk result (λ step. step_in s.now step ≡ tell (so_far s.now) (type_rule (unit_of u.now) block at node.now (parts_in s.now parts.now) (wanted_of s.now w))) }
+    ensures is { IfOk result (λ step. step_in s.now step ≡ tell (sight s.now) (type_rule (unit_of u.now) block at node.now (parts_in s.now parts.now) (wanted_of s.now w))) }
     ensures over { IfOk result (IsStepOf s.now) }
 {
     if is_receiving(u, at, node) {

@@ -4,10 +4,9 @@ ghost use Rattle.std.specs.Prelude.{◌≡◌, true, Some};
 ghost use Rattle.mark_walk.specs.Telling.{tell, Says};
 ghost use Rattle.typed_tree.specs.Basics.{HasBasics};
 ghost use Rattle.typed_marks.specs.Meanings.{Free};
-ghost use Rattle.typed_marks.specs.States.{so_far};
 ghost use Rattle.unit_read.specs.Subjects.{unit_of, IsRead};
 ghost use Rattle.rule_words.specs.Answers.{is_plain};
-ghost use Rattle.rule_words.specs.Scenes.{IsScene, said, IsMarkOf};
+ghost use Rattle.rule_words.specs.Scenes.{sight, IsScene, said, IsMarkOf};
 ghost use Rattle.rule_words.specs.Steps.{step_in};
 ghost use Rattle.elaborate.specs.Briefs.{step_of, IsBriefOf};
 ghost use Rattle.op_rules.specs.Names.{used, object_ask};
@@ -97,7 +96,7 @@ pub fn free_use(u: &Subject, at: NodeRef, node: &Node, want: Want) -> Option<Nod
 fn used(s: &State, m: Mark) -> Mark
     requires basics { HasBasics s.now.table }
     requires mark { IsMarkOf s.now m }
-    ensures is { Says (said s.now result) ≡ tell (so_far s.now) (used Free (said s.now m)) }
+    ensures is { Says (said s.now result) ≡ tell (sight s.now) (used Free (said s.now m)) }
     ensures over { IsMarkOf s.now result }
     ensures plain { is_plain result ≡ true }
 {
@@ -114,7 +113,7 @@ fn used(s: &State, m: Mark) -> Mark
 /// A use of what is declared at a name.
 pub fn judge_use(u: &Subject, s: &State, name: NodeRef) -> Brief
     requires { IsScene u.now s.now }
-    ensures is { step_in s.now (step_of result) ≡ tell (so_far s.now) (object_ask (unit_of u.now) name Free) }
+    ensures is { step_in s.now (step_of result) ≡ tell (sight s.now) (object_ask (unit_of u.now) name Free) }
     ensures over { IsBriefOf s.now result }
 {
     match look(u, s, Stage::Object, name.file as usize, name.node) {

@@ -1,9 +1,8 @@
 //! What the places of nodes want.
 ghost use Rattle.std.specs.Prelude.{◌≡◌};
 ghost use Rattle.mark_walk.specs.Telling.{tell};
-ghost use Rattle.typed_marks.specs.States.{so_far};
 ghost use Rattle.unit_read.specs.Subjects.{unit_of};
-ghost use Rattle.rule_words.specs.Scenes.{IsScene, told_by, IfFound, said, IsMarkOf};
+ghost use Rattle.rule_words.specs.Scenes.{sight, IsScene, told_by, IfFound, said, IsMarkOf};
 ghost use Rattle.rule_words.specs.Steps.{step_in};
 ghost use Rattle.elaborate.specs.Briefs.{step_of, IsBriefOf};
 ghost use Rattle.go_rules.specs.Families.{family, wants_by};
@@ -36,7 +35,7 @@ fn want_by(
     around: &Node,
 ) -> Found<Mark, Item>
     requires { IsScene u.now s.now }
-    ensures is { told_by (said s.now) result ≡ tell (so_far s.now) (wants_by by (unit_of u.now) block p around.now) }
+    ensures is { told_by (said s.now) result ≡ tell (sight s.now) (wants_by by (unit_of u.now) block p around.now) }
     ensures over { IfFound result (IsMarkOf s.now) }
 {
     match by {
@@ -57,7 +56,7 @@ fn want_by(
 
 fn want_in(u: &Subject, s: &State, block: usize, p: Place, around: &Node) -> Found<Mark, Item>
     requires { IsScene u.now s.now }
-    ensures is { told_by (said s.now) result ≡ tell (so_far s.now) (wants_in (unit_of u.now) block p around.now) }
+    ensures is { told_by (said s.now) result ≡ tell (sight s.now) (wants_in (unit_of u.now) block p around.now) }
     ensures over { IfFound result (IsMarkOf s.now) }
 {
     want_by(u, s, family_of(around.kind), block, p, around)
@@ -65,7 +64,7 @@ fn want_in(u: &Subject, s: &State, block: usize, p: Place, around: &Node) -> Fou
 
 fn wanted_mark(s: &State, m: Mark) -> Brief
     requires { IsMarkOf s.now m }
-    ensures is { step_in s.now (step_of result) ≡ tell (so_far s.now) (wished (said s.now m)) }
+    ensures is { step_in s.now (step_of result) ≡ tell (sight s.now) (wished (said s.now m)) }
     ensures over { IsBriefOf s.now result }
 {
     let w = wanted_by(s, m);
@@ -74,7 +73,7 @@ fn wanted_mark(s: &State, m: Mark) -> Brief
 
 fn wants_of(u: &Subject, s: &State, block: usize, p: Place, around: &Node) -> Brief
     requires { IsScene u.now s.now }
-    ensures is { step_in s.now (step_of result) ≡ tell (so_far s.now) (wants_of (unit_of u.now) block p around.now) }
+    ensures is { step_in s.now (step_of result) ≡ tell (sight s.now) (wants_of (unit_of u.now) block p around.now) }
     ensures over { IsBriefOf s.now result }
 {
     match want_in(u, s, block, p, around) {
@@ -85,7 +84,7 @@ fn wants_of(u: &Subject, s: &State, block: usize, p: Place, around: &Node) -> Br
 
 fn wants_at(u: &Subject, s: &State, block: usize, at: NodeRef, p: Place) -> Brief
     requires { IsScene u.now s.now }
-    ensures is { step_in s.now (step_of result) ≡ tell (so_far s.now) (wants_at (unit_of u.now) block at p) }
+    ensures is { step_in s.now (step_of result) ≡ tell (sight s.now) (wants_at (unit_of u.now) block at p) }
     ensures over { IsBriefOf s.now result }
 {
     let whole = NodeRef {
@@ -101,7 +100,7 @@ fn wants_at(u: &Subject, s: &State, block: usize, at: NodeRef, p: Place) -> Brie
 /// What the place of a node wants.
 pub fn wanted(u: &Subject, s: &State, block: usize, at: NodeRef) -> Brief
     requires { IsScene u.now s.now }
-    ensures is { step_in s.now (step_of result) ≡ tell (so_far s.now) (wanted_rule (unit_of u.now) block at) }
+    ensures is { step_in s.now (step_of result) ≡ tell (sight s.now) (wanted_rule (unit_of u.now) block at) }
     ensures over { IsBriefOf s.now result }
 {
     match u.place_at(at) {

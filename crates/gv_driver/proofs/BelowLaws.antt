@@ -1,5 +1,5 @@
--- What is found over a package's environment is found over all packages below it, where findings stay.
-use Rattle.std.proofs.Common.{◌≡◌, ◌⊎◌, inl, inr, ℕ, Bool, true, false, if◌then◌else◌, Option, Some, None, List, [], ◌∷◌, ◌++◌, slice_get, refl, sym, ap, ◌∙◌, subst}
+-- What is found over a package's environment is found over all packages below it, since findings stay where more is seen.
+use Rattle.std.proofs.Common.{◌≡◌, ◌⊎◌, inl, inr, ℕ, Bool, true, false, if◌then◌else◌, Option, Some, List, [], ◌∷◌, ◌++◌, slice_get, refl, sym, ◌∙◌, subst}
 use Rattle.std.specs.List.{Contains}
 use Rattle.std.specs.Str.{bytes_eq}
 use Rattle.std.proofs.lemmas.Option.{same_Some}
@@ -11,10 +11,12 @@ use Rattle.action_graph.specs.Judging.{Judged, Env, Judges}
 use Rattle.action_graph.specs.Judging.Judged.{Accepts}
 use Rattle.gv_driver.specs.declared.tree.PackageTexts.{PackageTexts}
 use Rattle.gv_driver.specs.Trees.{Imports, IsTree}
-use Rattle.gv_driver.specs.Whole.{Shows, IsNear, IsAround, IsEnv, Checked}
+use Rattle.gv_driver.specs.Whole.{Shows, IsNear, IsEnv, Checked}
 use Rattle.gv_driver.specs.Whole.IsNear.{imported, mentioned}
 use Rattle.gv_driver.specs.Whole.Checked.{checked}
-use Rattle.gv_driver.specs.Below.{Below, FindingsStay, Grows, IsClosed, Knows, Typed}
+use Rattle.action_graph.specs.Closed.{IsClosed, Knows, Reserved, is_reserved}
+use Rattle.action_graph.proofs.StayLaws.{findings_stay}
+use Rattle.gv_driver.specs.Below.{Below, Typed}
 use Rattle.gv_driver.specs.Below.Below.{directly, through}
 use Rattle.gv_driver.specs.Below.Typed.{typed}
 use Rattle.gv_driver.proofs.Places.{contains-head, contains-tail, cons-cases, contains-at, nothing-contained}
@@ -151,7 +153,12 @@ env-below tree _ _ formed (checked p pack n e v at sound around good judges) num
 
 -- ---- one package
 
-module _ (tree : List PackageTexts) (formed : IsTree tree) (stay : FindingsStay tree) where
+-- what is below a package is imported by one
+imported-below : (tree : List PackageTexts) (q p : ℕ) → Below tree q p → (r : ℕ) × Imports tree r q
+imported-below tree q p (directly _ i) = (p, i)
+imported-below tree q p (through _ r i b) = imported-below tree q r b
+
+module _ (tree : List PackageTexts) (formed : IsTree tree) where
   module _ (p : ℕ) (pack : PackageTexts) (numbers : List ℕ) (env : Env) (at : slice_get tree p ≡ Some pack) (is : IsEnv tree p numbers env) (lies : (q : ℕ) → Contains numbers q → Below tree q p)
       (each : (q : ℕ) (f : Face) → Shows numbers env q f → Typed tree q (Accepts f)) where
     import-world : (r : ℕ) → Contains pack.imports r → World tree r
@@ -223,12 +230,19 @@ module _ (tree : List PackageTexts) (formed : IsTree tree) (stay : FindingsStay 
         let same : s.q ≡ q = same-number tree s.q q s.other other formed s.at there s.path_is in
         subst (λ (x : ℕ). Typed tree x (Accepts f)) same s.good
 
+    -- no path of these is reserved
+    reserved : Reserved (env ++ others.w)
+    reserved path f none e =
+        let s = sources path f e in
+        let i = imported-below tree s.q p s.below in
+        let other : is_reserved path ≡ false = subst (λ (y : List ℕ). is_reserved y ≡ false) s.path_is (formed.apart i.0 s.q s.other i.1 s.at) in
+        absurd cc
+
     typed-with : (v : Judged) → pack.sound ≡ true → Judges pack.path pack.files env v → Typed tree p v
     typed-with v sound judges =
         typed p pack (env ++ others.w) v at sound (λ q other b there. has p q other refl b there)
         (λ path f e. (let s = sources path f e in (s.q, s.other, s.below, s.at, s.path_is)))
-        from (stay p pack env (env ++ others.w) v at (closed sound) (λ path f e. found-first env others.w path f e)
-        (λ path f e. (let s = sources path f e in (s.q, s.other, s.below, s.at, s.path_is, s.good))) judges)
+        from (findings_stay pack.path pack.files env (env ++ others.w) v (closed sound) (λ path f e. found-first env others.w path f e) reserved judges)
 
   -- what is found of a package over its environment is found over all packages below it
   pub typed-of : (p : ℕ) (v : Judged) → Checked tree p v → Typed tree p v

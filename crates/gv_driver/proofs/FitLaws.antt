@@ -1,19 +1,19 @@
 -- What is seen of the packages of an environment can be declared together.
-use Rattle.std.proofs.Common.{◌≡◌, ◌⊎◌, inl, inr, ℕ, ◌<◌, ◌+◌, ◌==◌, ◌&&◌, nat_eq, zero, suc, Bool, true, false, cond, if◌then◌else◌, Option, Some, None, option_map, List, [], ◌∷◌, length, slice_get, map, refl, sym, ap, ◌∙◌, subst, arith}
+use Rattle.std.proofs.Common.{◌≡◌, ◌⊎◌, inl, inr, ℕ, ◌+◌, ◌==◌, ◌&&◌, nat_eq, zero, suc, Bool, true, false, cond, if◌then◌else◌, Option, Some, None, option_map, List, [], ◌∷◌, slice_get, map, refl, sym, ap, ◌∙◌, subst, arith}
 use Rattle.std.specs.List.{Contains, position_from}
 use Rattle.std.specs.Option.{option_and_then}
 use Rattle.std.specs.Str.{bytes_eq}
 use Rattle.std.specs.declared.cmp.Ordering.{Ordering}
-use Rattle.std.specs.declared.cmp.Ordering.TheVariants.{Less, Equal, Greater}
+use Rattle.std.specs.declared.cmp.Ordering.TheVariants.{Less, Equal}
 use Rattle.std.specs.Ordering.{nat_cmp, is_lt}
 use Rattle.std.specs.Cmp.Lexicographic.{slice_cmp}
 use Rattle.std.proofs.lemmas.Cmp.{nat_list_cmp_total, tied_itself}
-use Rattle.std.proofs.lemmas.Option.{same_Some, slice_get_within}
+use Rattle.std.proofs.lemmas.Option.{same_Some}
 use Rattle.std.proofs.lemmas.Slice.Eq.{bytes_eq-Decides}
 use Rattle.go_tree.specs.Lexeme.{place_of}
 use Rattle.type_model.specs.declared.term.TypeName.{TypeName}
-use Rattle.type_model.specs.Declarations.{Declaration, Declarations, Meets}
-use Rattle.type_model.specs.GoTypes.{GoType, DefinedType, is_defined}
+use Rattle.type_model.specs.Declarations.{Declaration, Meets}
+use Rattle.type_model.specs.GoTypes.{GoType, is_defined}
 use Rattle.type_model.specs.Tables.{is_same_name}
 use Rattle.typed_tree.specs.Universe.{error_name}
 use Rattle.unit_read.specs.Units.{error_declaration}
@@ -24,12 +24,12 @@ use Rattle.package_faces.specs.Reaching.{own_name}
 use Rattle.export_text.specs.Mentions.{IsMentioned}
 use Rattle.export_text.specs.Reaching.{nothing_declared}
 use Rattle.export_text.proofs.ExportLaws.{less_of, then_before}
-use Rattle.face_table.specs.Fitting.{AreFit, Counts, given, names_in, paths_in}
+use Rattle.face_table.specs.Fitting.{AreFit, Counts, given, paths_in}
 use Rattle.action_graph.specs.Nodes.{Named}
 use Rattle.action_graph.specs.Judging.{Env, Judges, AllKnown}
 use Rattle.action_graph.specs.Judging.Judged.{Accepts}
-use Rattle.gv_driver.proofs.MeetLaws.{meets-among, met-stands, nothing-met, type-cases, none-of}
-use Rattle.gv_driver.proofs.Places.{contains-head, contains-tail, contains-at, at-contained}
+use Rattle.action_graph.proofs.MeetLaws.{meets-among, met-stands, nothing-met, type-cases, none-of}
+use Rattle.gv_driver.proofs.Places.{contains-head, contains-tail, contains-at}
 
 -- what is found of an accepted package
 pub record Fit (env : Env) (f : Face) : Type 0 where
@@ -40,7 +40,7 @@ pub record Fit (env : Env) (f : Face) : Type 0 where
 
 pub accepted-fit : (path : List ℕ) (files : List Named) (env : Env) (f : Face) → Judges path files env (Accepts f) → Fit env f
 unfolding Judges
-accepted-fit path files env f (p, (of, (c, comes, none, exports, fit))) = record { known = fit.known; plain = fit.plain; ends = fit.ends; types = exports.types }
+accepted-fit path files env f (p, (of, found)) = record { known = found.fit.known; plain = found.fit.plain; ends = found.fit.ends; types = found.exports.types }
 
 -- ---- names
 

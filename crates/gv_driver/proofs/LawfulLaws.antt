@@ -1,5 +1,5 @@
 -- The input of a load is lawful.
-use Rattle.std.proofs.Common.{◌≡◌, ◌⊎◌, inl, inr, ℕ, ◌<◌, true, Some, None, List, [], ◌∷◌, length, slice_get, refl, sym, ap, ◌∙◌, subst, arith}
+use Rattle.std.proofs.Common.{◌≡◌, inl, inr, ℕ, ◌<◌, true, Some, List, [], ◌∷◌, length, slice_get, refl, sym, ap, ◌∙◌, subst, arith}
 use Rattle.std.specs.List.{Contains}
 use Rattle.std.proofs.lemmas.Option.{slice_get_within}
 use Rattle.gv_base.specs.Files.{is_before}
@@ -12,12 +12,12 @@ use Rattle.action_graph.specs.Nodes.{Named}
 use Rattle.action_graph.specs.Judging.{Env, ImportsPath, IsLawful}
 use Rattle.action_graph.specs.Judging.Judged.{Accepts}
 use Rattle.gv_driver.specs.declared.tree.PackageTexts.{PackageTexts}
-use Rattle.gv_driver.specs.Trees.{Imports, IsTree}
-use Rattle.gv_driver.specs.Whole.{Shows, IsAround, IsEnv, Checked}
+use Rattle.gv_driver.specs.Trees.{IsTree}
+use Rattle.gv_driver.specs.Whole.{Shows, IsEnv, Checked}
 use Rattle.gv_driver.specs.Loads.{IsExport, IsLoadOf}
 use Rattle.gv_driver.proofs.Places.{at-contained, contains-at, contains-tail, element}
-use Rattle.gv_driver.proofs.MeetLaws.{type-cases}
-use Rattle.gv_driver.proofs.FitLaws.{Fit, accepted-fit, placed-face, Nest, FitsIn, are-fit}
+use Rattle.action_graph.proofs.MeetLaws.{type-cases}
+use Rattle.gv_driver.proofs.FitLaws.{accepted-fit, placed-face, Nest, are-fit}
 use Rattle.gv_driver.proofs.WholeLaws.{are-read, face-path, no-circle, one-env, one-row, Opened, opened, same-number, same_pack, shown, unique-face}
 
 -- what is seen of a package of a tree

@@ -1,7 +1,6 @@
 pub mod Places
 mod RowLemmas
 pub mod WholeLaws
-mod MeetLaws
 mod FitLaws
 pub mod LawfulLaws
 mod EnvLaws

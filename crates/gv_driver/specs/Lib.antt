@@ -26,3 +26,4 @@ pub use Rattle.action_graph.specs.Stages
 pub use Rattle.action_graph.specs.Standing as NodesStanding
 pub use Rattle.action_graph.specs.Suite
 pub use Rattle.action_graph.specs.declared.marks.MarkLine
+pub use Rattle.action_graph.specs.Closed

@@ -7,7 +7,7 @@ ghost use Rattle.fact_cache.specs.Caches.{is_within};
 ghost use Rattle.gv_driver.specs.declared.reply.Verdict.{Verdict};
 ghost use Rattle.gv_driver.specs.declared.tree.PackageTexts.{PackageTexts};
 ghost use Rattle.action_graph.specs.Judging.{IsLawful, Judged};
-ghost use Rattle.gv_driver.specs.Below.{FindingsStay, Typed};
+ghost use Rattle.gv_driver.specs.Below.{Typed};
 ghost use Rattle.gv_driver.specs.Caches.{IsCacheAfter, IsHonest};
 ghost use Rattle.gv_driver.specs.Existence.{AllHaveOutcomes, AllRunsHaveOutcomes, HasRun};
 ghost use Rattle.action_graph.specs.Analyzing.{IsRunLawful, IsRunOutcome};
@@ -62,8 +62,7 @@ pub fn a_tree_has_a_report()
     ensures { AllHaveOutcomes → AllRunsHaveOutcomes → (tree : List PackageTexts) (only : ℕ) → IsTree tree → (HasStuck tree → ⊥) → (before : List Entry) → HasRun tree only before }
 {}
 
-/// Where findings stay as more is seen of packages below, what is found of a package over its environment by mentions is what is found over all
-/// packages below it. That they stay, where the package's imports and what is mentioned are known, is a law over all rules, which isn't proved.
+/// What is found of a package over its environment by mentions is what is found over all packages below it: findings stay as more is seen of packages.
 pub fn an_environment_is_enough()
-    ensures { (tree : List PackageTexts) → IsTree tree → FindingsStay tree → (p : ℕ) (judged : Judged) → Checked tree p judged → Typed tree p judged }
+    ensures { (tree : List PackageTexts) → IsTree tree → (p : ℕ) (judged : Judged) → Checked tree p judged → Typed tree p judged }
 {}

@@ -1,5 +1,5 @@
 -- What is declared is declared in the package or in one of its environment.
-use Rattle.std.proofs.Common.{◌≡◌, inl, inr, ℕ, ◌==◌, ◌&&◌, Bool, true, false, if◌then◌else◌, List, [], ◌∷◌, map, Option, Some, None, is_some, option_map, slice_get, refl, sym, ap, ◌∙◌, subst}
+use Rattle.std.proofs.Common.{◌≡◌, inl, inr, ℕ, ◌==◌, ◌&&◌, Bool, true, false, if◌then◌else◌, List, [], ◌∷◌, Option, Some, None, option_map, slice_get, refl, sym, ap}
 use Rattle.std.specs.Prelude.{option_and_then, nat_eq}
 use Rattle.std.specs.Option.{option_map_or, option_or}
 use Rattle.std.specs.Str.{bytes_eq}
@@ -7,7 +7,6 @@ use Rattle.go_tree.specs.Lexeme.{place_of}
 use Rattle.go_tree.specs.declared.tree.NodeRef.{NodeRef}
 use Rattle.method_sets.specs.Shown.{is_interface_type}
 use Rattle.own_functions.proofs.NameLemmas.{both_true, same_bytes}
-use Rattle.package_faces.specs.Faces.{Face}
 use Rattle.package_faces.specs.Declaring.{declared_in}
 use Rattle.package_faces.specs.Declaring as out
 use Rattle.rule_words.specs.Asking.{under_at, type_item, declaration_told}
@@ -20,10 +19,18 @@ use Rattle.type_questions.specs.Over.{marked}
 use Rattle.typed_marks.specs.declared.item.Item.{Item}
 use Rattle.typed_marks.specs.Meanings.{Meaning}
 use Rattle.typed_tree.specs.Universe.{error_name}
-use Rattle.unit_read.specs.Imports.{paths_of}
+use Rattle.unit_read.specs.Imports.{bare, paths_of}
 use Rattle.unit_read.specs.Units.{Unit, defined, type_name, named_by, type_node, error_declaration, imported_from}
 use Rattle.known_callees.specs.Seen.{is_beside, IsSeen}
-use Rattle.known_callees.proofs.Words.{bound, differ, no_some, same_some, some_there, where_true, where_false}
+use Rattle.known_callees.proofs.Words.{bound, differ, no_some, some_there, where_true, where_false}
+
+-- what a package declares itself
+named_own : (u : Unit) (name : TypeName) (list : List NodeRef) (at : NodeRef) → named_by u name list ≡ Some at → name.package ≡ u.path
+named_own u name [] at e = no_some at e
+named_own u name (x ∷ list) at e = by (is_same_name (type_name u x) name) refl (named_own u name list at) e where
+  by : (b : Bool) → is_same_name (type_name u x) name ≡ b → (named_by u name list ≡ Some at → name.package ≡ u.path) → (if b then Some x else named_by u name list) ≡ Some at → name.package ≡ u.path
+  by true same rest e = sym (same_bytes u.path name.package (both_true (bytes_eq u.path name.package) (bytes_eq (type_name u x).name name.name && nat_eq (type_name u x).local name.local) same).0)
+  by false other rest e = rest e
 
 module _ (u : Unit) where
   -- what another package declares
@@ -37,27 +44,19 @@ module _ (u : Unit) where
   pub imported_beside : (name : TypeName) (d : Declaration) → imported_from u name ≡ Some d → is_beside u name.package ≡ true
   imported_beside name d e = given_beside name d (where_false (bytes_eq u.path name.package) (out.declared_by u.env name) d e).1
 
-  -- what the package declares itself
-  named_own : (name : TypeName) (list : List NodeRef) (at : NodeRef) → named_by u name list ≡ Some at → name.package ≡ u.path
-  named_own name [] at e = no_some at e
-  named_own name (x ∷ list) at e = by (is_same_name (type_name u x) name) refl (named_own name list at) e where
-    by : (b : Bool) → is_same_name (type_name u x) name ≡ b → (named_by u name list ≡ Some at → name.package ≡ u.path) → (if b then Some x else named_by u name list) ≡ Some at → name.package ≡ u.path
-    by true same rest e = sym (same_bytes u.path name.package (both_true (bytes_eq u.path name.package) (bytes_eq (type_name u x).name name.name && nat_eq (type_name u x).local name.local) same).0)
-    by false other rest e = rest e
-
   module _ (marks : Item → Meaning) where
     abbrev ds : Declarations
     ds = declared_by u marks
 
     abbrev by_marks : TypeName → Option Declaration
-    by_marks name = marked (type_item u) declaration_told (λ (i : Item). Some (marks i)) name
+    by_marks name = marked (type_item (bare u)) declaration_told (λ (i : Item). Some (marks i)) name
 
     marked_own : (name : TypeName) (d : Declaration) → by_marks name ≡ Some d → name.package ≡ u.path
-    marked_own name d e = by (type_node u name) refl e where
-      by : (o : Option NodeRef) → type_node u name ≡ o
-          → option_map_or declaration_told (option_map_or (λ (i : Item). Some (marks i)) (option_and_then (under_at u) o) None) None ≡ Some d → name.package ≡ u.path
+    marked_own name d e = by (type_node (bare u) name) refl e where
+      by : (o : Option NodeRef) → type_node (bare u) name ≡ o
+          → option_map_or declaration_told (option_map_or (λ (i : Item). Some (marks i)) (option_and_then (under_at (bare u)) o) None) None ≡ Some d → name.package ≡ u.path
       by None at e = no_some d e
-      by (Some node) at e = named_own name (defined u) node at
+      by (Some node) at e = named_own (bare u) name (defined u) node at
 
     -- `error` is an interface
     error_is : (name : TypeName) → is_same_name name error_name ≡ true → is_interface ds (DefinedType name) ≡ true

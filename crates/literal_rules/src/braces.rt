@@ -3,9 +3,8 @@ ghost use Rattle.std.specs.Prelude.{◌≡◌, option_map, IfSome};
 ghost use Rattle.mark_walk.specs.Telling.{tell};
 ghost use Rattle.type_model.specs.GoTypes.{type_of, IsOver};
 ghost use Rattle.type_model.specs.Tables.{types_in, count, IsTable};
-ghost use Rattle.typed_marks.specs.States.{so_far};
 ghost use Rattle.unit_read.specs.Subjects.{unit_of, IsRead};
-ghost use Rattle.rule_words.specs.Scenes.{IsScene, told_by, IfFound, said, IsMarkOf, type_in, IsTypeOf};
+ghost use Rattle.rule_words.specs.Scenes.{sight, IsScene, told_by, IfFound, said, IsMarkOf, type_in, IsTypeOf};
 ghost use Rattle.rule_words.specs.Wanting.{wanted_of, IsWantedOf};
 ghost use Rattle.rule_words.specs.Words.{wanted_in};
 ghost use Rattle.literal_rules.specs.Shapes.{literal_ask, written_of, written_told, written_ask, open_ask, dots_ask, type_ask, type_at_ask, composite_ask, elided_by, elided_told, elided_ask, inner_by, inner_told, inner_ask, braces_around, braces_in, braces_ask};
@@ -28,7 +27,7 @@ fn literal_by(u: &Subject, s: &State, of: TypeId, base: TypeId) -> Found<Option<
     requires scene { IsScene u.now s.now }
     requires of { IsTypeOf s.now of }
     requires base { IsTypeOf s.now base }
-    ensures is { told_by (may_be_literal s.now) result ≡ tell (so_far s.now) (literal_ask (unit_of u.now) (type_in s.now of) (type_in s.now base)) }
+    ensures is { told_by (may_be_literal s.now) result ≡ tell (sight s.now) (literal_ask (unit_of u.now) (type_in s.now of) (type_in s.now base)) }
     ensures over { IfFound result (MayBeLiteralOf s.now) }
 {
     match under_of(u, s, base) {
@@ -42,7 +41,7 @@ fn literal_by(u: &Subject, s: &State, of: TypeId, base: TypeId) -> Found<Option<
 fn written_of(u: &Subject, s: &State, x: Facts) -> Found<Option<Literal>, Item>
     requires scene { IsScene u.now s.now }
     requires facts { AreFactsOf s.now x }
-    ensures is { told_by (may_be_literal s.now) result ≡ tell (so_far s.now) (written_of (unit_of u.now) (known_of s.now x)) }
+    ensures is { told_by (may_be_literal s.now) result ≡ tell (sight s.now) (written_of (unit_of u.now) (known_of s.now x)) }
     ensures over { IfFound result (MayBeLiteralOf s.now) }
 {
     literal_by(u, s, x.of, x.of)
@@ -51,7 +50,7 @@ fn written_of(u: &Subject, s: &State, x: Facts) -> Found<Option<Literal>, Item>
 fn written_told(u: &Subject, s: &State, m: Mark) -> Found<Option<Literal>, Item>
     requires scene { IsScene u.now s.now }
     requires mark { IsMarkOf s.now m }
-    ensures is { told_by (may_be_literal s.now) result ≡ tell (so_far s.now) (written_told (unit_of u.now) (said s.now m)) }
+    ensures is { told_by (may_be_literal s.now) result ≡ tell (sight s.now) (written_told (unit_of u.now) (said s.now m)) }
     ensures over { IfFound result (MayBeLiteralOf s.now) }
 {
     match known(s, m) {
@@ -62,7 +61,7 @@ fn written_told(u: &Subject, s: &State, m: Mark) -> Found<Option<Literal>, Item>
 
 fn written(u: &Subject, s: &State, block: usize, t: u32) -> Found<Option<Literal>, Item>
     requires { IsScene u.now s.now }
-    ensures is { told_by (may_be_literal s.now) result ≡ tell (so_far s.now) (written_ask (unit_of u.now) block t) }
+    ensures is { told_by (may_be_literal s.now) result ≡ tell (sight s.now) (written_ask (unit_of u.now) block t) }
     ensures over { IfFound result (MayBeLiteralOf s.now) }
 {
     match look(u, s, Stage::Placed, block, t) {
@@ -73,7 +72,7 @@ fn written(u: &Subject, s: &State, block: usize, t: u32) -> Found<Option<Literal
 
 fn open(u: &Subject, s: &State, block: usize, e: u32) -> Found<Option<Literal>, Item>
     requires { IsScene u.now s.now }
-    ensures is { told_by (may_be_literal s.now) result ≡ tell (so_far s.now) (open_ask (unit_of u.now) block e) }
+    ensures is { told_by (may_be_literal s.now) result ≡ tell (sight s.now) (open_ask (unit_of u.now) block e) }
     ensures over { IfFound result (MayBeLiteralOf s.now) }
 {
     match look(u, s, Stage::Placed, block, e) {
@@ -84,7 +83,7 @@ fn open(u: &Subject, s: &State, block: usize, e: u32) -> Found<Option<Literal>, 
 
 fn dots(u: &Subject, s: &State, block: usize, node: &Node) -> Found<Option<Literal>, Item>
     requires { IsScene u.now s.now }
-    ensures is { told_by (may_be_literal s.now) result ≡ tell (so_far s.now) (dots_ask (unit_of u.now) block node.now) }
+    ensures is { told_by (may_be_literal s.now) result ≡ tell (sight s.now) (dots_ask (unit_of u.now) block node.now) }
     ensures over { IfFound result (MayBeLiteralOf s.now) }
 {
     match part_of(node, 0) {
@@ -101,7 +100,7 @@ fn by_type(
     node: &Node,
 ) -> Found<Option<Literal>, Item>
     requires { IsScene u.now s.now }
-    ensures is { told_by (may_be_literal s.now) result ≡ tell (so_far s.now) (type_ask (unit_of u.now) block t node.now) }
+    ensures is { told_by (may_be_literal s.now) result ≡ tell (sight s.now) (type_ask (unit_of u.now) block t node.now) }
     ensures over { IfFound result (MayBeLiteralOf s.now) }
 {
     if is_dots(node.kind) {
@@ -119,7 +118,7 @@ fn by_type_at(
     t: u32,
 ) -> Found<Option<Literal>, Item>
     requires { IsScene u.now s.now }
-    ensures is { told_by (may_be_literal s.now) result ≡ tell (so_far s.now) (type_at_ask (unit_of u.now) block nodes.now t) }
+    ensures is { told_by (may_be_literal s.now) result ≡ tell (sight s.now) (type_at_ask (unit_of u.now) block nodes.now t) }
     ensures over { IfFound result (MayBeLiteralOf s.now) }
 {
     match node_of(nodes, t) {
@@ -136,7 +135,7 @@ fn of_composite(
     around: &Node,
 ) -> Found<Option<Literal>, Item>
     requires { IsScene u.now s.now }
-    ensures is { told_by (may_be_literal s.now) result ≡ tell (so_far s.now) (composite_ask (unit_of u.now) block nodes.now around.now) }
+    ensures is { told_by (may_be_literal s.now) result ≡ tell (sight s.now) (composite_ask (unit_of u.now) block nodes.now around.now) }
     ensures over { IfFound result (MayBeLiteralOf s.now) }
 {
     match part_of(around, 0) {
@@ -151,7 +150,7 @@ fn elided_by(u: &Subject, s: &State, of: TypeId, under: TypeId) -> Found<Option<
     requires scene { IsScene u.now s.now }
     requires of { IsTypeOf s.now of }
     requires within { IsTypeOf s.now under }
-    ensures is { told_by (may_be_literal s.now) result ≡ tell (so_far s.now) (elided_by (unit_of u.now) (type_in s.now of) (type_in s.now under)) }
+    ensures is { told_by (may_be_literal s.now) result ≡ tell (sight s.now) (elided_by (unit_of u.now) (type_in s.now of) (type_in s.now under)) }
     ensures over { IfFound result (MayBeLiteralOf s.now) }
 {
     match s.table.term(under) {
@@ -177,7 +176,7 @@ fn elided_told(
     requires scene { IsScene u.now s.now }
     requires of { IsTypeOf s.now of }
     requires within { IfSome under (IsTypeOf s.now) }
-    ensures is { told_by (may_be_literal s.now) result ≡ tell (so_far s.now) (elided_told (unit_of u.now) (type_in s.now of) (option_map (type_in s.now) under)) }
+    ensures is { told_by (may_be_literal s.now) result ≡ tell (sight s.now) (elided_told (unit_of u.now) (type_in s.now of) (option_map (type_in s.now) under)) }
     ensures over { IfFound result (MayBeLiteralOf s.now) }
 {
     match under {
@@ -189,7 +188,7 @@ fn elided_told(
 fn elided(u: &Subject, s: &State, of: TypeId) -> Found<Option<Literal>, Item>
     requires scene { IsScene u.now s.now }
     requires of { IsTypeOf s.now of }
-    ensures is { told_by (may_be_literal s.now) result ≡ tell (so_far s.now) (elided_ask (unit_of u.now) (type_in s.now of)) }
+    ensures is { told_by (may_be_literal s.now) result ≡ tell (sight s.now) (elided_ask (unit_of u.now) (type_in s.now of)) }
     ensures over { IfFound result (MayBeLiteralOf s.now) }
 {
     match under_of(u, s, of) {
@@ -201,7 +200,7 @@ fn elided(u: &Subject, s: &State, of: TypeId) -> Found<Option<Literal>, Item>
 fn inner_by(u: &Subject, s: &State, w: Wanted) -> Found<Option<Literal>, Item>
     requires scene { IsScene u.now s.now }
     requires wanted { IsWantedOf s.now w }
-    ensures is { told_by (may_be_literal s.now) result ≡ tell (so_far s.now) (inner_by (unit_of u.now) w.demand (wanted_of s.now w).wish) }
+    ensures is { told_by (may_be_literal s.now) result ≡ tell (sight s.now) (inner_by (unit_of u.now) w.demand (wanted_of s.now w).wish) }
     ensures over { IfFound result (MayBeLiteralOf s.now) }
 {
     match w.want {
@@ -215,7 +214,7 @@ fn inner_by(u: &Subject, s: &State, w: Wanted) -> Found<Option<Literal>, Item>
 fn inner_told(u: &Subject, s: &State, m: Mark) -> Found<Option<Literal>, Item>
     requires scene { IsScene u.now s.now }
     requires mark { IsMarkOf s.now m }
-    ensures is { told_by (may_be_literal s.now) result ≡ tell (so_far s.now) (inner_told (unit_of u.now) (said s.now m)) }
+    ensures is { told_by (may_be_literal s.now) result ≡ tell (sight s.now) (inner_told (unit_of u.now) (said s.now m)) }
     ensures over { IfFound result (MayBeLiteralOf s.now) }
 {
     inner_by(u, s, wanted_by(s, m))
@@ -223,7 +222,7 @@ fn inner_told(u: &Subject, s: &State, m: Mark) -> Found<Option<Literal>, Item>
 
 fn inner(u: &Subject, s: &State, block: usize, n: u32) -> Found<Option<Literal>, Item>
     requires { IsScene u.now s.now }
-    ensures is { told_by (may_be_literal s.now) result ≡ tell (so_far s.now) (inner_ask (unit_of u.now) block n) }
+    ensures is { told_by (may_be_literal s.now) result ≡ tell (sight s.now) (inner_ask (unit_of u.now) block n) }
     ensures over { IfFound result (MayBeLiteralOf s.now) }
 {
     match look(u, s, Stage::Wanted, block, n) {
@@ -242,7 +241,7 @@ fn in_node(
     around: &Node,
 ) -> Found<Option<Literal>, Item>
     requires { IsScene u.now s.now }
-    ensures is { told_by (may_be_literal s.now) result ≡ tell (so_far s.now) (braces_around (unit_of u.now) block at around.now) }
+    ensures is { told_by (may_be_literal s.now) result ≡ tell (sight s.now) (braces_around (unit_of u.now) block at around.now) }
     ensures over { IfFound result (MayBeLiteralOf s.now) }
 {
     if is_composite(around.kind) {
@@ -260,7 +259,7 @@ fn in_place(
     p: Place,
 ) -> Found<Option<Literal>, Item>
     requires { IsScene u.now s.now }
-    ensures is { told_by (may_be_literal s.now) result ≡ tell (so_far s.now) (braces_in (unit_of u.now) block at p) }
+    ensures is { told_by (may_be_literal s.now) result ≡ tell (sight s.now) (braces_in (unit_of u.now) block at p) }
     ensures over { IfFound result (MayBeLiteralOf s.now) }
 {
     let outer = NodeRef {
@@ -276,7 +275,7 @@ fn in_place(
 /// The literal whose braces stand at a node, where its type is known; or the item for whose mark that waits.
 pub fn braces(u: &Subject, s: &State, block: usize, at: NodeRef) -> Found<Option<Literal>, Item>
     requires { IsScene u.now s.now }
-    ensures is { told_by (may_be_literal s.now) result ≡ tell (so_far s.now) (braces_ask (unit_of u.now) block at) }
+    ensures is { told_by (may_be_literal s.now) result ≡ tell (sight s.now) (braces_ask (unit_of u.now) block at) }
     ensures over { IfFound result (MayBeLiteralOf s.now) }
 {
     match u.place_at(at) {

@@ -2,9 +2,8 @@
 ghost use Rattle.std.specs.Prelude.{◌≡◌, Option, Some, ◌||◌, ◌&&◌, ◌<◌, false, true, not, is_some, length, option_map, IfOk, IfSome, slice_get};
 ghost use Rattle.std.specs.Global.{Vec};
 ghost use Rattle.mark_walk.specs.Telling.{tell};
-ghost use Rattle.typed_marks.specs.States.{so_far};
 ghost use Rattle.unit_read.specs.Subjects.{unit_of};
-ghost use Rattle.rule_words.specs.Scenes.{IsScene, told_by, IfFound, said, IsMarkOf};
+ghost use Rattle.rule_words.specs.Scenes.{sight, IsScene, told_by, IfFound, said, IsMarkOf};
 ghost use Rattle.literal_rules.specs.Items.{pair_key, key_in, key_at, is_keyed, has_key, have_keys, key_ask, item_ask, keys_ask, key_of, is_bad_key, has_bad};
 ghost use Rattle.rule_words.specs.Good.{known_told};
 ghost use Rattle.rule_words.specs.Good.{known_of, AreFactsOf};
@@ -98,7 +97,7 @@ pub fn have_keys(nodes: &[Node], v: &Node) -> bool
 
 fn key_seen(u: &Subject, s: &State, block: usize, k: u32) -> Found<Option<Mark>, Item>
     requires { IsScene u.now s.now }
-    ensures is { told_by (option_map (said s.now)) result ≡ tell (so_far s.now) (key_ask (unit_of u.now) block (Some k)) }
+    ensures is { told_by (option_map (said s.now)) result ≡ tell (sight s.now) (key_ask (unit_of u.now) block (Some k)) }
     ensures over { IfFound result (λ o. IfSome o (IsMarkOf s.now)) }
 {
     match look(u, s, Stage::Placed, block, k) {
@@ -109,7 +108,7 @@ fn key_seen(u: &Subject, s: &State, block: usize, k: u32) -> Found<Option<Mark>,
 
 fn key_mark(u: &Subject, s: &State, block: usize, key: Option<u32>) -> Found<Option<Mark>, Item>
     requires { IsScene u.now s.now }
-    ensures is { told_by (option_map (said s.now)) result ≡ tell (so_far s.now) (key_ask (unit_of u.now) block key) }
+    ensures is { told_by (option_map (said s.now)) result ≡ tell (sight s.now) (key_ask (unit_of u.now) block key) }
     ensures over { IfFound result (λ o. IfSome o (IsMarkOf s.now)) }
 {
     match key {
@@ -126,7 +125,7 @@ fn item_key(
     n: u32,
 ) -> Found<Option<Mark>, Item>
     requires { IsScene u.now s.now }
-    ensures is { told_by (option_map (said s.now)) result ≡ tell (so_far s.now) (item_ask (unit_of u.now) block nodes.now n) }
+    ensures is { told_by (option_map (said s.now)) result ≡ tell (sight s.now) (item_ask (unit_of u.now) block nodes.now n) }
     ensures over { IfFound result (λ o. IfSome o (IsMarkOf s.now)) }
 {
     key_mark(u, s, block, key_in(nodes, n))
@@ -149,7 +148,7 @@ pub fn keys(
     list: &[u32],
 ) -> Result<Found<Vec<Option<Mark>>, Item>, NoMemory>
     requires { IsScene u.now s.now }
-    ensures is { IfOk result (λ found. told_by (λ (v : Vec (Option Mark)). keys_in s.now v.items) found ≡ tell (so_far s.now) (keys_ask (unit_of u.now) block nodes.now list.now)) }
+    ensures is { IfOk result (λ found. told_by (λ (v : Vec (Option Mark)). keys_in s.now v.items) found ≡ tell (sight s.now) (keys_ask (unit_of u.now) block nodes.now list.now)) }
     ensures over { IfOk result (λ found. IfFound found (λ v. AreKeysOf s.now v.items)) }
 {
     let mut out = Vec::new(alloc);

@@ -1,9 +1,8 @@
 //! Names before colons.
 ghost use Rattle.std.specs.Prelude.{◌≡◌};
 ghost use Rattle.mark_walk.specs.Telling.{tell};
-ghost use Rattle.typed_marks.specs.States.{so_far};
 ghost use Rattle.unit_read.specs.Subjects.{unit_of};
-ghost use Rattle.rule_words.specs.Scenes.{IsScene, told_by};
+ghost use Rattle.rule_words.specs.Scenes.{sight, IsScene, told_by};
 ghost use Rattle.literal_rules.specs.Keys.{role_in, role_told, role_around, pair_role, key_role};
 ghost use Rattle.literal_rules.specs.InCode.{shape_in, may_be_literal};
 
@@ -38,7 +37,7 @@ fn role_in(s: &State, shape: Shape) -> KeyRole
 }
 
 fn role_told(s: &State, l: Option<Literal>) -> Found<KeyRole, Item>
-    ensures { told_by (λ role. role) result ≡ tell (so_far s.now) (role_told (may_be_literal s.now l)) }
+    ensures { told_by (λ role. role) result ≡ tell (sight s.now) (role_told (may_be_literal s.now l)) }
 {
     match l {
         Some(l) => Found::Is(role_in(s, l.shape)),
@@ -55,7 +54,7 @@ fn role_around(
     outer: Place,
 ) -> Found<KeyRole, Item>
     requires { IsScene u.now s.now }
-    ensures { told_by (λ role. role) result ≡ tell (so_far s.now) (role_around (unit_of u.now) block file outer) }
+    ensures { told_by (λ role. role) result ≡ tell (sight s.now) (role_around (unit_of u.now) block file outer) }
 {
     let at = NodeRef {
         file,
@@ -69,7 +68,7 @@ fn role_around(
 
 fn pair_role(u: &Subject, s: &State, block: usize, file: u32, p: Place) -> Found<KeyRole, Item>
     requires { IsScene u.now s.now }
-    ensures { told_by (λ role. role) result ≡ tell (so_far s.now) (pair_role (unit_of u.now) block file p) }
+    ensures { told_by (λ role. role) result ≡ tell (sight s.now) (pair_role (unit_of u.now) block file p) }
 {
     let pair = NodeRef {
         file,
@@ -84,7 +83,7 @@ fn pair_role(u: &Subject, s: &State, block: usize, file: u32, p: Place) -> Found
 /// What a bare name before a colon is, or the item for whose mark that waits.
 pub fn key_role(u: &Subject, s: &State, block: usize, at: NodeRef) -> Found<KeyRole, Item>
     requires { IsScene u.now s.now }
-    ensures { told_by (λ role. role) result ≡ tell (so_far s.now) (key_role (unit_of u.now) block at) }
+    ensures { told_by (λ role. role) result ≡ tell (sight s.now) (key_role (unit_of u.now) block at) }
 {
     match u.place_at(at) {
         Some(p) => pair_role(u, s, block, at.file, p),

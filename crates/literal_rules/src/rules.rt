@@ -2,10 +2,9 @@
 ghost use Rattle.std.specs.Prelude.{◌≡◌, option_map, IfOk};
 ghost use Rattle.mark_walk.specs.Asks.{bind};
 ghost use Rattle.mark_walk.specs.Telling.{tell};
-ghost use Rattle.typed_marks.specs.States.{so_far};
 ghost use Rattle.unit_read.specs.Subjects.{unit_of};
 ghost use Rattle.unit_read.specs.Units.{nodes_at};
-ghost use Rattle.rule_words.specs.Scenes.{IsScene, said, IsMarkOf, type_in, IsTypeOf, MayBeTypeOf, parts_in, AreSeenOf};
+ghost use Rattle.rule_words.specs.Scenes.{sight, IsScene, said, IsMarkOf, type_in, IsTypeOf, MayBeTypeOf, parts_in, AreSeenOf};
 ghost use Rattle.rule_words.specs.Steps.{step_in, IsStepOf};
 ghost use Rattle.rule_words.specs.Wanting.{wanted_of, IsWantedOf};
 ghost use Rattle.literal_rules.specs.Rules.{row_by, map_by, shape_rule, literal_told, braces_rule, braces_at, composite_rule, own_rule, inner_in, inner_rule, type_told, dots_in, dots_rule, form_rule, literal_rule};
@@ -44,7 +43,7 @@ fn judge_row(
     requires scene { IsScene u.now s.now }
     requires of { MayBeTypeOf s.now of }
     requires element { IsTypeOf s.now e }
-    ensures is { IfOk result (λ step. step_in s.now step ≡ tell (so_far s.now) (bind (keys_ask (unit_of u.now) block (nodes_at (unit_of u.now) file) v.now.parts) (row_by (option_map (type_in s.now) of) (type_in s.now e) limit))) }
+    ensures is { IfOk result (λ step. step_in s.now step ≡ tell (sight s.now) (bind (keys_ask (unit_of u.now) block (nodes_at (unit_of u.now) file) v.now.parts) (row_by (option_map (type_in s.now) of) (type_in s.now e) limit))) }
     ensures over { IfOk result (IsStepOf s.now) }
 {
     let found = keys(alloc, u, s, block, u.nodes_at(file), v.parts.as_slice())?;
@@ -69,7 +68,7 @@ fn judge_map(
 ) -> Result<Step, NoMemory>
     requires scene { IsScene u.now s.now }
     requires of { MayBeTypeOf s.now of }
-    ensures is { IfOk result (λ step. step_in s.now step ≡ tell (so_far s.now) (bind (keys_ask (unit_of u.now) block (nodes_at (unit_of u.now) file) v.now.parts) (map_by (option_map (type_in s.now) of)))) }
+    ensures is { IfOk result (λ step. step_in s.now step ≡ tell (sight s.now) (bind (keys_ask (unit_of u.now) block (nodes_at (unit_of u.now) file) v.now.parts) (map_by (option_map (type_in s.now) of)))) }
     ensures over { IfOk result (IsStepOf s.now) }
 {
     let found = keys(alloc, u, s, block, u.nodes_at(file), v.parts.as_slice())?;
@@ -95,7 +94,7 @@ fn judge_shape(
     requires scene { IsScene u.now s.now }
     requires of { MayBeTypeOf s.now of }
     requires shape { IsShapeOf s.now shape }
-    ensures is { IfOk result (λ step. step_in s.now step ≡ tell (so_far s.now) (shape_rule (unit_of u.now) block file v.now (option_map (type_in s.now) of) (shape_in s.now shape))) }
+    ensures is { IfOk result (λ step. step_in s.now step ≡ tell (sight s.now) (shape_rule (unit_of u.now) block file v.now (option_map (type_in s.now) of) (shape_in s.now shape))) }
     ensures over { IfOk result (IsStepOf s.now) }
 {
     match shape {
@@ -129,7 +128,7 @@ fn judge_told(
 ) -> Result<Step, NoMemory>
     requires scene { IsScene u.now s.now }
     requires literal { MayBeLiteralOf s.now l }
-    ensures is { IfOk result (λ step. step_in s.now step ≡ tell (so_far s.now) (literal_told (unit_of u.now) block file v.now (may_be_literal s.now l))) }
+    ensures is { IfOk result (λ step. step_in s.now step ≡ tell (sight s.now) (literal_told (unit_of u.now) block file v.now (may_be_literal s.now l))) }
     ensures over { IfOk result (IsStepOf s.now) }
 {
     match l {
@@ -151,7 +150,7 @@ fn judge_braces(
     v: &Node,
 ) -> Result<Step, NoMemory>
     requires scene { IsScene u.now s.now }
-    ensures is { IfOk result (λ step. step_in s.now step ≡ tell (so_far s.now) (braces_rule (unit_of u.now) block at v.now)) }
+    ensures is { IfOk result (λ step. step_in s.now step ≡ tell (sight s.now) (braces_rule (unit_of u.now) block at v.now)) }
     ensures over { IfOk result (IsStepOf s.now) }
 {
     match braces(u, s, block, at) {
@@ -172,7 +171,7 @@ fn judge_braces_at(
     n: u32,
 ) -> Result<Step, NoMemory>
     requires scene { IsScene u.now s.now }
-    ensures is { IfOk result (λ step. step_in s.now step ≡ tell (so_far s.now) (braces_at (unit_of u.now) block file n)) }
+    ensures is { IfOk result (λ step. step_in s.now step ≡ tell (sight s.now) (braces_at (unit_of u.now) block file n)) }
     ensures over { IfOk result (IsStepOf s.now) }
 {
     match node_of(u.nodes_at(file), n) {
@@ -193,7 +192,7 @@ fn judge_composite(
     node: &Node,
 ) -> Result<Step, NoMemory>
     requires scene { IsScene u.now s.now }
-    ensures is { IfOk result (λ step. step_in s.now step ≡ tell (so_far s.now) (composite_rule (unit_of u.now) block file node.now)) }
+    ensures is { IfOk result (λ step. step_in s.now step ≡ tell (sight s.now) (composite_rule (unit_of u.now) block file node.now)) }
     ensures over { IfOk result (IsStepOf s.now) }
 {
     match part_of(node, 1) {
@@ -217,7 +216,7 @@ fn judge_own(
     around: &Node,
 ) -> Result<Step, NoMemory>
     requires scene { IsScene u.now s.now }
-    ensures is { IfOk result (λ step. step_in s.now step ≡ tell (so_far s.now) (own_rule (unit_of u.now) block at v.now around.now)) }
+    ensures is { IfOk result (λ step. step_in s.now step ≡ tell (sight s.now) (own_rule (unit_of u.now) block at v.now around.now)) }
     ensures over { IfOk result (IsStepOf s.now) }
 {
     if is_composite(around.kind) {
@@ -238,7 +237,7 @@ fn judge_in(
     p: Place,
 ) -> Result<Step, NoMemory>
     requires scene { IsScene u.now s.now }
-    ensures is { IfOk result (λ step. step_in s.now step ≡ tell (so_far s.now) (inner_in (unit_of u.now) block at v.now p)) }
+    ensures is { IfOk result (λ step. step_in s.now step ≡ tell (sight s.now) (inner_in (unit_of u.now) block at v.now p)) }
     ensures over { IfOk result (IsStepOf s.now) }
 {
     let outer = NodeRef {
@@ -263,7 +262,7 @@ fn judge_inner(
     v: &Node,
 ) -> Result<Step, NoMemory>
     requires scene { IsScene u.now s.now }
-    ensures is { IfOk result (λ step. step_in s.now step ≡ tell (so_far s.now) (inner_rule (unit_of u.now) block at v.now)) }
+    ensures is { IfOk result (λ step. step_in s.now step ≡ tell (sight s.now) (inner_rule (unit_of u.now) block at v.now)) }
     ensures over { IfOk result (IsStepOf s.now) }
 {
     match u.place_at(at) {
@@ -279,7 +278,7 @@ fn judge_inner(
 
 fn type_told(s: &State, m: Mark) -> Step
     requires { IsMarkOf s.now m }
-    ensures is { step_in s.now result ≡ tell (so_far s.now) (type_told (said s.now m)) }
+    ensures is { step_in s.now result ≡ tell (sight s.now) (type_told (said s.now m)) }
     ensures over { IsStepOf s.now result }
 {
     match known(s, m) {
@@ -290,7 +289,7 @@ fn type_told(s: &State, m: Mark) -> Step
 
 fn judge_dots_in(u: &Subject, s: &State, block: usize, p: Place) -> Step
     requires { IsScene u.now s.now }
-    ensures is { step_in s.now result ≡ tell (so_far s.now) (dots_in (unit_of u.now) block p) }
+    ensures is { step_in s.now result ≡ tell (sight s.now) (dots_in (unit_of u.now) block p) }
     ensures over { IsStepOf s.now result }
 {
     match look(u, s, Stage::Before, block, p.around) {
@@ -301,7 +300,7 @@ fn judge_dots_in(u: &Subject, s: &State, block: usize, p: Place) -> Step
 
 fn judge_dots(u: &Subject, s: &State, block: usize, at: NodeRef) -> Step
     requires { IsScene u.now s.now }
-    ensures is { step_in s.now result ≡ tell (so_far s.now) (dots_rule (unit_of u.now) block at) }
+    ensures is { step_in s.now result ≡ tell (sight s.now) (dots_rule (unit_of u.now) block at) }
     ensures over { IsStepOf s.now result }
 {
     match u.place_at(at) {
@@ -322,7 +321,7 @@ fn judge_form(
     form: Form,
 ) -> Result<Step, NoMemory>
     requires scene { IsScene u.now s.now }
-    ensures is { IfOk result (λ step. step_in s.now step ≡ tell (so_far s.now) (form_rule (unit_of u.now) block at node.now form)) }
+    ensures is { IfOk result (λ step. step_in s.now step ≡ tell (sight s.now) (form_rule (unit_of u.now) block at node.now form)) }
     ensures over { IfOk result (IsStepOf s.now) }
 {
     match form {
@@ -354,7 +353,7 @@ pub fn judge_literal(
     requires scene { IsScene u.now s.now }
     requires parts { AreSeenOf s.now parts.now }
     requires wanted { IsWantedOf s.now wanted }
-    ensures is { IfOk result (λ step. step_in s.now step ≡ tell (so_far s.now) (literal_rule (unit_of u.now) block at node.now (parts_in s.now parts.now) (wanted_of s.now wanted))) }
+    ensures is { IfOk result (λ step. step_in s.now step ≡ tell (sight s.now) (literal_rule (unit_of u.now) block at node.now (parts_in s.now parts.now) (wanted_of s.now wanted))) }
     ensures over { IfOk result (IsStepOf s.now) }
 {
     let _ = parts;

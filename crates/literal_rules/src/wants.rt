@@ -8,9 +8,8 @@ ghost use Rattle.gv_base.specs.declared.constant.Kind.TheVariants as kinds;
 ghost use Rattle.type_model.specs.GoTypes.{BasicType};
 ghost use Rattle.typed_tree.specs.declared.place.Want.TheVariants as demands;
 ghost use Rattle.typed_marks.specs.Meanings.{Takes, Wishes};
-ghost use Rattle.typed_marks.specs.States.{so_far};
 ghost use Rattle.unit_read.specs.Subjects.{unit_of};
-ghost use Rattle.rule_words.specs.Scenes.{IsScene, told_by, IfFound, said, IsMarkOf, type_in, IsTypeOf};
+ghost use Rattle.rule_words.specs.Scenes.{sight, IsScene, told_by, IfFound, said, IsMarkOf, type_in, IsTypeOf};
 ghost use Rattle.literal_rules.specs.Wants.{nothing_wanted, type_wanted, assigned, field_wanted, of_field, element_wanted, nth_field, field_on, keyed_field, key_wanted, by_shape, plain_want, item_want, element_want, pair_wanted, pair_in, pair_want, composite_want, form_wants, literal_wants};
 ghost use Rattle.literal_rules.specs.InCode.{shape_in, IsShapeOf, field_in, fields_in, may_be_literal, MayBeLiteralOf};
 
@@ -182,7 +181,7 @@ fn key_wanted(s: &State, shape: Shape) -> Mark
 fn plain_told(s: &State, braces: bool, slot: usize, l: Option<Literal>) -> Found<Mark, Item>
     requires table { IsTable s.now.table }
     requires literal { MayBeLiteralOf s.now l }
-    ensures is { told_by (said s.now) result ≡ tell (so_far s.now) (by_shape (element_wanted braces (nth_field slot)) (may_be_literal s.now l)) }
+    ensures is { told_by (said s.now) result ≡ tell (sight s.now) (by_shape (element_wanted braces (nth_field slot)) (may_be_literal s.now l)) }
     ensures over { IfFound result (IsMarkOf s.now) }
 {
     match l {
@@ -194,7 +193,7 @@ fn plain_told(s: &State, braces: bool, slot: usize, l: Option<Literal>) -> Found
 #[tactic(auto, using(rule_words::proofs::BindLaws::says_bind, rule_words::proofs::BindLaws::waits_bind))]
 fn plain_want(u: &Subject, s: &State, block: usize, p: Place, n: u32) -> Found<Mark, Item>
     requires { IsScene u.now s.now }
-    ensures is { told_by (said s.now) result ≡ tell (so_far s.now) (plain_want (unit_of u.now) block p n) }
+    ensures is { told_by (said s.now) result ≡ tell (sight s.now) (plain_want (unit_of u.now) block p n) }
     ensures over { IfFound result (IsMarkOf s.now) }
 {
     let at = NodeRef {
@@ -209,7 +208,7 @@ fn plain_want(u: &Subject, s: &State, block: usize, p: Place, n: u32) -> Found<M
 
 fn item_want(u: &Subject, s: &State, block: usize, p: Place, n: u32) -> Found<Mark, Item>
     requires { IsScene u.now s.now }
-    ensures is { told_by (said s.now) result ≡ tell (so_far s.now) (item_want (unit_of u.now) block p n) }
+    ensures is { told_by (said s.now) result ≡ tell (sight s.now) (item_want (unit_of u.now) block p n) }
     ensures over { IfFound result (IsMarkOf s.now) }
 {
     if is_pair(kind_of(nodes_in(u, block), n)) {
@@ -221,7 +220,7 @@ fn item_want(u: &Subject, s: &State, block: usize, p: Place, n: u32) -> Found<Ma
 
 fn element_want(u: &Subject, s: &State, block: usize, p: Place, around: &Node) -> Found<Mark, Item>
     requires { IsScene u.now s.now }
-    ensures is { told_by (said s.now) result ≡ tell (so_far s.now) (element_want (unit_of u.now) block p around.now) }
+    ensures is { told_by (said s.now) result ≡ tell (sight s.now) (element_want (unit_of u.now) block p around.now) }
     ensures over { IfFound result (IsMarkOf s.now) }
 {
     match part_of(around, p.slot) {
@@ -272,7 +271,7 @@ fn pair_told(
 ) -> Found<Mark, Item>
     requires scene { IsScene u.now s.now }
     requires literal { MayBeLiteralOf s.now l }
-    ensures is { told_by (said s.now) result ≡ tell (so_far s.now) (by_shape (pair_wanted (unit_of u.now) block p around.now i) (may_be_literal s.now l)) }
+    ensures is { told_by (said s.now) result ≡ tell (sight s.now) (by_shape (pair_wanted (unit_of u.now) block p around.now i) (may_be_literal s.now l)) }
     ensures over { IfFound result (IsMarkOf s.now) }
 {
     match l {
@@ -291,7 +290,7 @@ fn pair_in(
     outer: Place,
 ) -> Found<Mark, Item>
     requires { IsScene u.now s.now }
-    ensures is { told_by (said s.now) result ≡ tell (so_far s.now) (pair_in (unit_of u.now) block p around.now outer) }
+    ensures is { told_by (said s.now) result ≡ tell (sight s.now) (pair_in (unit_of u.now) block p around.now outer) }
     ensures over { IfFound result (IsMarkOf s.now) }
 {
     let at = NodeRef {
@@ -306,7 +305,7 @@ fn pair_in(
 
 fn pair_want(u: &Subject, s: &State, block: usize, p: Place, around: &Node) -> Found<Mark, Item>
     requires { IsScene u.now s.now }
-    ensures is { told_by (said s.now) result ≡ tell (so_far s.now) (pair_want (unit_of u.now) block p around.now) }
+    ensures is { told_by (said s.now) result ≡ tell (sight s.now) (pair_want (unit_of u.now) block p around.now) }
     ensures over { IfFound result (IsMarkOf s.now) }
 {
     let pair = NodeRef {
@@ -341,7 +340,7 @@ fn form_wants(
     form: Form,
 ) -> Found<Mark, Item>
     requires { IsScene u.now s.now }
-    ensures is { told_by (said s.now) result ≡ tell (so_far s.now) (form_wants (unit_of u.now) block p around.now form) }
+    ensures is { told_by (said s.now) result ≡ tell (sight s.now) (form_wants (unit_of u.now) block p around.now form) }
     ensures over { IfFound result (IsMarkOf s.now) }
 {
     match form {
@@ -362,7 +361,7 @@ pub fn want_literal(
     around: &Node,
 ) -> Found<Mark, Item>
     requires { IsScene u.now s.now }
-    ensures is { told_by (said s.now) result ≡ tell (so_far s.now) (literal_wants (unit_of u.now) block p around.now) }
+    ensures is { told_by (said s.now) result ≡ tell (sight s.now) (literal_wants (unit_of u.now) block p around.now) }
     ensures over { IfFound result (IsMarkOf s.now) }
 {
     let form = form_of(around.kind);

@@ -1,6 +1,7 @@
 -- Laws of rules that ask, whatever the rules and the questions are.
-use Rattle.std.proofs.Common.{◌≡◌, ℕ, ◌<◌, List, [], ◌∷◌, Option, Some, None, unwrap_or, refl, sym, ap, ◌∙◌, subst, inl, inr, arith}
-use Rattle.mark_walk.specs.Asks.{Ask, done, ask, put, Gives, Awaits, Lasting, Annotates, Sound, Keeps, Adds, Stays, IsMarked, IsFirst, AreAllMarked, IsTheAnnotation, filled, bind, IsChain, WaitsFor, AreRanked}
+use Rattle.std.proofs.Common.{◌≡◌, ◌⊎◌, ℕ, ◌<◌, List, [], ◌∷◌, Option, Some, None, unwrap_or, refl, sym, ap, ◌∙◌, subst, inl, inr, arith}
+use Rattle.mark_walk.specs.Asks.{Ask, done, ask, put, Gives, Awaits, Lasting, Annotates, Comes, Sound, Keeps, Adds, Stays, IsMarked, IsFirst, GivesAlone, AreAllMarked, HasCome, IsTheAnnotation, filled, bind, IsChain, WaitsFor, AreRanked}
+use Rattle.mark_walk.specs.Asks.Comes.{at_first, and_one, as_before}
 use Rattle.mark_walk.specs.Marking.{Steps, Goes}
 
 some_one : {M : Type 0} (o : Option M) (a b : M) → o ≡ Some a → o ≡ Some b → a ≡ b
@@ -71,11 +72,12 @@ module _ {I M Q A : Type 0} (says : (I → Option M) → Q → A → Type 0) (pe
       | inr was ↦ sound.forced marks all j n was
     ]
 
-    sound_adds : Sound says rule next
-    sound_adds = record { obeys = obeys_next; forced = forced_next }
+    pub sound_adds : Sound says rule next
+    sound_adds = record { comes = and_one so_far next i m sound.comes gives adds; obeys = obeys_next; forced = forced_next }
 
-  sound_stays : (rule : I → Ask I M Q A M) (so_far next : I → Option M) → Sound says rule so_far → Stays so_far next → Sound says rule next
+  pub sound_stays : (rule : I → Ask I M Q A M) (so_far next : I → Option M) → Sound says rule so_far → Stays so_far next → Sound says rule next
   sound_stays rule so_far next sound s = record {
+    comes = as_before so_far next sound.comes s;
     obeys = λ j n e. gives_more so_far next s.stays (rule j) n (sound.obeys j n (s.only j n e));
     forced = λ marks all j n e. sound.forced marks all j n (s.only j n e);
   }
@@ -87,31 +89,44 @@ module _ {I M Q A : Type 0} (says : (I → Option M) → Q → A → Type 0) (pe
 
   -- ---- whole annotations
 
-  module _ (blank : M) (rule : I → Ask I M Q A M) (so_far : I → Option M) (sound : Sound says rule so_far) (all : AreAllMarked blank rule so_far) where
-    annotates : Annotates says rule (filled blank so_far)
-    annotates i = elim (all i) [
-      | inl (m, e) ↦ marked m e
-      | inr is ↦ by (so_far i) refl is
-    ] where
-      marked : (m : M) → so_far i ≡ Some m → Gives says (λ j. Some (filled blank so_far j)) (rule i) (filled blank so_far i)
-      marked m e = subst (λ (x : M). Gives says (λ j. Some (filled blank so_far j)) (rule i) x) (sym (ap (λ o. unwrap_or o blank) e))
-          (gives_all so_far (filled blank so_far) (λ j n at. ap (λ o. unwrap_or o blank) at) (rule i) m (sound.obeys i m e))
+  -- what a rule gives by itself it gives over all marks, and nothing else
+  pub alone_gives : (rule : I → Ask I M Q A M) (marks : I → M) (i : I) (m : M) → GivesAlone rule i m → Gives says (λ j. Some (marks j)) (rule i) m
+  alone_gives rule marks i m (inl is) = subst (λ (r : Ask I M Q A M). Gives says (λ j. Some (marks j)) r m) (sym is) refl
+  alone_gives rule marks i m (inr is) = subst (λ (r : Ask I M Q A M). Gives says (λ j. Some (marks j)) r m) (sym is) (marks i, refl, refl)
 
-      by : (o : Option M) → so_far i ≡ o → rule i ≡ done blank → Gives says (λ j. Some (filled blank so_far j)) (rule i) (filled blank so_far i)
-      by None e is = subst (λ (r : Ask I M Q A M). Gives says (λ j. Some (filled blank so_far j)) r (filled blank so_far i)) (sym is) (sym (ap (λ o. unwrap_or o blank) e))
-      by (Some m) e is = marked m e
+  pub alone_once : (rule : I → Ask I M Q A M) (x : I → Option M) (i : I) (m n : M) → GivesAlone rule i m → Gives says x (rule i) n → m ≡ n
+  alone_once rule x i m n (inl is) gives = subst (λ (r : Ask I M Q A M). Gives says x r n) is gives
+  alone_once rule x i m n (inr is) gives = let given : Gives says x (ask i (λ y. done m)) n = subst (λ (r : Ask I M Q A M). Gives says x r n) is gives in given.2
+
+  module _ (blank : M) (rule : I → Ask I M Q A M) (so_far : I → Option M) (sound : Sound says rule so_far) (all : AreAllMarked blank rule so_far) where
+    -- what has no mark counts as blank
+    left_blank : (i : I) → so_far i ≡ None → filled blank so_far i ≡ blank
+    left_blank i none = ap (λ o. unwrap_or o blank) none
+
+    each : (i : I) → (so_far i ≡ Some (filled blank so_far i)) ⊎ GivesAlone rule i (filled blank so_far i)
+    each i = by (so_far i) refl (all i) where
+      by : (o : Option M) → so_far i ≡ o → IsMarked so_far i ⊎ GivesAlone rule i blank → (so_far i ≡ Some (filled blank so_far i)) ⊎ GivesAlone rule i (filled blank so_far i)
+      by (Some m) e is = inl (e ∙ ap Some (sym (ap (λ o. unwrap_or o blank) e)))
+      by None e (inl (m, is)) = absurd cc
+      by None e (inr is) = inr (subst (GivesAlone rule i) (sym (left_blank i e)) is)
+
+    annotates : Annotates says rule (filled blank so_far)
+    annotates i = elim (each i) [
+      | inl e ↦ gives_all so_far (filled blank so_far) (λ j n at. ap (λ o. unwrap_or o blank) at) (rule i) (filled blank so_far i) (sound.obeys i (filled blank so_far i) e)
+      | inr is ↦ alone_gives rule (filled blank so_far) i (filled blank so_far i) is
+    ]
 
     alone : (marks : I → M) → Annotates says rule marks → (i : I) → marks i ≡ filled blank so_far i
-    alone marks are i = elim (all i) [
-      | inl (m, e) ↦ sound.forced marks are i m e ∙ sym (ap (λ o. unwrap_or o blank) e)
-      | inr is ↦ by (so_far i) refl is
-    ] where
-      by : (o : Option M) → so_far i ≡ o → rule i ≡ done blank → marks i ≡ filled blank so_far i
-      by None e is = sym (subst (λ (r : Ask I M Q A M). Gives says (λ j. Some (marks j)) r (marks i)) is (are i)) ∙ sym (ap (λ o. unwrap_or o blank) e)
-      by (Some m) e is = sound.forced marks are i m e ∙ sym (ap (λ o. unwrap_or o blank) e)
+    alone marks are i = elim (each i) [
+      | inl e ↦ sound.forced marks are i (filled blank so_far i) e
+      | inr is ↦ sym (alone_once rule (λ j. Some (marks j)) i (filled blank so_far i) (marks i) is (are i))
+    ]
+
+    come : HasCome says rule (filled blank so_far)
+    come = record { so_far = so_far; comes = sound.comes; each = each }
 
     pub the_annotation : IsTheAnnotation says rule (filled blank so_far)
-    the_annotation = record { «is» = annotates; alone = alone }
+    the_annotation = record { «is» = annotates; alone = alone; come = come }
 
 -- ---- from marks to marks
 
@@ -145,7 +160,7 @@ first_forced says rule so_far first marks all i m e = elim (first i) [
 ]
 
 pub first_sound : {I M Q A : Type 0} (says : (I → Option M) → Q → A → Type 0) (rule : I → Ask I M Q A M) (so_far : I → Option M) → IsFirst rule so_far → Sound says rule so_far
-first_sound says rule so_far first = record { obeys = first_obeys says rule so_far first; forced = first_forced says rule so_far first }
+first_sound says rule so_far first = record { comes = at_first so_far first; obeys = first_obeys says rule so_far first; forced = first_forced says rule so_far first }
 
 -- ---- circles
 

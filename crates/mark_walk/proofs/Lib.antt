@@ -1,3 +1,4 @@
 pub mod AskLaws
+pub mod MoreLaws
 pub mod TellLaws
 pub mod WaitLemmas

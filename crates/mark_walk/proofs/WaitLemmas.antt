@@ -4,7 +4,7 @@ use Rattle.std.proofs.lemmas.Option.{slice_get_within}
 use Rattle.gv_base.proofs.Lists.{same_some, some_once, got, push_left, push_cases, at_end, get_last, get_set_same, set_cases}
 use Rattle.mark_walk.specs.Asks.{Ask, Awaits, Lasting, Adds, Stays, IsMarked, IsChain, WaitsFor}
 use Rattle.mark_walk.specs.Marking.{AreNumbers, Steps}
-use Rattle.mark_walk.specs.Waiting.{AreMet, Waits, Rests, unnoted, left_to_do, NotesStay, IsCircle}
+use Rattle.mark_walk.specs.Waiting.{AreMet, Waits, Rests, unnoted, left_to_do, NotesStay, IsCircle, IsFirst}
 use Rattle.mark_walk.specs.declared.walk.Walk.{Walk}
 use Rattle.mark_walk.proofs.AskLaws.{awaited_none, awaits_more, marked_still}
 
@@ -191,6 +191,19 @@ module _ {I M Q A : Type 0} (says : (I → Option M) → Q → A → Type 0) (pe
           ]
     ]
 
+    -- so does what waits first wait for it
+    pub first_circle : (x : I) → slice_get (w ++ t ∷ []) 0 ≡ Some x → WaitsFor (λ x. Awaits says pends next (rule x)) x o
+    first_circle x at = elim (leads (length w) 0 x (omega arith) at) [
+      | inl same ↦ ([], subst (λ (z : I). Awaits says pends next (rule z) o) (sym same) last_next)
+      | inr more ↦ then_last x t o more last_next
+    ]
+
+    pub whole_circle : slice_get met (number o) ≡ Some true → IsCircle (λ x. Awaits says pends next (rule x)) (IsFirst (w ++ t ∷ [])) (Some o)
+    whole_circle noted =
+        let size = length_push w t in
+        let begin = got (w ++ t ∷ []) 0 (omega (arith, size)) in
+        (a_circle noted, begin.0, begin.1, first_circle begin.0 begin.1)
+
   -- ---- a step
 
   pub marked_waits : (o : Option I) → o ≡ None → Steps says pends IsItem rule so_far next t o → Waits IsItem number count (λ x. Awaits says pends next (rule x)) next w met
@@ -246,15 +259,26 @@ module _ {I M Q A : Type 0} (says : (I → Option M) → Q → A → Type 0) (pe
         (subst (λ l. Waits IsItem number count (λ y. Awaits says pends next (rule y)) next ((w ++ t ∷ []) ++ o ∷ []) l) (sym (noted new))
         (more_wait o is (subst (λ (y : I). Awaits says pends so_far (rule t) y) same awaits) stays new))
 
-    pub push_circle : (x : Option I) → x ≡ Some o → Steps says pends IsItem rule so_far next t x → IsCircle (λ y. Awaits says pends next (rule y)) circle
+    -- what is first stays so
+    pub push_first : (x : Option I) → x ≡ Some o → Steps says pends IsItem rule so_far next t x → circle ≡ None → (y : I) → IsFirst waiting y → IsFirst (w ++ t ∷ []) y
+    push_first None e steps none y at = absurd cc
+    push_first (Some j) e (item, awaits, stays) none y at =
+        let new = is_new (subst IsItem (some_once e) item) none in
+        let size = length_push w t in
+        elim (push_cases (w ++ t ∷ []) o y 0 (subst (λ (l : List I). IsFirst l y) (pushed new) at)) [
+          | inl old ↦ old
+          | inr (last, is) ↦ absurd (omega (arith, last, size))
+        ]
+
+    pub push_circle : (x : Option I) → x ≡ Some o → Steps says pends IsItem rule so_far next t x → IsCircle (λ y. Awaits says pends next (rule y)) (IsFirst (w ++ t ∷ [])) circle
     push_circle None e steps = absurd cc
     push_circle (Some j) e (item, awaits, stays) = by (note_of is).0 (note_of is).1 where
       is : IsItem o
       is = subst IsItem (some_once e) item
 
-      by : (b : Bool) → slice_get met (number o) ≡ Some b → IsCircle (λ y. Awaits says pends next (rule y)) circle
-      by true at = subst (IsCircle (λ y. Awaits says pends next (rule y))) (sym (again at)) (a_circle o is (subst (λ (y : I). Awaits says pends so_far (rule t) y) (some_once e) awaits) stays at)
-      by false at = subst (IsCircle (λ y. Awaits says pends next (rule y))) (sym (first at)) tt
+      by : (b : Bool) → slice_get met (number o) ≡ Some b → IsCircle (λ y. Awaits says pends next (rule y)) (IsFirst (w ++ t ∷ [])) circle
+      by true at = subst (IsCircle (λ y. Awaits says pends next (rule y)) (IsFirst (w ++ t ∷ []))) (sym (again at)) (whole_circle o is (subst (λ (y : I). Awaits says pends so_far (rule t) y) (some_once e) awaits) stays at)
+      by false at = subst (IsCircle (λ y. Awaits says pends next (rule y)) (IsFirst (w ++ t ∷ []))) (sym (first at)) tt
 
 -- ---- the first and the last
 
@@ -313,5 +337,12 @@ not_marked so_far i b unset tells = by (so_far i) refl where
   by None e = e
   by (Some m) e = absurd (let yes = tells (m, e) in cc)
 
-pub circle_of : {I : Type 0} (awaits : I → I → Type 0) (x : Option I) (i : I) → x ≡ Some i → IsCircle awaits x → WaitsFor awaits i i
-circle_of awaits x i e circle = subst (IsCircle awaits) e circle
+pub circle_of : {I : Type 0} (awaits : I → I → Type 0) (First : I → Type 0) (item : I) (x : Option I) (i : I) → x ≡ Some i → IsCircle awaits First x → ((k : I) → First k → k ≡ item)
+    → IsCircle awaits (λ k. k ≡ item) (Some i)
+circle_of awaits First item x i e circle first =
+    let met = subst (IsCircle awaits First) e circle in
+    (met.0, met.1, first met.1 met.2, met.3)
+
+-- it waits first where nothing waited
+pub first_is : {I : Type 0} (list : List I) (item x : I) → list ≡ [] → IsFirst (list ++ item ∷ []) x → x ≡ item
+first_is list item x idle at = sym (some_once (subst (λ l. IsFirst (l ++ item ∷ []) x) idle at))

@@ -48,11 +48,6 @@ pub record Lasting {I M Q A : Type 0} (says : (I → Option M) → Q → A → T
 abbrev pub Annotates : {I M Q A : Type 0} → ((I → Option M) → Q → A → Type 0) → (I → Ask I M Q A M) → (I → M) → Type 0
 Annotates {I} says rule marks = (i : I) → Gives says (λ j. Some (marks j)) (rule i) (marks i)
 
--- What holds of the marks so far: each is the one that its rule gives from marks that are there, and every annotation gives it.
-pub record Sound {I M Q A : Type 0} (says : (I → Option M) → Q → A → Type 0) (rule : I → Ask I M Q A M) (so_far : I → Option M) : Type 0 where
-  pub obeys : (i : I) (m : M) → so_far i ≡ Some m → Gives says so_far (rule i) m
-  pub forced : (marks : I → M) → Annotates says rule marks → (i : I) (m : M) → so_far i ≡ Some m → marks i ≡ m
-
 -- before anything is marked: an item has no mark, or that which its rule gives at once
 abbrev pub IsFirst : {I M Q A : Type 0} → (I → Ask I M Q A M) → (I → Option M) → Type 0
 IsFirst {I} {M} rule so_far = (i : I) → (so_far i ≡ None) ⊎ ((m : M) × (so_far i ≡ Some m) × (rule i ≡ done m))
@@ -68,21 +63,46 @@ pub record Stays {I M : Type 0} (so_far next : I → Option M) : Type 0 where
   pub stays : (j : I) (n : M) → so_far j ≡ Some n → next j ≡ Some n
   pub only : (j : I) (n : M) → next j ≡ Some n → so_far j ≡ Some n
 
+-- The marks came one after the other, each by its rule from those that were there. So they rest on nothing but rules and answers, and where
+-- more is answered they come in the same way.
+pub data Comes {I M Q A : Type 0} (says : (I → Option M) → Q → A → Type 0) (rule : I → Ask I M Q A M) : (I → Option M) → Type 0 where
+  at_first : (so_far : I → Option M) → IsFirst rule so_far → Comes says rule so_far
+  and_one : (so_far more : I → Option M) (i : I) (m : M) → Comes says rule so_far → Gives says so_far (rule i) m → Adds so_far more i m → Comes says rule more
+  as_before : (so_far more : I → Option M) → Comes says rule so_far → Stays so_far more → Comes says rule more
+
+-- What holds of the marks so far: they came one after the other; each is the one that its rule gives from marks that are there, and every annotation
+-- gives it.
+pub record Sound {I M Q A : Type 0} (says : (I → Option M) → Q → A → Type 0) (rule : I → Ask I M Q A M) (so_far : I → Option M) : Type 0 where
+  pub comes : Comes says rule so_far
+  pub obeys : (i : I) (m : M) → so_far i ≡ Some m → Gives says so_far (rule i) m
+  pub forced : (marks : I → M) → Annotates says rule marks → (i : I) (m : M) → so_far i ≡ Some m → marks i ≡ m
+
 abbrev pub IsMarked : {I M : Type 0} → (I → Option M) → I → Type 0
 IsMarked {I} {M} so_far i = (m : M) × (so_far i ≡ Some m)
 
--- each item is marked, or its rule gives a blank at once
+-- the rule of an item gives this at once; or it waits for the item itself, and whatever that has, it gives this
+abbrev pub GivesAlone : {I M Q A : Type 0} → (I → Ask I M Q A M) → I → M → Type 0
+GivesAlone rule i m = (rule i ≡ done m) ⊎ (rule i ≡ ask i (λ x. done m))
+
+-- each item is marked, or its rule gives a blank by itself
 abbrev pub AreAllMarked : {I M Q A : Type 0} → M → (I → Ask I M Q A M) → (I → Option M) → Type 0
-AreAllMarked {I} blank rule so_far = (i : I) → IsMarked so_far i ⊎ (rule i ≡ done blank)
+AreAllMarked {I} blank rule so_far = (i : I) → IsMarked so_far i ⊎ GivesAlone rule i blank
 
 -- the marks so far, taken as marks of all: what has no mark counts as blank
 abbrev pub filled : {I M : Type 0} → M → (I → Option M) → I → M
 filled blank so_far i = unwrap_or (so_far i) blank
 
+-- the marks came one after the other; what has none has what its rule gives by itself
+pub record HasCome {I M Q A : Type 0} (says : (I → Option M) → Q → A → Type 0) (rule : I → Ask I M Q A M) (marks : I → M) : Type 0 where
+  pub so_far : I → Option M
+  pub comes : Comes says rule so_far
+  pub each : (i : I) → (so_far i ≡ Some (marks i)) ⊎ GivesAlone rule i (marks i)
+
 -- the marks are the annotation, and there is no other
 pub record IsTheAnnotation {I M Q A : Type 0} (says : (I → Option M) → Q → A → Type 0) (rule : I → Ask I M Q A M) (marks : I → M) : Type 0 where
   pub «is» : Annotates says rule marks
   pub alone : (others : I → M) → Annotates says rule others → (i : I) → others i ≡ marks i
+  pub come : HasCome says rule marks
 
 -- ---- circles
 

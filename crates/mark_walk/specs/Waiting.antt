@@ -42,12 +42,16 @@ left_to_do waiting met = 2 * unnoted met + length waiting
 abbrev pub NotesStay : List Bool → List Bool → Type 0
 NotesStay old new = (n : ℕ) → slice_get old n ≡ Some true → slice_get new n ≡ Some true
 
--- what came of a step that met a circle, or didn't
-abbrev pub IsCircle : {I : Type 0} → (I → I → Type 0) → Option I → Type 0
-IsCircle awaits None = Unit {0}
-IsCircle awaits (Some i) = WaitsFor awaits i i
+-- what came of a step that met a circle, or didn't: an item waits for itself, and one of these waits for it
+abbrev pub IsCircle : {I : Type 0} → (I → I → Type 0) → (I → Type 0) → Option I → Type 0
+IsCircle awaits Waiting None = Unit {0}
+IsCircle {I} awaits Waiting (Some i) = WaitsFor awaits i i × (k : I) × Waiting k × WaitsFor awaits k i
 
--- the item is marked, or one waits for itself
+-- it waits before all others
+abbrev pub IsFirst : {I : Type 0} → List I → I → Type 0
+IsFirst waiting item = slice_get waiting 0 ≡ Some item
+
+-- the item is marked, or waits for one that waits for itself
 abbrev pub Ends : {I M : Type 0} → (I → I → Type 0) → (I → Option M) → I → Walked I → Type 0
 Ends awaits so_far item Marked = IsMarked so_far item
-Ends awaits so_far item (Circle i) = WaitsFor awaits i i
+Ends awaits so_far item (Circle i) = IsCircle awaits (λ k. k ≡ item) (Some i)

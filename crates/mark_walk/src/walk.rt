@@ -2,7 +2,7 @@
 ghost use Rattle.std.specs.Prelude.{◌≡◌, ◌++◌, ◌∷◌, ◌<◌, ◌≤◌, [], ℕ, Some, None, false, true, length, option_to_list, slice_get, replicate, set, OnOk, IfOk};
 ghost use Rattle.mark_walk.specs.Asks.{Awaits};
 ghost use Rattle.mark_walk.specs.Marking.{Goes};
-ghost use Rattle.mark_walk.specs.Waiting.{Rests, Waits, Ends, NotesStay, IsCircle, left_to_do};
+ghost use Rattle.mark_walk.specs.Waiting.{Rests, Waits, Ends, NotesStay, IsCircle, IsFirst, left_to_do};
 
 use crate::marking::Marking;
 use gv_base::NoMemory;
@@ -13,7 +13,7 @@ use std::alloc::Global;
 pub enum Walked<I> {
     /// The item is marked.
     Marked,
-    /// This item waits for itself, at once or through others: none of them can be marked.
+    /// This item waits for itself, at once or through others, and what was to be marked waits for it: none of them can be marked.
     Circle(I),
 }
 
@@ -107,7 +107,8 @@ fn step<K: Marking>(
     ensures notes { IfOk result (λ circle. circle ≡ None → NotesStay met.old.items met.new.items) }
     ensures waits { IfOk result (λ circle. circle ≡ None → Waits (K.IsItem (K.subject kit.old)) (K.number (K.subject kit.old)) (K.count (K.subject kit.old)) (λ x. Awaits (K.says (K.subject kit.old)) (K.pends (K.subject kit.old)) (K.so_far kit.new) (K.rule (K.subject kit.old) x)) (K.so_far kit.new) waiting.new.items met.new.items) }
     ensures less { IfOk result (λ circle. circle ≡ None → left_to_do waiting.new.items met.new.items ≤ left_to_do waiting.old.items met.old.items) }
-    ensures circle { IfOk result (IsCircle (λ x. Awaits (K.says (K.subject kit.old)) (K.pends (K.subject kit.old)) (K.so_far kit.new) (K.rule (K.subject kit.old) x))) }
+    ensures first { IfOk result (λ circle. circle ≡ None → (x : K.Item) → IsFirst waiting.new.items x → IsFirst (waiting.old.items ++ top ∷ []) x) }
+    ensures circle { IfOk result (IsCircle (λ x. Awaits (K.says (K.subject kit.old)) (K.pends (K.subject kit.old)) (K.so_far kit.new) (K.rule (K.subject kit.old) x)) (IsFirst (waiting.old.items ++ top ∷ []))) }
 {
     let waits = kit.judge(top)?;
     match waits {

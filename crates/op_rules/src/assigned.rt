@@ -1,10 +1,9 @@
 //! What is assigned (Go 1.17, "Assignability", "Representability").
 ghost use Rattle.std.specs.Prelude.{◌≡◌, IfOk, true, option_map};
 ghost use Rattle.mark_walk.specs.Telling.{tell};
-ghost use Rattle.typed_marks.specs.States.{so_far};
 ghost use Rattle.unit_read.specs.Subjects.{unit_of};
 ghost use Rattle.rule_words.specs.Answers.{is_plain};
-ghost use Rattle.rule_words.specs.Scenes.{IsScene, IfFound, said, IsMarkOf, type_in, IsTypeOf, MayBeTypeOf};
+ghost use Rattle.rule_words.specs.Scenes.{sight, IsScene, IfFound, said, IsMarkOf, type_in, IsTypeOf, MayBeTypeOf};
 ghost use Rattle.rule_words.specs.Steps.{step_in, IsStepOf};
 ghost use Rattle.rule_words.specs.Good.{AreFactsOf, known_of};
 ghost use Rattle.type_answers.specs.Coming.{FoundBy, ComesTo};
@@ -27,7 +26,7 @@ use unit_read::Subject;
 fn held_if(s: &State, good: Mark, holds: bool) -> Step
     requires good { IsMarkOf s.now good }
     requires plain { is_plain good ≡ true }
-    ensures is { step_in s.now result ≡ tell (so_far s.now) (held_if (said s.now good) holds) }
+    ensures is { step_in s.now result ≡ tell (sight s.now) (held_if (said s.now good) holds) }
     ensures over { IsStepOf s.now result }
 {
     if holds {
@@ -38,6 +37,7 @@ fn held_if(s: &State, good: Mark, holds: bool) -> Step
 
 #[tactic(auto, using(type_answers::proofs::ComingLaws::same_comes))]
 fn held_told(u: &Subject, s: &State, good: Mark, told: Reached<bool>) -> Step
+    requires scene { IsScene u.now s.now }
     requires good { IsMarkOf s.now good }
     requires plain { is_plain good ≡ true }
     ensures comes { ComesTo u.now s.now (held_told (said s.now good) told) result }

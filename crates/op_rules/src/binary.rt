@@ -2,8 +2,7 @@
 ghost use Rattle.std.specs.Prelude.{◌≡◌, IfOk};
 ghost use Rattle.mark_walk.specs.Telling.{tell};
 ghost use Rattle.typed_tree.specs.Basics.{HasBasics};
-ghost use Rattle.typed_marks.specs.States.{so_far};
-ghost use Rattle.rule_words.specs.Scenes.{part_in, IsSeenOf};
+ghost use Rattle.rule_words.specs.Scenes.{sight, part_in, IsSeenOf};
 ghost use Rattle.rule_words.specs.Steps.{step_in, IsStepOf};
 ghost use Rattle.rule_words.specs.Wishes.{IsWishOf, wish_of};
 ghost use Rattle.op_rules.specs.Binary.{both_typed, second_untyped, first_untyped, first_typed, combined, combined_by, combined_of_parts, binary_of_parts, binary_by};
@@ -40,7 +39,7 @@ fn judge_typed(
     requires first { IsOperandOf s.now x }
     requires second { IsOperandOf s.now y }
     requires want { IsWishOf s.now want }
-    ensures is { IfOk result (λ step. step_in s.now step ≡ tell (so_far s.now) (both_typed op (operand_in s.now x) (operand_in s.now y) (wish_of s.now want))) }
+    ensures is { IfOk result (λ step. step_in s.now step ≡ tell (sight s.now) (both_typed op (operand_in s.now x) (operand_in s.now y) (wish_of s.now want))) }
     ensures over { IfOk result (IsStepOf s.now) }
 {
     if !are_one(s, x.of, y.of) {
@@ -63,7 +62,7 @@ fn judge_untyped_second(
     requires first { IsOperandOf s.now x }
     requires second { IsOperandOf s.now y }
     requires want { IsWishOf s.now want }
-    ensures is { IfOk result (λ step. step_in s.now step ≡ tell (so_far s.now) (second_untyped op (operand_in s.now x) (operand_in s.now y) (wish_of s.now want))) }
+    ensures is { IfOk result (λ step. step_in s.now step ≡ tell (sight s.now) (second_untyped op (operand_in s.now x) (operand_in s.now y) (wish_of s.now want))) }
     ensures over { IfOk result (IsStepOf s.now) }
 {
     // E33
@@ -87,7 +86,7 @@ fn judge_untyped_first(
     requires first { IsOperandOf s.now x }
     requires second { IsOperandOf s.now y }
     requires want { IsWishOf s.now want }
-    ensures is { IfOk result (λ step. step_in s.now step ≡ tell (so_far s.now) (first_untyped op (operand_in s.now x) (operand_in s.now y) (wish_of s.now want))) }
+    ensures is { IfOk result (λ step. step_in s.now step ≡ tell (sight s.now) (first_untyped op (operand_in s.now x) (operand_in s.now y) (wish_of s.now want))) }
     ensures over { IfOk result (IsStepOf s.now) }
 {
     // E33
@@ -111,7 +110,7 @@ fn judge_typed_first(
     requires first { IsOperandOf s.now x }
     requires second { IsOperandOf s.now y }
     requires want { IsWishOf s.now want }
-    ensures is { IfOk result (λ step. step_in s.now step ≡ tell (so_far s.now) (first_typed op (operand_in s.now x) (operand_in s.now y) (wish_of s.now want))) }
+    ensures is { IfOk result (λ step. step_in s.now step ≡ tell (sight s.now) (first_typed op (operand_in s.now x) (operand_in s.now y) (wish_of s.now want))) }
     ensures over { IfOk result (IsStepOf s.now) }
 {
     if is_untyped(s, y.of) {
@@ -136,7 +135,7 @@ fn judge_combined(
     requires first { IsOperandOf s.now x }
     requires second { IsOperandOf s.now y }
     requires want { IsWishOf s.now want }
-    ensures is { IfOk result (λ step. step_in s.now step ≡ tell (so_far s.now) (combined op (operand_in s.now x) (operand_in s.now y) (wish_of s.now want))) }
+    ensures is { IfOk result (λ step. step_in s.now step ≡ tell (sight s.now) (combined op (operand_in s.now x) (operand_in s.now y) (wish_of s.now want))) }
     ensures over { IfOk result (IsStepOf s.now) }
 {
     if is_untyped(s, x.of) {
@@ -162,7 +161,7 @@ fn judge_second(
     requires first { IsOperandOf s.now x }
     requires second { IsSeenOf s.now b }
     requires want { IsWishOf s.now want }
-    ensures is { IfOk result (λ step. step_in s.now step ≡ tell (so_far s.now) (combined_by op (part_in s.now b) (wish_of s.now want) (operand_in s.now x))) }
+    ensures is { IfOk result (λ step. step_in s.now step ≡ tell (sight s.now) (combined_by op (part_in s.now b) (wish_of s.now want) (operand_in s.now x))) }
     ensures over { IfOk result (IsStepOf s.now) }
 {
     match operand_at(s, b) {
@@ -187,7 +186,7 @@ fn judge_parts(
     requires first { IsSeenOf s.now a }
     requires second { IsSeenOf s.now b }
     requires want { IsWishOf s.now want }
-    ensures is { IfOk result (λ step. step_in s.now step ≡ tell (so_far s.now) (combined_of_parts op (part_in s.now a) (part_in s.now b) (wish_of s.now want))) }
+    ensures is { IfOk result (λ step. step_in s.now step ≡ tell (sight s.now) (combined_of_parts op (part_in s.now a) (part_in s.now b) (wish_of s.now want))) }
     ensures over { IfOk result (IsStepOf s.now) }
 {
     match operand_at(s, a) {
@@ -212,7 +211,7 @@ fn judge_operator(
     requires first { IsSeenOf s.now a }
     requires second { IsSeenOf s.now b }
     requires want { IsWishOf s.now want }
-    ensures is { IfOk result (λ step. step_in s.now step ≡ tell (so_far s.now) (binary_of_parts op (part_in s.now a) (part_in s.now b) (wish_of s.now want))) }
+    ensures is { IfOk result (λ step. step_in s.now step ≡ tell (sight s.now) (binary_of_parts op (part_in s.now a) (part_in s.now b) (wish_of s.now want))) }
     ensures over { IfOk result (IsStepOf s.now) }
 {
     if shifts(op) {
@@ -237,7 +236,7 @@ pub fn judge_binary(
     requires first { IsSeenOf s.now a }
     requires second { IsSeenOf s.now b }
     requires want { IsWishOf s.now want }
-    ensures is { IfOk result (λ step. step_in s.now step ≡ tell (so_far s.now) (binary_by op (part_in s.now a) (part_in s.now b) (wish_of s.now want))) }
+    ensures is { IfOk result (λ step. step_in s.now step ≡ tell (sight s.now) (binary_by op (part_in s.now a) (part_in s.now b) (wish_of s.now want))) }
     ensures over { IfOk result (IsStepOf s.now) }
 {
     match op {

@@ -3,8 +3,7 @@
 ghost use Rattle.std.specs.Prelude.{◌≡◌, true, IfOk};
 ghost use Rattle.mark_walk.specs.Telling.{tell};
 ghost use Rattle.typed_tree.specs.Basics.{HasBasics};
-ghost use Rattle.typed_marks.specs.States.{so_far};
-ghost use Rattle.rule_words.specs.Scenes.{said, IsMarkOf, type_in, IsTypeOf};
+ghost use Rattle.rule_words.specs.Scenes.{sight, said, IsMarkOf, type_in, IsTypeOf};
 ghost use Rattle.rule_words.specs.Answers.{is_plain};
 ghost use Rattle.rule_words.specs.Steps.{step_in, IsStepOf};
 ghost use Rattle.rule_words.specs.Wishes.{IsWishOf, wish_of};
@@ -56,7 +55,7 @@ fn ask_comparable(s: &State, of: TypeId, good: Mark) -> Step
     requires of { IsTypeOf s.now of }
     requires good { IsMarkOf s.now good }
     requires plain { is_plain good ≡ true }
-    ensures is { step_in s.now result ≡ tell (so_far s.now) (comparable_ask (type_in s.now of) (said s.now good)) }
+    ensures is { step_in s.now result ≡ tell (sight s.now) (comparable_ask (type_in s.now of) (said s.now good)) }
     ensures over { IsStepOf s.now result }
 {
     Step::Puts(Asked::Comparable(of), Rest::Held(good, NOT_COMPARABLE))
@@ -69,7 +68,7 @@ fn compare_types(s: &State, x: Operand, y: Operand, want: Want) -> Step
     requires first { IsOperandOf s.now x }
     requires second { IsOperandOf s.now y }
     requires want { IsWishOf s.now want }
-    ensures is { step_in s.now result ≡ tell (so_far s.now) (type_compared (operand_in s.now x) (operand_in s.now y) (wish_of s.now want)) }
+    ensures is { step_in s.now result ≡ tell (sight s.now) (type_compared (operand_in s.now x) (operand_in s.now y) (wish_of s.now want)) }
     ensures over { IsStepOf s.now result }
 {
     let good = truth(s, want);
@@ -95,7 +94,7 @@ fn compare_basic(
     requires first { IsOperandOf s.now x }
     requires second { IsOperandOf s.now y }
     requires want { IsWishOf s.now want }
-    ensures is { IfOk result (λ step. step_in s.now step ≡ tell (so_far s.now) (basic_compared op (operand_in s.now x) (operand_in s.now y) (wish_of s.now want) kind)) }
+    ensures is { IfOk result (λ step. step_in s.now step ≡ tell (sight s.now) (basic_compared op (operand_in s.now x) (operand_in s.now y) (wish_of s.now want) kind)) }
     ensures over { IfOk result (IsStepOf s.now) }
 {
     // E35
@@ -121,7 +120,7 @@ fn judge_equated(
     requires second { IsOperandOf s.now y }
     requires want { IsWishOf s.now want }
     requires at { IsTypeOf s.now at }
-    ensures is { IfOk result (λ step. step_in s.now step ≡ tell (so_far s.now) (equated op (operand_in s.now x) (operand_in s.now y) (wish_of s.now want) (type_in s.now at))) }
+    ensures is { IfOk result (λ step. step_in s.now step ≡ tell (sight s.now) (equated op (operand_in s.now x) (operand_in s.now y) (wish_of s.now want) (type_in s.now at))) }
     ensures over { IfOk result (IsStepOf s.now) }
 {
     match kind_of(s, at) {
@@ -162,7 +161,7 @@ fn judge_operated(
     requires second { IsOperandOf s.now y }
     requires want { IsWishOf s.now want }
     requires at { IsTypeOf s.now at }
-    ensures is { IfOk result (λ step. step_in s.now step ≡ tell (so_far s.now) (operated op (operand_in s.now x) (operand_in s.now y) (wish_of s.now want) (type_in s.now at))) }
+    ensures is { IfOk result (λ step. step_in s.now step ≡ tell (sight s.now) (operated op (operand_in s.now x) (operand_in s.now y) (wish_of s.now want) (type_in s.now at))) }
     ensures over { IfOk result (IsStepOf s.now) }
 {
     // E34
@@ -187,7 +186,7 @@ pub fn judge_agreed(
     requires first { IsOperandOf s.now x }
     requires second { IsOperandOf s.now y }
     requires want { IsWishOf s.now want }
-    ensures is { IfOk result (λ step. step_in s.now step ≡ tell (so_far s.now) (agreed op (operand_in s.now x) (operand_in s.now y) (wish_of s.now want))) }
+    ensures is { IfOk result (λ step. step_in s.now step ≡ tell (sight s.now) (agreed op (operand_in s.now x) (operand_in s.now y) (wish_of s.now want))) }
     ensures over { IfOk result (IsStepOf s.now) }
 {
     let at = common(s, x.at, y.at);

@@ -1,8 +1,8 @@
 //! Typed operands of different types (Go 1.17, "Operators", "Comparison operators").
 ghost use Rattle.std.specs.Prelude.{◌≡◌};
+ghost use Rattle.rule_words.specs.Scenes.{sight};
 ghost use Rattle.mark_walk.specs.Telling.{tell};
 ghost use Rattle.typed_tree.specs.Basics.{HasBasics};
-ghost use Rattle.typed_marks.specs.States.{so_far};
 ghost use Rattle.rule_words.specs.Steps.{step_in, IsStepOf, pair_in, IsPairOf};
 ghost use Rattle.rule_words.specs.Wishes.{IsWishOf, wish_of};
 ghost use Rattle.op_rules.specs.Binary.{pair_of, pair_ask, are_basic, is_open, different};
@@ -41,7 +41,7 @@ fn pair_of(s: &State, x: Operand, y: Operand, want: Want) -> Pair
 #[tactic(auto, unfolding(crate::specs::Binary::pair_ask))]
 fn ask_pair(s: &State, p: Pair) -> Step
     requires pair { IsPairOf s.now p }
-    ensures is { step_in s.now result ≡ tell (so_far s.now) (pair_ask (pair_in s.now p)) }
+    ensures is { step_in s.now result ≡ tell (sight s.now) (pair_ask (pair_in s.now p)) }
     ensures over { IsStepOf s.now result }
 {
     if p.y_interface {
@@ -78,7 +78,7 @@ pub fn judge_different(s: &State, op: Operator, x: Operand, y: Operand, want: Wa
     requires first { IsOperandOf s.now x }
     requires second { IsOperandOf s.now y }
     requires want { IsWishOf s.now want }
-    ensures is { step_in s.now result ≡ tell (so_far s.now) (different op (operand_in s.now x) (operand_in s.now y) (wish_of s.now want)) }
+    ensures is { step_in s.now result ≡ tell (sight s.now) (different op (operand_in s.now x) (operand_in s.now y) (wish_of s.now want)) }
     ensures over { IsStepOf s.now result }
 {
     // E33

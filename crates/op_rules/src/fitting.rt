@@ -5,10 +5,9 @@ ghost use Rattle.type_rel.specs.Kinds.{is_integer};
 ghost use Rattle.typed_tree.specs.Basics.{HasBasics};
 ghost use Rattle.typed_tree.specs.Operands.{fits_in};
 ghost use Rattle.typed_marks.specs.Meanings.{constant_at};
-ghost use Rattle.typed_marks.specs.States.{so_far};
 ghost use Rattle.unit_read.specs.Subjects.{unit_of};
 ghost use Rattle.rule_words.specs.Answers.{is_plain};
-ghost use Rattle.rule_words.specs.Scenes.{IsScene, told_by, IfFound, said, IsMarkOf, type_in, IsTypeOf, MayBeTypeOf};
+ghost use Rattle.rule_words.specs.Scenes.{sight, IsScene, told_by, IfFound, said, IsMarkOf, type_in, IsTypeOf, MayBeTypeOf};
 ghost use Rattle.rule_words.specs.Good.{AreFactsOf, known_of};
 ghost use Rattle.rule_words.specs.Types.{is_of};
 ghost use Rattle.op_rules.specs.Placed.{is_whole, overflows, goes_into, overflowing, represented_value, represented};
@@ -90,7 +89,7 @@ fn overflowing(s: &State, x: Facts, c: &Const, under: Option<TypeId>) -> Mark
 fn represented_in(u: &Subject, s: &State, x: Facts, c: &Const) -> Found<Mark, Item>
     requires scene { IsScene u.now s.now }
     requires facts { AreFactsOf s.now x }
-    ensures is { told_by (said s.now) result ≡ tell (so_far s.now) (represented_value (unit_of u.now) (known_of s.now x) (Some c.now)) }
+    ensures is { told_by (said s.now) result ≡ tell (sight s.now) (represented_value (unit_of u.now) (known_of s.now x) (Some c.now)) }
     ensures over { IfFound result (λ m. IsMarkOf s.now m × (is_plain m ≡ true)) }
 {
     match under_of(u, s, x.last) {
@@ -102,7 +101,7 @@ fn represented_in(u: &Subject, s: &State, x: Facts, c: &Const) -> Found<Mark, It
 fn represented_value(u: &Subject, s: &State, x: Facts, value: Option<ConstId>) -> Found<Mark, Item>
     requires scene { IsScene u.now s.now }
     requires facts { AreFactsOf s.now x }
-    ensures is { told_by (said s.now) result ≡ tell (so_far s.now) (represented_value (unit_of u.now) (known_of s.now x) (constant_at s.now.constants.items value)) }
+    ensures is { told_by (said s.now) result ≡ tell (sight s.now) (represented_value (unit_of u.now) (known_of s.now x) (constant_at s.now.constants.items value)) }
     ensures over { IfFound result (λ m. IsMarkOf s.now m × (is_plain m ≡ true)) }
 {
     match value_at(s, value) {
@@ -115,7 +114,7 @@ fn represented_value(u: &Subject, s: &State, x: Facts, value: Option<ConstId>) -
 pub fn represented(u: &Subject, s: &State, x: Facts) -> Found<Mark, Item>
     requires scene { IsScene u.now s.now }
     requires facts { AreFactsOf s.now x }
-    ensures is { told_by (said s.now) result ≡ tell (so_far s.now) (represented (unit_of u.now) (known_of s.now x)) }
+    ensures is { told_by (said s.now) result ≡ tell (sight s.now) (represented (unit_of u.now) (known_of s.now x)) }
     ensures over { IfFound result (λ m. IsMarkOf s.now m × (is_plain m ≡ true)) }
 {
     if is_untyped(s, x.of) {

@@ -4,9 +4,8 @@ ghost use Rattle.mark_walk.specs.Telling.{tell};
 ghost use Rattle.type_model.specs.Tables.{types_in, count};
 ghost use Rattle.typed_tree.specs.Basics.{HasBasics, Says as SaysInTree};
 ghost use Rattle.typed_tree.specs.Meanings.{Meaning as TreeMeaning, mark_in as tree_mark_in, IsWithin};
-ghost use Rattle.typed_marks.specs.States.{so_far};
 ghost use Rattle.unit_read.specs.Subjects.{unit_of, IsRead};
-ghost use Rattle.rule_words.specs.Scenes.{IsScene, said, IsMarkOf, type_in, IsTypeOf};
+ghost use Rattle.rule_words.specs.Scenes.{sight, IsScene, said, IsMarkOf, type_in, IsTypeOf};
 ghost use Rattle.rule_words.specs.Answers.{answer_in, IsAnswerOf};
 ghost use Rattle.rule_words.specs.Steps.{step_in, IsStepOf};
 ghost use Rattle.rule_words.specs.Wanting.{wanted_of, IsWantedOf};
@@ -161,7 +160,7 @@ pub fn used(s: &State, want: Want, m: Mark) -> Step
     requires basics { HasBasics s.now.table }
     requires mark { IsMarkOf s.now m }
     requires want { IsWishOf s.now want }
-    ensures is { step_in s.now result ≡ tell (so_far s.now) (used (wish_of s.now want) (said s.now m)) }
+    ensures is { step_in s.now result ≡ tell (sight s.now) (used (wish_of s.now want) (said s.now m)) }
     ensures over { IsStepOf s.now result }
 {
     match m {
@@ -177,7 +176,7 @@ pub fn used(s: &State, want: Want, m: Mark) -> Step
 fn judge_declared(u: &Subject, s: &State, name: NodeRef, want: Want) -> Step
     requires scene { IsScene u.now s.now }
     requires want { IsWishOf s.now want }
-    ensures is { step_in s.now result ≡ tell (so_far s.now) (object_ask (unit_of u.now) name (wish_of s.now want)) }
+    ensures is { step_in s.now result ≡ tell (sight s.now) (object_ask (unit_of u.now) name (wish_of s.now want)) }
     ensures over { IsStepOf s.now result }
 {
     match look(u, s, Stage::Object, name.file as usize, name.node) {
@@ -189,7 +188,7 @@ fn judge_declared(u: &Subject, s: &State, name: NodeRef, want: Want) -> Step
 fn judge_object(u: &Subject, s: &State, iota: Option<u64>, want: Want, object: Object) -> Step
     requires scene { IsScene u.now s.now }
     requires want { IsWishOf s.now want }
-    ensures is { step_in s.now result ≡ tell (so_far s.now) (denoted (unit_of u.now) iota (wish_of s.now want) (Some object)) }
+    ensures is { step_in s.now result ≡ tell (sight s.now) (denoted (unit_of u.now) iota (wish_of s.now want) (Some object)) }
     ensures over { IsStepOf s.now result }
 {
     match object {
@@ -209,7 +208,7 @@ fn judge_denoted(
 ) -> Step
     requires scene { IsScene u.now s.now }
     requires want { IsWishOf s.now want }
-    ensures is { step_in s.now result ≡ tell (so_far s.now) (denoted (unit_of u.now) iota (wish_of s.now want) object) }
+    ensures is { step_in s.now result ≡ tell (sight s.now) (denoted (unit_of u.now) iota (wish_of s.now want) object) }
     ensures over { IsStepOf s.now result }
 {
     match object {
@@ -234,7 +233,7 @@ pub fn blank(s: &State, demand: Demand, want: Want) -> Answer
 pub fn judge_name(u: &Subject, s: &State, block: usize, at: NodeRef, node: &Node, w: Wanted) -> Step
     requires scene { IsScene u.now s.now }
     requires wanted { IsWantedOf s.now w }
-    ensures is { step_in s.now result ≡ tell (so_far s.now) (name_rule (unit_of u.now) block at node.now (wanted_of s.now w)) }
+    ensures is { step_in s.now result ≡ tell (sight s.now) (name_rule (unit_of u.now) block at node.now (wanted_of s.now w)) }
     ensures over { IsStepOf s.now result }
 {
     if is_blank(u.spelled(at.file, node.first)) {

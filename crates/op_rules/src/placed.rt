@@ -2,9 +2,8 @@
 ghost use Rattle.std.specs.Prelude.{◌≡◌, ◌||◌, IfOk, if◌then◌else◌};
 ghost use Rattle.mark_walk.specs.Telling.{tell};
 ghost use Rattle.typed_tree.specs.Places.{is_type, is_package};
-ghost use Rattle.typed_marks.specs.States.{so_far};
 ghost use Rattle.unit_read.specs.Subjects.{unit_of};
-ghost use Rattle.rule_words.specs.Scenes.{IsScene, said, IsMarkOf};
+ghost use Rattle.rule_words.specs.Scenes.{sight, IsScene, said, IsMarkOf};
 ghost use Rattle.rule_words.specs.Steps.{step_in, IsStepOf};
 ghost use Rattle.rule_words.specs.Wanting.{wanted_of, IsWantedOf};
 ghost use Rattle.rule_words.specs.Good.{AreFactsOf, known_of};
@@ -31,7 +30,7 @@ use unit_read::Subject;
 fn judge_represented(u: &Subject, s: &State, x: Facts) -> Step
     requires scene { IsScene u.now s.now }
     requires facts { AreFactsOf s.now x }
-    ensures is { step_in s.now result ≡ tell (so_far s.now) (represented (unit_of u.now) (known_of s.now x)) }
+    ensures is { step_in s.now result ≡ tell (sight s.now) (represented (unit_of u.now) (known_of s.now x)) }
     ensures over { IsStepOf s.now result }
 {
     match represented(u, s, x) {
@@ -58,7 +57,7 @@ fn good(x: Facts) -> Step
 fn wished_free(u: &Subject, s: &State, x: Facts) -> Step
     requires scene { IsScene u.now s.now }
     requires facts { AreFactsOf s.now x }
-    ensures is { step_in s.now result ≡ tell (so_far s.now) (wished_free (unit_of u.now) (known_of s.now x)) }
+    ensures is { step_in s.now result ≡ tell (sight s.now) (wished_free (unit_of u.now) (known_of s.now x)) }
     ensures over { IsStepOf s.now result }
 {
     // E26
@@ -259,7 +258,7 @@ fn judge_value(
 
 fn judge_owner(s: &State, x: Facts) -> Step
     requires facts { AreFactsOf s.now x }
-    ensures is { step_in s.now result ≡ tell (so_far s.now) (owner_demanded (known_of s.now x)) }
+    ensures is { step_in s.now result ≡ tell (sight s.now) (owner_demanded (known_of s.now x)) }
     ensures over { IsStepOf s.now result }
 {
     // E24, E25

@@ -7,11 +7,10 @@ ghost use Rattle.type_model.specs.Tables.{types_in, count};
 ghost use Rattle.typed_tree.specs.Basics.{HasBasics};
 ghost use Rattle.typed_tree.specs.Places.{exported_mark};
 ghost use Rattle.typed_marks.specs.Meanings.{known_in, AreWithin};
-ghost use Rattle.typed_marks.specs.States.{so_far};
 ghost use Rattle.unit_read.specs.Exports.{mark_in, uses_in, IsUseIn};
 ghost use Rattle.unit_read.specs.Imports.{exported_of};
 ghost use Rattle.unit_read.specs.Subjects.{unit_of, IsRead};
-ghost use Rattle.rule_words.specs.Scenes.{IsScene, said, IsMarkOf, part_in, IsSeenOf};
+ghost use Rattle.rule_words.specs.Scenes.{sight, IsScene, said, IsMarkOf, part_in, IsSeenOf};
 ghost use Rattle.rule_words.specs.Answers.{answer_in, IsAnswerOf};
 ghost use Rattle.rule_words.specs.Steps.{step_in, IsStepOf};
 ghost use Rattle.rule_words.specs.Wanting.{wanted_of, IsWantedOf};
@@ -157,7 +156,7 @@ fn judge_owned(
     requires scene { IsScene u.now s.now }
     requires want { IsWishOf s.now want }
     requires mark { IsMarkOf s.now a }
-    ensures is { IfOk result (λ step. step_in s.now step ≡ tell (so_far s.now) (owned (unit_of u.now) name.now owner (wish_of s.now want) (said s.now a))) }
+    ensures is { IfOk result (λ step. step_in s.now step ≡ tell (sight s.now) (owned (unit_of u.now) name.now owner (wish_of s.now want) (said s.now a))) }
     ensures over { IfOk result (IsStepOf s.now) }
 {
     let Mark::Good(x) = a else {
@@ -181,7 +180,7 @@ pub fn judge_selector(
     requires scene { IsScene u.now s.now }
     requires part { IsSeenOf s.now a }
     requires wanted { IsWantedOf s.now w }
-    ensures is { IfOk result (λ step. step_in s.now step ≡ tell (so_far s.now) (selector_rule (unit_of u.now) at node.now (part_in s.now a) (wanted_of s.now w))) }
+    ensures is { IfOk result (λ step. step_in s.now step ≡ tell (sight s.now) (selector_rule (unit_of u.now) at node.now (part_in s.now a) (wanted_of s.now w))) }
     ensures over { IfOk result (IsStepOf s.now) }
 {
     let name = u.spelled(at.file, node.last);

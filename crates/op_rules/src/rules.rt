@@ -1,10 +1,9 @@
 //! The rule of each form of operand and operator.
 ghost use Rattle.std.specs.Prelude.{◌≡◌, IfOk, option_map};
 ghost use Rattle.mark_walk.specs.Telling.{tell};
-ghost use Rattle.typed_marks.specs.States.{so_far};
 ghost use Rattle.typed_tree.specs.Basics.{HasBasics};
 ghost use Rattle.unit_read.specs.Subjects.{unit_of};
-ghost use Rattle.rule_words.specs.Scenes.{IsScene, told_by, IfFound, type_in, IsTypeOf, MayBeTypeOf, parts_in, AreSeenOf};
+ghost use Rattle.rule_words.specs.Scenes.{sight, IsScene, told_by, IfFound, type_in, IsTypeOf, MayBeTypeOf, parts_in, AreSeenOf};
 ghost use Rattle.rule_words.specs.Answers.{answer_in, IsAnswerOf};
 ghost use Rattle.rule_words.specs.Steps.{step_in, IsStepOf};
 ghost use Rattle.rule_words.specs.Wanting.{wanted_of, IsWantedOf};
@@ -70,7 +69,7 @@ fn judge_literal(
 ) -> Result<Step, NoMemory>
     requires basics { HasBasics s.now.table }
     requires want { IsWishOf s.now want }
-    ensures is { IfOk result (λ step. step_in s.now step ≡ tell (so_far s.now) (literal_rule (unit_of u.now) at node.now (wish_of s.now want) literal)) }
+    ensures is { IfOk result (λ step. step_in s.now step ≡ tell (sight s.now) (literal_rule (unit_of u.now) at node.now (wish_of s.now want) literal)) }
     ensures over { IfOk result (IsStepOf s.now) }
 {
     let bytes = u.spelled(at.file, node.first);
@@ -91,7 +90,7 @@ fn judge_dotted(
     requires scene { IsScene u.now s.now }
     requires parts { AreSeenOf s.now parts.now }
     requires wanted { IsWantedOf s.now w }
-    ensures is { IfOk result (λ step. step_in s.now step ≡ tell (so_far s.now) (dotted_rule (unit_of u.now) at node.now (parts_in s.now parts.now) (wanted_of s.now w))) }
+    ensures is { IfOk result (λ step. step_in s.now step ≡ tell (sight s.now) (dotted_rule (unit_of u.now) at node.now (parts_in s.now parts.now) (wanted_of s.now w))) }
     ensures over { IfOk result (IsStepOf s.now) }
 {
     let a = part_at(s, parts, 0);
@@ -104,7 +103,7 @@ fn judge_paren(s: &State, parts: &[Seen], want: Want) -> Step
     requires basics { HasBasics s.now.table }
     requires parts { AreSeenOf s.now parts.now }
     requires want { IsWishOf s.now want }
-    ensures is { step_in s.now result ≡ tell (so_far s.now) (paren_rule (parts_in s.now parts.now) (wish_of s.now want)) }
+    ensures is { step_in s.now result ≡ tell (sight s.now) (paren_rule (parts_in s.now parts.now) (wish_of s.now want)) }
     ensures over { IsStepOf s.now result }
 {
     let a = part_at(s, parts, 0);
@@ -124,7 +123,7 @@ fn judge_unary_node(
     requires basics { HasBasics s.now.table }
     requires parts { AreSeenOf s.now parts.now }
     requires want { IsWishOf s.now want }
-    ensures is { IfOk result (λ step. step_in s.now step ≡ tell (so_far s.now) (unary_rule (unit_of u.now) at node.now (parts_in s.now parts.now) (wish_of s.now want))) }
+    ensures is { IfOk result (λ step. step_in s.now step ≡ tell (sight s.now) (unary_rule (unit_of u.now) at node.now (parts_in s.now parts.now) (wish_of s.now want))) }
     ensures over { IfOk result (IsStepOf s.now) }
 {
     let op = unary_in(u, at.file, node);
@@ -146,7 +145,7 @@ fn judge_binary_node(
     requires basics { HasBasics s.now.table }
     requires parts { AreSeenOf s.now parts.now }
     requires want { IsWishOf s.now want }
-    ensures is { IfOk result (λ step. step_in s.now step ≡ tell (so_far s.now) (binary_rule (unit_of u.now) at node.now (parts_in s.now parts.now) (wish_of s.now want))) }
+    ensures is { IfOk result (λ step. step_in s.now step ≡ tell (sight s.now) (binary_rule (unit_of u.now) at node.now (parts_in s.now parts.now) (wish_of s.now want))) }
     ensures over { IfOk result (IsStepOf s.now) }
 {
     let op = binary_in(u, at.file, node);
@@ -171,7 +170,7 @@ fn judge_form(
     requires scene { IsScene u.now s.now }
     requires parts { AreSeenOf s.now parts.now }
     requires wanted { IsWantedOf s.now w }
-    ensures is { IfOk result (λ step. step_in s.now step ≡ tell (so_far s.now) (form_rule (unit_of u.now) block at node.now (parts_in s.now parts.now) (wanted_of s.now w) form)) }
+    ensures is { IfOk result (λ step. step_in s.now step ≡ tell (sight s.now) (form_rule (unit_of u.now) block at node.now (parts_in s.now parts.now) (wanted_of s.now w) form)) }
     ensures over { IfOk result (IsStepOf s.now) }
 {
     match form {
@@ -206,7 +205,7 @@ fn freed_by(u: &Subject, s: &State, want: Want, to: TypeId) -> Found<Want, Item>
     requires scene { IsScene u.now s.now }
     requires want { IsWishOf s.now want }
     requires to { IsTypeOf s.now to }
-    ensures is { told_by (wish_of s.now) result ≡ tell (so_far s.now) (freed_ask (unit_of u.now) (wish_of s.now want) (type_in s.now to)) }
+    ensures is { told_by (wish_of s.now) result ≡ tell (sight s.now) (freed_ask (unit_of u.now) (wish_of s.now want) (type_in s.now to)) }
     ensures within { IfFound result (IsWishOf s.now) }
 {
     match under_of(u, s, to) {
@@ -220,7 +219,7 @@ fn freed_by(u: &Subject, s: &State, want: Want, to: TypeId) -> Found<Want, Item>
 fn free(u: &Subject, s: &State, want: Want) -> Found<Want, Item>
     requires scene { IsScene u.now s.now }
     requires want { IsWishOf s.now want }
-    ensures is { told_by (wish_of s.now) result ≡ tell (so_far s.now) (free_ask (unit_of u.now) (wish_of s.now want)) }
+    ensures is { told_by (wish_of s.now) result ≡ tell (sight s.now) (free_ask (unit_of u.now) (wish_of s.now want)) }
     ensures within { IfFound result (IsWishOf s.now) }
 {
     match want {
@@ -245,7 +244,7 @@ fn judge_freed(
     requires scene { IsScene u.now s.now }
     requires parts { AreSeenOf s.now parts.now }
     requires wanted { IsWantedOf s.now w }
-    ensures is { IfOk result (λ step. step_in s.now step ≡ tell (so_far s.now) (freed_rule (unit_of u.now) block at node.now (parts_in s.now parts.now) w.demand (wish_of s.now w.want))) }
+    ensures is { IfOk result (λ step. step_in s.now step ≡ tell (sight s.now) (freed_rule (unit_of u.now) block at node.now (parts_in s.now parts.now) w.demand (wish_of s.now w.want))) }
     ensures over { IfOk result (IsStepOf s.now) }
 {
     let form = form_of(node.kind);
@@ -267,7 +266,7 @@ pub fn judge_op(
     requires scene { IsScene u.now s.now }
     requires parts { AreSeenOf s.now parts.now }
     requires wanted { IsWantedOf s.now wanted }
-    ensures is { IfOk result (λ step. step_in s.now step ≡ tell (so_far s.now) (op_rule (unit_of u.now) block at node.now (parts_in s.now parts.now) (wanted_of s.now wanted))) }
+    ensures is { IfOk result (λ step. step_in s.now step ≡ tell (sight s.now) (op_rule (unit_of u.now) block at node.now (parts_in s.now parts.now) (wanted_of s.now wanted))) }
     ensures over { IfOk result (IsStepOf s.now) }
 {
     match free(u, s, wanted.want) {

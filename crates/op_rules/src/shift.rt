@@ -5,8 +5,7 @@ ghost use Rattle.mark_walk.specs.Telling.{tell};
 ghost use Rattle.typed_tree.specs.Basics.{HasBasics};
 ghost use Rattle.typed_tree.specs.Operands.{is_natural};
 ghost use Rattle.typed_marks.specs.Meanings.{constant_at};
-ghost use Rattle.typed_marks.specs.States.{so_far};
-ghost use Rattle.rule_words.specs.Scenes.{type_in, IsTypeOf, part_in, IsSeenOf};
+ghost use Rattle.rule_words.specs.Scenes.{sight, type_in, IsTypeOf, part_in, IsSeenOf};
 ghost use Rattle.rule_words.specs.Answers.{answer_in, IsAnswerOf};
 ghost use Rattle.rule_words.specs.Steps.{step_in, IsStepOf};
 ghost use Rattle.rule_words.specs.Wishes.{IsWishOf, wish_of};
@@ -192,7 +191,7 @@ fn judge_count(
     requires operand { IsOperandOf s.now x }
     requires count { IsSeenOf s.now b }
     requires want { IsWishOf s.now want }
-    ensures is { IfOk result (λ step. step_in s.now step ≡ tell (so_far s.now) (shift_by op (part_in s.now b) (wish_of s.now want) (operand_in s.now x))) }
+    ensures is { IfOk result (λ step. step_in s.now step ≡ tell (sight s.now) (shift_by op (part_in s.now b) (wish_of s.now want) (operand_in s.now x))) }
     ensures over { IfOk result (IsStepOf s.now) }
 {
     match operand_at(s, b) {
@@ -218,7 +217,7 @@ pub fn judge_shift(
     requires first { IsSeenOf s.now a }
     requires second { IsSeenOf s.now b }
     requires want { IsWishOf s.now want }
-    ensures is { IfOk result (λ step. step_in s.now step ≡ tell (so_far s.now) (shift_of_parts op (part_in s.now a) (part_in s.now b) (wish_of s.now want))) }
+    ensures is { IfOk result (λ step. step_in s.now step ≡ tell (sight s.now) (shift_of_parts op (part_in s.now a) (part_in s.now b) (wish_of s.now want))) }
     ensures over { IfOk result (IsStepOf s.now) }
 {
     match operand_at(s, a) {

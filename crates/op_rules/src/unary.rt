@@ -3,8 +3,7 @@ ghost use Rattle.std.specs.Prelude.{◌≡◌, IfOk};
 ghost use Rattle.mark_walk.specs.Telling.{tell};
 ghost use Rattle.typed_tree.specs.Basics.{HasBasics};
 ghost use Rattle.typed_tree.specs.Operands.{takes_alone};
-ghost use Rattle.typed_marks.specs.States.{so_far};
-ghost use Rattle.rule_words.specs.Scenes.{type_in, IsTypeOf, part_in, IsSeenOf};
+ghost use Rattle.rule_words.specs.Scenes.{sight, type_in, IsTypeOf, part_in, IsSeenOf};
 ghost use Rattle.rule_words.specs.Answers.{answer_in, IsAnswerOf};
 ghost use Rattle.rule_words.specs.Steps.{step_in, IsStepOf};
 ghost use Rattle.rule_words.specs.Types.{is_of};
@@ -105,7 +104,7 @@ fn judge_part(alloc: Global, s: &State, op: Operator, a: Seen, want: Want) -> Re
     requires basics { HasBasics s.now.table }
     requires part { IsSeenOf s.now a }
     requires want { IsWishOf s.now want }
-    ensures is { IfOk result (λ step. step_in s.now step ≡ tell (so_far s.now) (unary_of_part op (part_in s.now a) (wish_of s.now want))) }
+    ensures is { IfOk result (λ step. step_in s.now step ≡ tell (sight s.now) (unary_of_part op (part_in s.now a) (wish_of s.now want))) }
     ensures over { IfOk result (IsStepOf s.now) }
 {
     match operand_at(s, a) {
@@ -127,7 +126,7 @@ fn judge_operator(
     requires basics { HasBasics s.now.table }
     requires part { IsSeenOf s.now a }
     requires want { IsWishOf s.now want }
-    ensures is { IfOk result (λ step. step_in s.now step ≡ tell (so_far s.now) (unary_with op (part_in s.now a) (wish_of s.now want))) }
+    ensures is { IfOk result (λ step. step_in s.now step ≡ tell (sight s.now) (unary_with op (part_in s.now a) (wish_of s.now want))) }
     ensures over { IfOk result (IsStepOf s.now) }
 {
     if takes_address(op) {
@@ -149,7 +148,7 @@ pub fn judge_unary(
     requires basics { HasBasics s.now.table }
     requires part { IsSeenOf s.now a }
     requires want { IsWishOf s.now want }
-    ensures is { IfOk result (λ step. step_in s.now step ≡ tell (so_far s.now) (unary_by op (part_in s.now a) (wish_of s.now want))) }
+    ensures is { IfOk result (λ step. step_in s.now step ≡ tell (sight s.now) (unary_by op (part_in s.now a) (wish_of s.now want))) }
     ensures over { IfOk result (IsStepOf s.now) }
 {
     match op {

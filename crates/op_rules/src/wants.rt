@@ -2,9 +2,8 @@
 ghost use Rattle.std.specs.Prelude.{◌≡◌, ◌-◌, option_map};
 ghost use Rattle.mark_walk.specs.Telling.{tell};
 ghost use Rattle.typed_tree.specs.Basics.{HasBasics};
-ghost use Rattle.typed_marks.specs.States.{so_far};
 ghost use Rattle.unit_read.specs.Subjects.{unit_of};
-ghost use Rattle.rule_words.specs.Scenes.{IsScene, told_by, IfFound, said, IsMarkOf, type_in, MayBeTypeOf};
+ghost use Rattle.rule_words.specs.Scenes.{sight, IsScene, told_by, IfFound, said, IsMarkOf, type_in, MayBeTypeOf};
 ghost use Rattle.rule_words.specs.Words.{wanted_in};
 ghost use Rattle.rule_words.specs.Wishes.{IsWishOf, wish_of};
 ghost use Rattle.op_rules.specs.Wants.{whole, unchecked_by, whole_handed, handing_on, count_by, count_wants, shifted_in, operand_in, operand_over, operand_with, operand_in_whole, operand_beside, operand_wants, is_count, operator_wants, operator_asked, binary_wants, form_wants, op_wants};
@@ -28,7 +27,7 @@ use unit_read::{Place, Subject};
 #[tactic(auto, unfolding(crate::specs::Wants::whole))]
 fn whole(u: &Subject, s: &State, block: usize, p: Place) -> Found<Mark, Item>
     requires scene { IsScene u.now s.now }
-    ensures is { told_by (said s.now) result ≡ tell (so_far s.now) (whole (unit_of u.now) block p) }
+    ensures is { told_by (said s.now) result ≡ tell (sight s.now) (whole (unit_of u.now) block p) }
     ensures over { IfFound result (IsMarkOf s.now) }
 {
     look(u, s, Stage::Wanted, block, p.around)
@@ -73,7 +72,7 @@ fn whole_handed(
 ) -> Found<Mark, Item>
     requires scene { IsScene u.now s.now }
     requires own { IsMarkOf s.now own }
-    ensures is { told_by (said s.now) result ≡ tell (so_far s.now) (whole_handed (unit_of u.now) block p demand (said s.now own)) }
+    ensures is { told_by (said s.now) result ≡ tell (sight s.now) (whole_handed (unit_of u.now) block p demand (said s.now own)) }
     ensures over { IfFound result (IsMarkOf s.now) }
 {
     match whole(u, s, block, p) {
@@ -91,7 +90,7 @@ fn handing_on(
     demand: Demand,
 ) -> Found<Mark, Item>
     requires scene { IsScene u.now s.now }
-    ensures is { told_by (said s.now) result ≡ tell (so_far s.now) (handing_on (unit_of u.now) block p around.now demand) }
+    ensures is { told_by (said s.now) result ≡ tell (sight s.now) (handing_on (unit_of u.now) block p around.now demand) }
     ensures over { IfFound result (IsMarkOf s.now) }
 {
     match before(u, s, block, around, 0) {
@@ -114,7 +113,7 @@ fn count_by(s: &State, own: Mark) -> Mark
 
 fn count_wants(u: &Subject, s: &State, block: usize, around: &Node) -> Found<Mark, Item>
     requires scene { IsScene u.now s.now }
-    ensures is { told_by (said s.now) result ≡ tell (so_far s.now) (count_wants (unit_of u.now) block around.now) }
+    ensures is { told_by (said s.now) result ≡ tell (sight s.now) (count_wants (unit_of u.now) block around.now) }
     ensures over { IfFound result (IsMarkOf s.now) }
 {
     match before(u, s, block, around, 1) {
@@ -172,7 +171,7 @@ fn operand_over(
     requires own { IsMarkOf s.now own }
     requires beside { IsMarkOf s.now beside }
     requires whole { IsMarkOf s.now w }
-    ensures is { told_by (said s.now) result ≡ tell (so_far s.now) (operand_over (unit_of u.now) op (said s.now own) (said s.now beside) (said s.now w)) }
+    ensures is { told_by (said s.now) result ≡ tell (sight s.now) (operand_over (unit_of u.now) op (said s.now own) (said s.now beside) (said s.now w)) }
     ensures over { IfFound result (IsMarkOf s.now) }
 {
     match mark_under(u, s, beside) {
@@ -194,7 +193,7 @@ fn operand_with(
     requires own { IsMarkOf s.now own }
     requires beside { IsMarkOf s.now beside }
     requires whole { IsMarkOf s.now w }
-    ensures is { told_by (said s.now) result ≡ tell (so_far s.now) (operand_with (unit_of u.now) op (said s.now own) (said s.now beside) (said s.now w)) }
+    ensures is { told_by (said s.now) result ≡ tell (sight s.now) (operand_with (unit_of u.now) op (said s.now own) (said s.now beside) (said s.now w)) }
     ensures over { IfFound result (IsMarkOf s.now) }
 {
     if shifts(op) {
@@ -216,7 +215,7 @@ fn operand_in_whole(
     requires scene { IsScene u.now s.now }
     requires own { IsMarkOf s.now own }
     requires beside { IsMarkOf s.now beside }
-    ensures is { told_by (said s.now) result ≡ tell (so_far s.now) (operand_in_whole (unit_of u.now) block p op (said s.now own) (said s.now beside)) }
+    ensures is { told_by (said s.now) result ≡ tell (sight s.now) (operand_in_whole (unit_of u.now) block p op (said s.now own) (said s.now beside)) }
     ensures over { IfFound result (IsMarkOf s.now) }
 {
     match whole(u, s, block, p) {
@@ -242,7 +241,7 @@ fn operand_beside(
 ) -> Found<Mark, Item>
     requires scene { IsScene u.now s.now }
     requires own { IsMarkOf s.now own }
-    ensures is { told_by (said s.now) result ≡ tell (so_far s.now) (operand_beside (unit_of u.now) block p around.now op (said s.now own)) }
+    ensures is { told_by (said s.now) result ≡ tell (sight s.now) (operand_beside (unit_of u.now) block p around.now op (said s.now own)) }
     ensures over { IfFound result (IsMarkOf s.now) }
 {
     let slot = other_slot(p.slot);
@@ -261,7 +260,7 @@ fn operand_wants(
     op: Operator,
 ) -> Found<Mark, Item>
     requires scene { IsScene u.now s.now }
-    ensures is { told_by (said s.now) result ≡ tell (so_far s.now) (operand_wants (unit_of u.now) block p around.now op) }
+    ensures is { told_by (said s.now) result ≡ tell (sight s.now) (operand_wants (unit_of u.now) block p around.now op) }
     ensures over { IfFound result (IsMarkOf s.now) }
 {
     match before(u, s, block, around, p.slot) {
@@ -289,7 +288,7 @@ fn operator_wants(
     op: Operator,
 ) -> Found<Mark, Item>
     requires scene { IsScene u.now s.now }
-    ensures is { told_by (said s.now) result ≡ tell (so_far s.now) (operator_wants (unit_of u.now) block p around.now op) }
+    ensures is { told_by (said s.now) result ≡ tell (sight s.now) (operator_wants (unit_of u.now) block p around.now op) }
     ensures over { IfFound result (IsMarkOf s.now) }
 {
     if is_count(op, p.slot) {
@@ -309,7 +308,7 @@ pub fn operator_asked(
     op: Option<Operator>,
 ) -> Found<Mark, Item>
     requires scene { IsScene u.now s.now }
-    ensures is { told_by (said s.now) result ≡ tell (so_far s.now) (operator_asked (unit_of u.now) block p around.now op) }
+    ensures is { told_by (said s.now) result ≡ tell (sight s.now) (operator_asked (unit_of u.now) block p around.now op) }
     ensures over { IfFound result (IsMarkOf s.now) }
 {
     match op {
@@ -321,7 +320,7 @@ pub fn operator_asked(
 #[tactic(auto, unfolding(crate::specs::Wants::binary_wants))]
 fn binary_wants(u: &Subject, s: &State, block: usize, p: Place, around: &Node) -> Found<Mark, Item>
     requires scene { IsScene u.now s.now }
-    ensures is { told_by (said s.now) result ≡ tell (so_far s.now) (binary_wants (unit_of u.now) block p around.now) }
+    ensures is { told_by (said s.now) result ≡ tell (sight s.now) (binary_wants (unit_of u.now) block p around.now) }
     ensures over { IfFound result (IsMarkOf s.now) }
 {
     let file = file_of(u, block);
@@ -341,7 +340,7 @@ fn form_wants(
     form: Form,
 ) -> Found<Mark, Item>
     requires scene { IsScene u.now s.now }
-    ensures is { told_by (said s.now) result ≡ tell (so_far s.now) (form_wants (unit_of u.now) block p around.now form) }
+    ensures is { told_by (said s.now) result ≡ tell (sight s.now) (form_wants (unit_of u.now) block p around.now form) }
     ensures over { IfFound result (IsMarkOf s.now) }
 {
     match form {
@@ -358,7 +357,7 @@ fn form_wants(
 /// What the place of a part wants, by the node around it.
 pub fn want_op(u: &Subject, s: &State, block: usize, p: Place, around: &Node) -> Found<Mark, Item>
     requires scene { IsScene u.now s.now }
-    ensures is { told_by (said s.now) result ≡ tell (so_far s.now) (op_wants (unit_of u.now) block p around.now) }
+    ensures is { told_by (said s.now) result ≡ tell (sight s.now) (op_wants (unit_of u.now) block p around.now) }
     ensures over { IfFound result (IsMarkOf s.now) }
 {
     let form = form_of(around.kind);

@@ -1,9 +1,8 @@
 //! The rule of an assignment operation, and what its places want.
 ghost use Rattle.std.specs.Prelude.{◌≡◌, IfOk};
 ghost use Rattle.mark_walk.specs.Telling.{tell};
-ghost use Rattle.typed_marks.specs.States.{so_far};
 ghost use Rattle.unit_read.specs.Subjects.{unit_of};
-ghost use Rattle.rule_words.specs.Scenes.{IsScene, told_by, IfFound, said, IsMarkOf, parts_in, AreSeenOf};
+ghost use Rattle.rule_words.specs.Scenes.{sight, IsScene, told_by, IfFound, said, IsMarkOf, parts_in, AreSeenOf};
 ghost use Rattle.rule_words.specs.Steps.{step_in, IsStepOf};
 ghost use Rattle.rule_words.specs.Wanting.{wanted_of, IsWantedOf};
 ghost use Rattle.operator_statements.specs.Rules.{is_operation, operation_reads, is_pair, operated_rule, paired_rule, operation_rule, right_wants, value_wants, operation_wants};
@@ -57,7 +56,7 @@ fn operated(
 ) -> Result<Step, NoMemory>
     requires scene { IsScene u.now s.now }
     requires parts { AreSeenOf s.now parts.now }
-    ensures is { IfOk result (λ step. step_in s.now step ≡ tell (so_far s.now) (operated_rule (unit_of u.now) file node.now (parts_in s.now parts.now))) }
+    ensures is { IfOk result (λ step. step_in s.now step ≡ tell (sight s.now) (operated_rule (unit_of u.now) file node.now (parts_in s.now parts.now))) }
     ensures over { IfOk result (IsStepOf s.now) }
 {
     let op = operator_of(u, file, node);
@@ -77,7 +76,7 @@ fn paired(
 ) -> Result<Step, NoMemory>
     requires scene { IsScene u.now s.now }
     requires parts { AreSeenOf s.now parts.now }
-    ensures is { IfOk result (λ step. step_in s.now step ≡ tell (so_far s.now) (paired_rule (unit_of u.now) at node.now (parts_in s.now parts.now))) }
+    ensures is { IfOk result (λ step. step_in s.now step ≡ tell (sight s.now) (paired_rule (unit_of u.now) at node.now (parts_in s.now parts.now))) }
     ensures over { IfOk result (IsStepOf s.now) }
 {
     // E86
@@ -102,7 +101,7 @@ pub fn judge_operation(
     requires scene { IsScene u.now s.now }
     requires parts { AreSeenOf s.now parts.now }
     requires wanted { IsWantedOf s.now wanted }
-    ensures is { IfOk result (λ step. step_in s.now step ≡ tell (so_far s.now) (operation_rule (unit_of u.now) block at node.now (parts_in s.now parts.now) (wanted_of s.now wanted))) }
+    ensures is { IfOk result (λ step. step_in s.now step ≡ tell (sight s.now) (operation_rule (unit_of u.now) block at node.now (parts_in s.now parts.now) (wanted_of s.now wanted))) }
     ensures over { IfOk result (IsStepOf s.now) }
 {
     let _ = wanted;
@@ -126,7 +125,7 @@ fn right_wants(
     around: &Node,
 ) -> Found<Mark, Item>
     requires { IsScene u.now s.now }
-    ensures is { told_by (said s.now) result ≡ tell (so_far s.now) (right_wants (unit_of u.now) block file p around.now) }
+    ensures is { told_by (said s.now) result ≡ tell (sight s.now) (right_wants (unit_of u.now) block file p around.now) }
     ensures over { IfFound result (IsMarkOf s.now) }
 {
     let op = operator_of(u, file, around);
@@ -142,7 +141,7 @@ fn value_wants(
     around: &Node,
 ) -> Found<Mark, Item>
     requires { IsScene u.now s.now }
-    ensures is { told_by (said s.now) result ≡ tell (so_far s.now) (value_wants (unit_of u.now) block file p around.now) }
+    ensures is { told_by (said s.now) result ≡ tell (sight s.now) (value_wants (unit_of u.now) block file p around.now) }
     ensures over { IfFound result (IsMarkOf s.now) }
 {
     if is_pair(u.nodes_at(file), around) {
@@ -161,7 +160,7 @@ pub fn want_operation(
     around: &Node,
 ) -> Found<Mark, Item>
     requires { IsScene u.now s.now }
-    ensures is { told_by (said s.now) result ≡ tell (so_far s.now) (operation_wants (unit_of u.now) block p around.now) }
+    ensures is { told_by (said s.now) result ≡ tell (sight s.now) (operation_wants (unit_of u.now) block p around.now) }
     ensures over { IfFound result (IsMarkOf s.now) }
 {
     if p.slot == 1 {

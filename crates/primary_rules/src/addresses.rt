@@ -1,10 +1,9 @@
 //! Address operators.
 ghost use Rattle.std.specs.Prelude.{◌≡◌, not, option_map};
 ghost use Rattle.mark_walk.specs.Telling.{tell};
-ghost use Rattle.typed_marks.specs.States.{so_far};
 ghost use Rattle.typed_tree.specs.Basics.{HasBasics};
 ghost use Rattle.unit_read.specs.Subjects.{unit_of};
-ghost use Rattle.rule_words.specs.Scenes.{IsScene, said, IsMarkOf, type_in, IsTypeOf, MayBeTypeOf, part_in, IsSeenOf};
+ghost use Rattle.rule_words.specs.Scenes.{sight, IsScene, said, IsMarkOf, type_in, IsTypeOf, MayBeTypeOf, part_in, IsSeenOf};
 ghost use Rattle.rule_words.specs.Steps.{step_in, IsStepOf};
 ghost use Rattle.rule_words.specs.Good.{AreFactsOf, known_of};
 ghost use Rattle.rule_words.specs.Nodes.{is_paren};
@@ -30,7 +29,7 @@ use unit_read::Subject;
 
 fn indirect_shape(s: &State, shape: Shape) -> Step
     requires { IsShapeOf s.now shape }
-    ensures is { step_in s.now result ≡ tell (so_far s.now) (indirect_shape (shape_in s.now shape)) }
+    ensures is { step_in s.now result ≡ tell (sight s.now) (indirect_shape (shape_in s.now shape)) }
     ensures over { IsStepOf s.now result }
 {
     match shape {
@@ -158,7 +157,7 @@ fn part_is_literal(nodes: &[Node], node: &Node) -> bool
 
 fn address_of(s: &State, literal: bool, x: Facts) -> Step
     requires { AreFactsOf s.now x }
-    ensures is { step_in s.now result ≡ tell (so_far s.now) (address_of literal (known_of s.now x)) }
+    ensures is { step_in s.now result ≡ tell (sight s.now) (address_of literal (known_of s.now x)) }
     ensures over { IsStepOf s.now result }
 {
     let _ = s;
@@ -173,7 +172,7 @@ fn address_of(s: &State, literal: bool, x: Facts) -> Step
 #[tactic(auto, unfolding(crate::specs::Addresses::address_rule))]
 pub fn judge_address(s: &State, nodes: &[Node], node: &Node, p: Seen) -> Step
     requires { IsSeenOf s.now p }
-    ensures is { step_in s.now result ≡ tell (so_far s.now) (address_rule nodes.now node.now (part_in s.now p)) }
+    ensures is { step_in s.now result ≡ tell (sight s.now) (address_rule nodes.now node.now (part_in s.now p)) }
     ensures over { IsStepOf s.now result }
 {
     match p.mark {

@@ -3,9 +3,8 @@ ghost use Rattle.std.specs.Prelude.{◌≡◌, IfOk, option_map, Some};
 ghost use Rattle.mark_walk.specs.Telling.{tell};
 ghost use Rattle.type_model.specs.Tables.{declarations_in};
 ghost use Rattle.type_rel.specs.Answers.{IsInterface};
-ghost use Rattle.typed_marks.specs.States.{so_far};
 ghost use Rattle.unit_read.specs.Subjects.{unit_of};
-ghost use Rattle.rule_words.specs.Scenes.{IsScene, said, IsMarkOf, type_in, IsTypeOf, MayBeTypeOf, part_in, IsSeenOf};
+ghost use Rattle.rule_words.specs.Scenes.{sight, IsScene, said, IsMarkOf, type_in, IsTypeOf, MayBeTypeOf, part_in, IsSeenOf};
 ghost use Rattle.rule_words.specs.Steps.{step_in, IsStepOf};
 ghost use Rattle.rule_words.specs.Good.{AreFactsOf, known_of};
 ghost use Rattle.type_answers.specs.Coming.{ComesTo};
@@ -29,7 +28,7 @@ use unit_read::Subject;
 /// A value of the type, or that and whether the assertion holds.
 fn asserted(s: &State, of: TypeId) -> Step
     requires { IsTypeOf s.now of }
-    ensures is { step_in s.now result ≡ tell (so_far s.now) (asserted (type_in s.now of)) }
+    ensures is { step_in s.now result ≡ tell (sight s.now) (asserted (type_in s.now of)) }
     ensures over { IsStepOf s.now result }
 {
     Step::Says(standing(s, Mode::CommaOk, of))
@@ -37,7 +36,7 @@ fn asserted(s: &State, of: TypeId) -> Step
 
 fn implemented(s: &State, of: TypeId, answer: Implements) -> Step
     requires { IsTypeOf s.now of }
-    ensures is { step_in s.now result ≡ tell (so_far s.now) (implemented (type_in s.now of) answer) }
+    ensures is { step_in s.now result ≡ tell (sight s.now) (implemented (type_in s.now of) answer) }
     ensures over { IsStepOf s.now result }
 {
     match answer {
@@ -49,7 +48,8 @@ fn implemented(s: &State, of: TypeId, answer: Implements) -> Step
 
 #[tactic(auto, using(type_answers::proofs::ComingLaws::same_comes))]
 fn assert_told(u: &Subject, s: &State, of: TypeId, told: Reached<Implements>) -> Step
-    requires { IsTypeOf s.now of }
+    requires scene { IsScene u.now s.now }
+    requires of { IsTypeOf s.now of }
     ensures comes { ComesTo u.now s.now (assert_told (type_in s.now of) told) result }
     ensures over { IsStepOf s.now result }
 {

@@ -5,11 +5,10 @@ ghost use Rattle.mark_walk.specs.Telling.{tell};
 ghost use Rattle.type_model.specs.GoTypes.{BasicType};
 ghost use Rattle.type_rel.specs.Kinds.{is_untyped, is_integer};
 ghost use Rattle.typed_marks.specs.Meanings.{constant_at};
-ghost use Rattle.typed_marks.specs.States.{so_far};
 ghost use Rattle.typed_tree.specs.Basics.{HasBasics};
 ghost use Rattle.unit_read.specs.Subjects.{unit_of};
 ghost use Rattle.rule_words.specs.Asking.{under_ask};
-ghost use Rattle.rule_words.specs.Scenes.{IsScene, type_in, IsTypeOf, MayBeTypeOf, part_in, IsSeenOf};
+ghost use Rattle.rule_words.specs.Scenes.{sight, IsScene, type_in, IsTypeOf, MayBeTypeOf, part_in, IsSeenOf};
 ghost use Rattle.rule_words.specs.Steps.{step_in, IsStepOf};
 ghost use Rattle.rule_words.specs.Types.{is_of};
 ghost use Rattle.type_answers.specs.Coming.{ComesTo};
@@ -128,7 +127,7 @@ fn index_operand(s: &State, e: Elements, i: Operand) -> Step
     requires basics { HasBasics s.now.table }
     requires elements { IsTypeOf s.now e.of }
     requires operand { IsOperandOf s.now i }
-    ensures is { step_in s.now result ≡ tell (so_far s.now) (index_operand (elements_in s.now e) (operand_in s.now i)) }
+    ensures is { step_in s.now result ≡ tell (sight s.now) (index_operand (elements_in s.now e) (operand_in s.now i)) }
     ensures over { IsStepOf s.now result }
 {
     // E42
@@ -147,7 +146,7 @@ fn index_part(s: &State, b: Seen, e: Elements) -> Step
     requires basics { HasBasics s.now.table }
     requires part { IsSeenOf s.now b }
     requires elements { IsTypeOf s.now e.of }
-    ensures is { step_in s.now result ≡ tell (so_far s.now) (index_part (part_in s.now b) (elements_in s.now e)) }
+    ensures is { step_in s.now result ≡ tell (sight s.now) (index_part (part_in s.now b) (elements_in s.now e)) }
     ensures over { IsStepOf s.now result }
 {
     match operand_at(s, b) {
@@ -160,7 +159,7 @@ fn pointed_shape(s: &State, b: Seen, shape: Shape) -> Step
     requires basics { HasBasics s.now.table }
     requires part { IsSeenOf s.now b }
     requires shape { IsShapeOf s.now shape }
-    ensures is { step_in s.now result ≡ tell (so_far s.now) (pointed_shape (part_in s.now b) (shape_in s.now shape)) }
+    ensures is { step_in s.now result ≡ tell (sight s.now) (pointed_shape (part_in s.now b) (shape_in s.now shape)) }
     ensures over { IsStepOf s.now result }
 {
     match shape {
@@ -242,7 +241,7 @@ fn index_shape(u: &Subject, s: &State, b: Seen, x: Operand, shape: Shape) -> Ste
 fn index_text(s: &State, b: Seen, value: Option<ConstId>) -> Step
     requires basics { HasBasics s.now.table }
     requires part { IsSeenOf s.now b }
-    ensures is { step_in s.now result ≡ tell (so_far s.now) (index_part (part_in s.now b) (elements (BasicType Kind.Uint8) Mode.Value (constant_length (constant_at s.now.constants.items value)))) }
+    ensures is { step_in s.now result ≡ tell (sight s.now) (index_part (part_in s.now b) (elements (BasicType Kind.Uint8) Mode.Value (constant_length (constant_at s.now.constants.items value)))) }
     ensures over { IsStepOf s.now result }
 {
     let byte = basic_type(s, Kind::Uint8);

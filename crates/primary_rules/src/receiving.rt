@@ -1,9 +1,8 @@
 //! The receive operator, and receive-only channel types.
 ghost use Rattle.std.specs.Prelude.{◌≡◌, option_map};
 ghost use Rattle.mark_walk.specs.Telling.{tell};
-ghost use Rattle.typed_marks.specs.States.{so_far};
 ghost use Rattle.unit_read.specs.Subjects.{unit_of};
-ghost use Rattle.rule_words.specs.Scenes.{IsScene, type_in, IsTypeOf, MayBeTypeOf, part_in, IsSeenOf};
+ghost use Rattle.rule_words.specs.Scenes.{sight, IsScene, type_in, IsTypeOf, MayBeTypeOf, part_in, IsSeenOf};
 ghost use Rattle.rule_words.specs.Steps.{step_in, IsStepOf};
 ghost use Rattle.rule_words.specs.Good.{AreFactsOf, known_of};
 ghost use Rattle.type_answers.specs.Coming.{ComesTo};
@@ -24,7 +23,7 @@ use unit_read::Subject;
 
 fn received(s: &State, direction: Dir, of: TypeId) -> Step
     requires { IsTypeOf s.now of }
-    ensures is { step_in s.now result ≡ tell (so_far s.now) (received direction (type_in s.now of)) }
+    ensures is { step_in s.now result ≡ tell (sight s.now) (received direction (type_in s.now of)) }
     ensures over { IsStepOf s.now result }
 {
     match direction {
@@ -36,7 +35,7 @@ fn received(s: &State, direction: Dir, of: TypeId) -> Step
 
 fn receive_shape(s: &State, shape: Shape) -> Step
     requires { IsShapeOf s.now shape }
-    ensures is { step_in s.now result ≡ tell (so_far s.now) (receive_shape (shape_in s.now shape)) }
+    ensures is { step_in s.now result ≡ tell (sight s.now) (receive_shape (shape_in s.now shape)) }
     ensures over { IsStepOf s.now result }
 {
     match shape {
@@ -81,7 +80,7 @@ fn receive(u: &Subject, s: &State, x: Facts) -> Step
 /// The type to which an arrow goes: E10 where it has none to go to.
 fn arrow_of(s: &State, takes: bool, x: Facts) -> Step
     requires { AreFactsOf s.now x }
-    ensures is { step_in s.now result ≡ tell (so_far s.now) (arrow_of takes (known_of s.now x)) }
+    ensures is { step_in s.now result ≡ tell (sight s.now) (arrow_of takes (known_of s.now x)) }
     ensures over { IsStepOf s.now result }
 {
     if takes {

@@ -7,10 +7,9 @@ ghost use Rattle.type_model.specs.GoTypes.{signature_of, SignatureBelow, Methods
 ghost use Rattle.type_model.specs.Parts.{method_of};
 ghost use Rattle.type_model.specs.Tables.{types_in, count};
 ghost use Rattle.type_questions.specs.Judging.{seen_as, AreMethodsBelow};
-ghost use Rattle.typed_marks.specs.States.{so_far};
 ghost use Rattle.unit_read.specs.Subjects.{unit_of};
 ghost use Rattle.rule_words.specs.Answers.{answer_in, IsAnswerOf};
-ghost use Rattle.rule_words.specs.Scenes.{IsScene, type_in, IsTypeOf};
+ghost use Rattle.rule_words.specs.Scenes.{sight, IsScene, type_in, IsTypeOf};
 ghost use Rattle.rule_words.specs.Steps.{step_in, IsStepOf};
 ghost use Rattle.rule_words.specs.Good.{AreFactsOf, known_of};
 ghost use Rattle.type_answers.specs.Answering.{listed_methods, IsSelectedBelow, IsSelectionBelow, AreSelectedBelow};
@@ -36,7 +35,7 @@ use unit_read::Subject;
 
 fn field_mark(s: &State, of: TypeId, addressable: bool) -> Step
     requires { IsTypeOf s.now of }
-    ensures is { step_in s.now result ≡ tell (so_far s.now) (field_mark (type_in s.now of) addressable) }
+    ensures is { step_in s.now result ≡ tell (sight s.now) (field_mark (type_in s.now of) addressable) }
     ensures over { IsStepOf s.now result }
 {
     Step::Says(standing(s, part_mode(addressable), of))
@@ -44,7 +43,8 @@ fn field_mark(s: &State, of: TypeId, addressable: bool) -> Step
 
 #[tactic(auto, using(type_answers::proofs::ComingLaws::same_comes))]
 fn field_told(u: &Subject, s: &State, of: TypeId, addressable: bool) -> Step
-    requires { IsTypeOf s.now of }
+    requires scene { IsScene u.now s.now }
+    requires of { IsTypeOf s.now of }
     ensures comes { ComesTo u.now s.now (field_mark (type_in s.now of) addressable) result }
     ensures over { IsStepOf s.now result }
 {
@@ -113,7 +113,7 @@ fn has_method(s: &State, name: &str, from: &str, methods: &[Method]) -> bool
 /// E22.
 fn in_set(s: &State, name: &str, from: &str, good: Answer, methods: &[Method]) -> Step
     requires { IsAnswerOf s.now good }
-    ensures is { step_in s.now result ≡ tell (so_far s.now) (in_set (selector name.now from.now) (answer_in s.now good) (map (method_of (types_in s.now.table)) methods.now)) }
+    ensures is { step_in s.now result ≡ tell (sight s.now) (in_set (selector name.now from.now) (answer_in s.now good) (map (method_of (types_in s.now.table)) methods.now)) }
     ensures over { IsStepOf s.now result }
 {
     if !has_method(s, name, from, methods) {
@@ -131,7 +131,8 @@ fn set_told(
     good: Answer,
     told: Reached<Vec<Method>>,
 ) -> Step
-    requires { IsAnswerOf s.now good }
+    requires scene { IsScene u.now s.now }
+    requires good { IsAnswerOf s.now good }
     ensures comes { ComesTo u.now s.now (set_told (selector name.now from.now) (answer_in s.now good) (listed_methods s.now told)) result }
     ensures over { IsStepOf s.now result }
 {

@@ -2,11 +2,10 @@
 ghost use Rattle.std.specs.Prelude.{◌≡◌, option_map, IfSome};
 ghost use Rattle.mark_walk.specs.Asks.{bind};
 ghost use Rattle.mark_walk.specs.Telling.{tell};
-ghost use Rattle.typed_marks.specs.States.{so_far};
 ghost use Rattle.typed_tree.specs.Basics.{HasBasics};
 ghost use Rattle.unit_read.specs.Subjects.{unit_of};
 ghost use Rattle.rule_words.specs.Asking.{under_ask};
-ghost use Rattle.rule_words.specs.Scenes.{IsScene, type_in, IsTypeOf, MayBeTypeOf, part_in, IsSeenOf};
+ghost use Rattle.rule_words.specs.Scenes.{sight, IsScene, type_in, IsTypeOf, MayBeTypeOf, part_in, IsSeenOf};
 ghost use Rattle.rule_words.specs.Steps.{step_in, IsStepOf};
 ghost use Rattle.type_answers.specs.Coming.{ComesTo};
 ghost use Rattle.primary_rules.specs.InCode.{operand_in, IsOperandOf, shape_in, IsShapeOf, parts_of, ArePartsOf, chosen_of, AreChosenOf, given_in, IsGivenOf};
@@ -41,7 +40,7 @@ fn bounded(s: &State, x: Given, b: Chosen) -> Step
     requires basics { HasBasics s.now.table }
     requires given { IsGivenOf s.now x }
     requires bounds { AreChosenOf s.now b }
-    ensures is { step_in s.now result ≡ tell (so_far s.now) (bounded (given_in s.now x) (chosen_of s.now b)) }
+    ensures is { step_in s.now result ≡ tell (sight s.now) (bounded (given_in s.now x) (chosen_of s.now b)) }
     ensures over { IsStepOf s.now result }
 {
     // E42
@@ -97,7 +96,7 @@ fn with_max(
     requires low { IfSome low (IsOperandOf s.now) }
     requires high { IfSome high (IsOperandOf s.now) }
     requires max { IfSome max (IsOperandOf s.now) }
-    ensures is { step_in s.now result ≡ tell (so_far s.now) (with_max (given_in s.now x) (option_map (operand_in s.now) low) (option_map (operand_in s.now) high) (option_map (operand_in s.now) max)) }
+    ensures is { step_in s.now result ≡ tell (sight s.now) (with_max (given_in s.now x) (option_map (operand_in s.now) low) (option_map (operand_in s.now) high) (option_map (operand_in s.now) max)) }
     ensures over { IsStepOf s.now result }
 {
     bounded(s, x, Chosen { low, high, max })
@@ -109,7 +108,7 @@ fn with_high(s: &State, x: Given, ps: Parts, low: Option<Operand>, high: Option<
     requires parts { ArePartsOf s.now ps }
     requires low { IfSome low (IsOperandOf s.now) }
     requires high { IfSome high (IsOperandOf s.now) }
-    ensures is { step_in s.now result ≡ tell (so_far s.now) (with_high (given_in s.now x) (parts_of s.now ps) (option_map (operand_in s.now) low) (option_map (operand_in s.now) high)) }
+    ensures is { step_in s.now result ≡ tell (sight s.now) (with_high (given_in s.now x) (parts_of s.now ps) (option_map (operand_in s.now) low) (option_map (operand_in s.now) high)) }
     ensures over { IsStepOf s.now result }
 {
     match bound_at(s, ps.max) {
@@ -123,7 +122,7 @@ fn with_low(s: &State, x: Given, ps: Parts, low: Option<Operand>) -> Step
     requires given { IsGivenOf s.now x }
     requires parts { ArePartsOf s.now ps }
     requires low { IfSome low (IsOperandOf s.now) }
-    ensures is { step_in s.now result ≡ tell (so_far s.now) (with_low (given_in s.now x) (parts_of s.now ps) (option_map (operand_in s.now) low)) }
+    ensures is { step_in s.now result ≡ tell (sight s.now) (with_low (given_in s.now x) (parts_of s.now ps) (option_map (operand_in s.now) low)) }
     ensures over { IsStepOf s.now result }
 {
     match bound_at(s, ps.high) {
@@ -138,7 +137,7 @@ fn slice_bounds(s: &State, ps: Parts, x: Given) -> Step
     requires basics { HasBasics s.now.table }
     requires parts { ArePartsOf s.now ps }
     requires given { IsGivenOf s.now x }
-    ensures is { step_in s.now result ≡ tell (so_far s.now) (slice_bounds (parts_of s.now ps) (given_in s.now x)) }
+    ensures is { step_in s.now result ≡ tell (sight s.now) (slice_bounds (parts_of s.now ps) (given_in s.now x)) }
     ensures over { IsStepOf s.now result }
 {
     match bound_at(s, ps.low) {
@@ -166,7 +165,7 @@ fn pointed_slice(s: &State, ps: Parts, shape: Shape) -> Step
     requires basics { HasBasics s.now.table }
     requires parts { ArePartsOf s.now ps }
     requires shape { IsShapeOf s.now shape }
-    ensures is { step_in s.now result ≡ tell (so_far s.now) (pointed_slice (parts_of s.now ps) (shape_in s.now shape)) }
+    ensures is { step_in s.now result ≡ tell (sight s.now) (pointed_slice (parts_of s.now ps) (shape_in s.now shape)) }
     ensures over { IsStepOf s.now result }
 {
     match shape {
@@ -236,7 +235,7 @@ fn slice_text(s: &State, ps: Parts, x: Operand) -> Step
     requires basics { HasBasics s.now.table }
     requires parts { ArePartsOf s.now ps }
     requires operand { IsOperandOf s.now x }
-    ensures is { step_in s.now result ≡ tell (so_far s.now) (slice_text (parts_of s.now ps) (operand_in s.now x)) }
+    ensures is { step_in s.now result ≡ tell (sight s.now) (slice_text (parts_of s.now ps) (operand_in s.now x)) }
     ensures over { IsStepOf s.now result }
 {
     if has_max(s, ps.max) {
@@ -250,7 +249,7 @@ fn slice_array(s: &State, ps: Parts, x: Operand, size: u64, of: TypeId) -> Step
     requires parts { ArePartsOf s.now ps }
     requires operand { IsOperandOf s.now x }
     requires of { IsTypeOf s.now of }
-    ensures is { step_in s.now result ≡ tell (so_far s.now) (slice_array (parts_of s.now ps) (operand_in s.now x) size (type_in s.now of)) }
+    ensures is { step_in s.now result ≡ tell (sight s.now) (slice_array (parts_of s.now ps) (operand_in s.now x) size (type_in s.now of)) }
     ensures over { IsStepOf s.now result }
 {
     if !is_variable(x.mode) {

@@ -2,9 +2,8 @@
 ghost use Rattle.std.specs.Prelude.{◌≡◌};
 ghost use Rattle.mark_walk.specs.Telling.{tell};
 ghost use Rattle.const_tree.specs.Operators.{unary_operator};
-ghost use Rattle.typed_marks.specs.States.{so_far};
 ghost use Rattle.unit_read.specs.Subjects.{unit_of};
-ghost use Rattle.rule_words.specs.Scenes.{IsScene, told_by, IfFound, said, IsMarkOf};
+ghost use Rattle.rule_words.specs.Scenes.{sight, IsScene, told_by, IfFound, said, IsMarkOf};
 ghost use Rattle.primary_rules.specs.Addresses.{passes};
 ghost use Rattle.primary_rules.specs.Wants.{is_channel_type, arrow_demand, operator_wants, unary_asked, unary_wants};
 
@@ -62,7 +61,7 @@ fn operator_wants(
     op: Operator,
 ) -> Found<Mark, Item>
     requires scene { IsScene u.now s.now }
-    ensures is { told_by (said s.now) result ≡ tell (so_far s.now) (operator_wants (unit_of u.now) block p around.now op) }
+    ensures is { told_by (said s.now) result ≡ tell (sight s.now) (operator_wants (unit_of u.now) block p around.now op) }
     ensures over { IfFound result (IsMarkOf s.now) }
 {
     if takes_address(op) {
@@ -81,7 +80,7 @@ fn unary_asked(
     op: Option<Operator>,
 ) -> Found<Mark, Item>
     requires scene { IsScene u.now s.now }
-    ensures is { told_by (said s.now) result ≡ tell (so_far s.now) (unary_asked (unit_of u.now) block p around.now op) }
+    ensures is { told_by (said s.now) result ≡ tell (sight s.now) (unary_asked (unit_of u.now) block p around.now op) }
     ensures over { IfFound result (IsMarkOf s.now) }
 {
     match op {
@@ -103,7 +102,7 @@ pub fn unary_wants(
     around: &Node,
 ) -> Found<Mark, Item>
     requires scene { IsScene u.now s.now }
-    ensures is { told_by (said s.now) result ≡ tell (so_far s.now) (unary_wants (unit_of u.now) block p around.now) }
+    ensures is { told_by (said s.now) result ≡ tell (sight s.now) (unary_wants (unit_of u.now) block p around.now) }
     ensures over { IfFound result (IsMarkOf s.now) }
 {
     let op = unary_in(u, file_of(u, block), around);

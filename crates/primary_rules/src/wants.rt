@@ -3,9 +3,8 @@ ghost use Rattle.std.specs.Prelude.{◌≡◌, option_map};
 ghost use Rattle.mark_walk.specs.Telling.{tell, Says};
 ghost use Rattle.typed_marks.specs.Meanings.{Wishes};
 ghost use Rattle.typed_tree.specs.Basics.{HasBasics};
-ghost use Rattle.typed_marks.specs.States.{so_far};
 ghost use Rattle.unit_read.specs.Subjects.{unit_of};
-ghost use Rattle.rule_words.specs.Scenes.{IsScene, told_by, IfFound, said, IsMarkOf, type_in, MayBeTypeOf};
+ghost use Rattle.rule_words.specs.Scenes.{sight, IsScene, told_by, IfFound, said, IsMarkOf, type_in, MayBeTypeOf};
 ghost use Rattle.rule_words.specs.Words.{wanted_in};
 ghost use Rattle.primary_rules.specs.InCode.{shape_in, IsShapeOf};
 ghost use Rattle.primary_rules.specs.Wants.{int_wish, shape_wants, index_wanted, index_beside, before_part, key_wants, index_wants, slice_wants, assert_wants, wants_type, stands_for_type, star_demand, star_beside, star_own, star_asked, star_wanted, star_wants, paren_asked, paren_wanted, paren_wants, form_wants, primary_wants};
@@ -57,7 +56,7 @@ fn shape_wants(s: &State, shape: Shape) -> Mark
 fn index_wanted(s: &State, under: Option<TypeId>) -> Mark
     requires basics { HasBasics s.now.table }
     requires under { MayBeTypeOf s.now under }
-    ensures is { Says (said s.now result) ≡ tell (so_far s.now) (index_wanted (option_map (type_in s.now) under)) }
+    ensures is { Says (said s.now result) ≡ tell (sight s.now) (index_wanted (option_map (type_in s.now) under)) }
     ensures over { IsMarkOf s.now result }
 {
     match under {
@@ -69,7 +68,7 @@ fn index_wanted(s: &State, under: Option<TypeId>) -> Mark
 fn index_beside(u: &Subject, s: &State, own: Mark) -> Found<Mark, Item>
     requires scene { IsScene u.now s.now }
     requires own { IsMarkOf s.now own }
-    ensures is { told_by (said s.now) result ≡ tell (so_far s.now) (index_beside (unit_of u.now) (said s.now own)) }
+    ensures is { told_by (said s.now) result ≡ tell (sight s.now) (index_beside (unit_of u.now) (said s.now own)) }
     ensures over { IfFound result (IsMarkOf s.now) }
 {
     match mark_under(u, s, own) {
@@ -81,7 +80,7 @@ fn index_beside(u: &Subject, s: &State, own: Mark) -> Found<Mark, Item>
 /// A part before anything is wanted of it.
 fn before_part(u: &Subject, s: &State, block: usize, part: Option<u32>) -> Found<Mark, Item>
     requires scene { IsScene u.now s.now }
-    ensures is { told_by (said s.now) result ≡ tell (so_far s.now) (before_part (unit_of u.now) block part) }
+    ensures is { told_by (said s.now) result ≡ tell (sight s.now) (before_part (unit_of u.now) block part) }
     ensures over { IfFound result (IsMarkOf s.now) }
 {
     match part {
@@ -92,7 +91,7 @@ fn before_part(u: &Subject, s: &State, block: usize, part: Option<u32>) -> Found
 
 fn key_wants(u: &Subject, s: &State, block: usize, around: &Node) -> Found<Mark, Item>
     requires scene { IsScene u.now s.now }
-    ensures is { told_by (said s.now) result ≡ tell (so_far s.now) (key_wants (unit_of u.now) block around.now) }
+    ensures is { told_by (said s.now) result ≡ tell (sight s.now) (key_wants (unit_of u.now) block around.now) }
     ensures over { IfFound result (IsMarkOf s.now) }
 {
     match before_part(u, s, block, part_of(around, 0)) {
@@ -117,7 +116,7 @@ fn index_wants(
     around: &Node,
 ) -> Found<Mark, Item>
     requires scene { IsScene u.now s.now }
-    ensures is { told_by (said s.now) result ≡ tell (so_far s.now) (index_wants (unit_of u.now) block slot around.now) }
+    ensures is { told_by (said s.now) result ≡ tell (sight s.now) (index_wants (unit_of u.now) block slot around.now) }
     ensures over { IfFound result (IsMarkOf s.now) }
 {
     if slot == 0 {
@@ -129,7 +128,7 @@ fn index_wants(
 
 fn slice_wants(s: &State, slot: usize) -> Found<Mark, Item>
     requires { HasBasics s.now.table }
-    ensures is { told_by (said s.now) result ≡ tell (so_far s.now) (slice_wants slot) }
+    ensures is { told_by (said s.now) result ≡ tell (sight s.now) (slice_wants slot) }
     ensures over { IfFound result (IsMarkOf s.now) }
 {
     if slot == 0 {
@@ -140,7 +139,7 @@ fn slice_wants(s: &State, slot: usize) -> Found<Mark, Item>
 }
 
 fn assert_wants(s: &State, slot: usize) -> Found<Mark, Item>
-    ensures is { told_by (said s.now) result ≡ tell (so_far s.now) (assert_wants slot) }
+    ensures is { told_by (said s.now) result ≡ tell (sight s.now) (assert_wants slot) }
     ensures over { IfFound result (IsMarkOf s.now) }
 {
     let _ = s;
@@ -193,7 +192,7 @@ fn star_demand(s: &State, own: Mark) -> Demand
 }
 
 fn star_beside(s: &State, own: Mark) -> Mark
-    ensures is { Says (said s.now result) ≡ tell (so_far s.now) (star_beside (said s.now own)) }
+    ensures is { Says (said s.now result) ≡ tell (sight s.now) (star_beside (said s.now own)) }
     ensures over { IsMarkOf s.now result }
 {
     Mark::Wants(star_demand(s, own), Want::Free)
@@ -201,7 +200,7 @@ fn star_beside(s: &State, own: Mark) -> Mark
 
 fn star_own(u: &Subject, s: &State, block: usize, around: &Node) -> Found<Mark, Item>
     requires scene { IsScene u.now s.now }
-    ensures is { told_by (said s.now) result ≡ tell (so_far s.now) (star_own (unit_of u.now) block around.now) }
+    ensures is { told_by (said s.now) result ≡ tell (sight s.now) (star_own (unit_of u.now) block around.now) }
     ensures over { IfFound result (IsMarkOf s.now) }
 {
     match before_part(u, s, block, part_of(around, 0)) {
@@ -218,7 +217,7 @@ fn star_asked(
     whole: Demand,
 ) -> Found<Mark, Item>
     requires scene { IsScene u.now s.now }
-    ensures is { told_by (said s.now) result ≡ tell (so_far s.now) (star_asked (unit_of u.now) block around.now whole) }
+    ensures is { told_by (said s.now) result ≡ tell (sight s.now) (star_asked (unit_of u.now) block around.now whole) }
     ensures over { IfFound result (IsMarkOf s.now) }
 {
     if wants_type(whole) {
@@ -231,7 +230,7 @@ fn star_asked(
 fn star_wanted(u: &Subject, s: &State, block: usize, around: &Node, m: Mark) -> Found<Mark, Item>
     requires scene { IsScene u.now s.now }
     requires mark { IsMarkOf s.now m }
-    ensures is { told_by (said s.now) result ≡ tell (so_far s.now) (star_wanted (unit_of u.now) block around.now (said s.now m)) }
+    ensures is { told_by (said s.now) result ≡ tell (sight s.now) (star_wanted (unit_of u.now) block around.now (said s.now m)) }
     ensures over { IfFound result (IsMarkOf s.now) }
 {
     let w = wanted_by(s, m);
@@ -240,7 +239,7 @@ fn star_wanted(u: &Subject, s: &State, block: usize, around: &Node, m: Mark) -> 
 
 fn star_wants(u: &Subject, s: &State, block: usize, whole: u32, around: &Node) -> Found<Mark, Item>
     requires scene { IsScene u.now s.now }
-    ensures is { told_by (said s.now) result ≡ tell (so_far s.now) (star_wants (unit_of u.now) block whole around.now) }
+    ensures is { told_by (said s.now) result ≡ tell (sight s.now) (star_wants (unit_of u.now) block whole around.now) }
     ensures over { IfFound result (IsMarkOf s.now) }
 {
     match look(u, s, Stage::Wanted, block, whole) {
@@ -260,7 +259,7 @@ fn paren_asked(
     whole: Demand,
 ) -> Found<Mark, Item>
     requires scene { IsScene u.now s.now }
-    ensures is { told_by (said s.now) result ≡ tell (so_far s.now) (paren_asked (unit_of u.now) block p around.now whole) }
+    ensures is { told_by (said s.now) result ≡ tell (sight s.now) (paren_asked (unit_of u.now) block p around.now whole) }
     ensures over { IfFound result (IsMarkOf s.now) }
 {
     if wants_type(whole) {
@@ -280,7 +279,7 @@ fn paren_wanted(
 ) -> Found<Mark, Item>
     requires scene { IsScene u.now s.now }
     requires mark { IsMarkOf s.now m }
-    ensures is { told_by (said s.now) result ≡ tell (so_far s.now) (paren_wanted (unit_of u.now) block p around.now (said s.now m)) }
+    ensures is { told_by (said s.now) result ≡ tell (sight s.now) (paren_wanted (unit_of u.now) block p around.now (said s.now m)) }
     ensures over { IfFound result (IsMarkOf s.now) }
 {
     let w = wanted_by(s, m);
@@ -289,7 +288,7 @@ fn paren_wanted(
 
 fn paren_wants(u: &Subject, s: &State, block: usize, p: Place, around: &Node) -> Found<Mark, Item>
     requires scene { IsScene u.now s.now }
-    ensures is { told_by (said s.now) result ≡ tell (so_far s.now) (paren_wants (unit_of u.now) block p around.now) }
+    ensures is { told_by (said s.now) result ≡ tell (sight s.now) (paren_wants (unit_of u.now) block p around.now) }
     ensures over { IfFound result (IsMarkOf s.now) }
 {
     match look(u, s, Stage::Wanted, block, p.around) {
@@ -310,7 +309,7 @@ fn form_wants(
     form: Form,
 ) -> Found<Mark, Item>
     requires scene { IsScene u.now s.now }
-    ensures is { told_by (said s.now) result ≡ tell (so_far s.now) (form_wants (unit_of u.now) block p around.now form) }
+    ensures is { told_by (said s.now) result ≡ tell (sight s.now) (form_wants (unit_of u.now) block p around.now form) }
     ensures over { IfFound result (IsMarkOf s.now) }
 {
     match form {
@@ -334,7 +333,7 @@ pub fn want_primary(
     around: &Node,
 ) -> Found<Mark, Item>
     requires scene { IsScene u.now s.now }
-    ensures is { told_by (said s.now) result ≡ tell (so_far s.now) (primary_wants (unit_of u.now) block p around.now) }
+    ensures is { told_by (said s.now) result ≡ tell (sight s.now) (primary_wants (unit_of u.now) block p around.now) }
     ensures over { IfFound result (IsMarkOf s.now) }
 {
     form_wants(u, s, block, p, around, form_of(around.kind))

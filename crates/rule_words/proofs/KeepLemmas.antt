@@ -2,6 +2,7 @@
 use Rattle.std.proofs.Common.{◌≡◌, ℕ, ◌<◌, ◌≤◌, List, ◌++◌, ◌∷◌, [], length, slice_get, Option, Some, None, Bool, true, false, if◌then◌else◌, refl, sym, ap, ◌∙◌, subst, arith, inl, inr}
 use Rattle.std.proofs.lemmas.Bool.{le-leb, lt-leb}
 use Rattle.gv_base.specs.declared.constant.Const.{Const}
+use Rattle.std.specs.Global.{Vec}
 use Rattle.mark_walk.specs.Asks.{Adds, Stays}
 use Rattle.type_model.specs.declared.term.TypeName.{TypeName}
 use Rattle.type_model.specs.declared.term.TypeId.{TypeId}
@@ -16,6 +17,7 @@ use Rattle.typed_tree.specs.declared.mark.Mode.TheVariants.{Constant}
 use Rattle.typed_tree.specs.Basics.{HasBasics}
 use Rattle.typed_tree.proofs.BasicLaws.{grown_basics}
 use Rattle.typed_tree.specs.Universe.{error_name}
+use Rattle.typed_marks.specs.declared.item.Block.{Block}
 use Rattle.typed_marks.specs.declared.item.Item.{Item}
 use Rattle.typed_marks.specs.declared.mark.ConstId.{ConstId}
 use Rattle.typed_marks.specs.declared.mark.Mark.{Mark}
@@ -24,7 +26,8 @@ use Rattle.typed_marks.specs.declared.state.State.{State}
 use Rattle.typed_marks.specs.Meanings.{Meaning, Known, Right, Beyond, mark_in, mark_over}
 use Rattle.typed_marks.specs.States.{IsState, so_far, HasGrown}
 use Rattle.unit_read.specs.declared.subject.Subject.{Subject}
-use Rattle.unit_read.specs.Subjects.{unit_of}
+use Rattle.unit_read.specs.Subjects.{full_of, unit_of}
+use Rattle.unit_read.specs.Units.{base_of}
 use Rattle.rule_words.specs.Asking.{declaration_told}
 use Rattle.rule_words.specs.Scenes.{IsScene, said, type_in}
 use Rattle.typed_tree.specs.declared.rule.Limit.TheVariants.{WideType}
@@ -41,23 +44,25 @@ plain_told s (m.Wants demand want) e = refl
 plain_told s (m.Declared of) e = absurd cc
 
 pub kept_scene : (u : Subject) (s next : State) (i : Item) (mark : Mark) → IsScene u s → so_far s i ≡ None → is_plain mark ≡ true
-    → IsState next → next.table ≡ s.table → Adds (so_far s) (so_far next) i (said s mark) → IsScene u next
-kept_scene u s next i mark scene none plain state table adds = record {
+    → IsState next → next.table ≡ s.table → next.blocks ≡ s.blocks → Adds (so_far s) (so_far next) i (said s mark) → IsScene u next
+kept_scene u s next i mark scene none plain state table blocks adds = record {
   read = scene.read;
   state = state;
+  blocks = ap (λ (bs : Vec Block). length bs.items) blocks ∙ scene.blocks;
   basics = subst HasBasics (sym table) scene.basics;
   env = subst (λ (t : TypeTable). Extends u.env.now.types.now (terms_in t)) (sym table) scene.env;
   step = λ name. ap (λ (t : TypeTable). declarations_in t name) table ∙ scene.step name
-      ∙ sym (adds_declared (unit_of u) (so_far s) (so_far next) i (said s mark) none (plain_told s mark plain) adds name);
+      ∙ sym (adds_declared (base_of (full_of u)) (unit_of u) (so_far s) (so_far next) i (said s mark) none (plain_told s mark plain) adds name);
 }
 
 pub grown_scene : (u : Subject) (s next : State) → IsScene u s → HasGrown s next → IsScene u next
 grown_scene u s next scene grown = record {
   read = scene.read;
   state = grown.state;
+  blocks = ap (λ (bs : Vec Block). length bs.items) grown.blocks ∙ scene.blocks;
   basics = grown_basics s.table next.table scene.basics grown.state.table grown.extends;
   env = extends_then u.env.now.types.now (terms_in s.table) (terms_in next.table) scene.env grown.extends;
-  step = λ name. grown.declarations name ∙ scene.step name ∙ sym (stays_declared (unit_of u) (so_far s) (so_far next) grown.stays name);
+  step = λ name. grown.declarations name ∙ scene.step name ∙ sym (stays_declared (base_of (full_of u)) (unit_of u) (so_far s) (so_far next) grown.stays name);
 }
 
 -- ---- marks that stay, then one more

@@ -1,7 +1,8 @@
 -- What is asked for one after the other, and parts that are read so.
 use Rattle.std.proofs.Common.{◌≡◌, ℕ, ◌+◌, ◌<◌, ◌≤◌, zero, suc, List, [], ◌∷◌, ◌++◌, map, drop, length, slice_get, Option, Some, None, refl, sym, ap, ◌∙◌, subst, arith}
 use Rattle.mark_walk.specs.Asks.{done, bind}
-use Rattle.mark_walk.specs.Telling.{Outcome, Says, Waits, tell, then}
+use Rattle.mark_walk.specs.Telling.{Outcome, Says, Waits, Sight, tell, then}
+use Rattle.type_questions.specs.Questions.{Question, Told}
 use Rattle.mark_walk.proofs.TellLaws.{tell_bind, told_bind}
 use Rattle.typed_marks.specs.declared.item.Stage.{Stage}
 use Rattle.typed_marks.specs.declared.item.Item.{Item}
@@ -34,40 +35,40 @@ drop_end [] (suc i) low = refl
 drop_end (x ∷ xs) zero low = absurd (omega arith)
 drop_end (x ∷ xs) (suc i) low = drop_end xs i (omega arith)
 
-module _ {X R : Type 0} (so_far : Item → Option Meaning) (f : X → Asks R) where
+module _ {X R : Type 0} (sight : Sight Item Meaning Question Told) (f : X → Asks R) where
   -- what comes of the rest, after these, comes of all
   pub record Rests (list : List X) (i : ℕ) (front : List R) : Type 0 where
-    pub says : (xs : List R) → tell so_far (ask_each f (drop i list)) ≡ Says xs → tell so_far (ask_each f list) ≡ Says (front ++ xs)
-    pub waits : (j : Item) → tell so_far (ask_each f (drop i list)) ≡ Waits j → tell so_far (ask_each f list) ≡ Waits j
+    pub says : (xs : List R) → tell sight (ask_each f (drop i list)) ≡ Says xs → tell sight (ask_each f list) ≡ Says (front ++ xs)
+    pub waits : (j : Item) → tell sight (ask_each f (drop i list)) ≡ Waits j → tell sight (ask_each f list) ≡ Waits j
 
   pub rests_first : (list : List X) → Rests list 0 []
   rests_first list = record { says = λ xs e. e; waits = λ j e. e }
 
   -- once the first has been asked for
-  read_first : (x : X) (list : List X) (r : R) → tell so_far (f x) ≡ Says r
-      → tell so_far (ask_each f (x ∷ list)) ≡ then so_far (tell so_far (ask_each f list)) (λ xs. done (r ∷ xs))
+  read_first : (x : X) (list : List X) (r : R) → tell sight (f x) ≡ Says r
+      → tell sight (ask_each f (x ∷ list)) ≡ then sight (tell sight (ask_each f list)) (λ xs. done (r ∷ xs))
   read_first x list r e =
-      told_bind so_far (f x) (λ p. bind (ask_each f list) (λ ps. done (p ∷ ps))) (Says r) e
-      ∙ tell_bind so_far (ask_each f list) (λ ps. done (r ∷ ps))
+      told_bind sight (f x) (λ p. bind (ask_each f list) (λ ps. done (p ∷ ps))) (Says r) e
+      ∙ tell_bind sight (ask_each f list) (λ ps. done (r ∷ ps))
 
   pub rests_more : (list : List X) (i : ℕ) (front : List R) (x : X) (r : R) → slice_get list i ≡ Some x
-      → tell so_far (f x) ≡ Says r → Rests list i front → Rests list (i + 1) (front ++ r ∷ [])
+      → tell sight (f x) ≡ Says r → Rests list i front → Rests list (i + 1) (front ++ r ∷ [])
   rests_more list i front x r at e rests = record {
-    says = λ xs more. rests.says (r ∷ xs) (here ∙ ap (λ o. then so_far o (λ ps. done (r ∷ ps))) more) ∙ ap Says (sym (assoc front r xs));
-    waits = λ j more. rests.waits j (here ∙ ap (λ o. then so_far o (λ ps. done (r ∷ ps))) more);
+    says = λ xs more. rests.says (r ∷ xs) (here ∙ ap (λ o. then sight o (λ ps. done (r ∷ ps))) more) ∙ ap Says (sym (assoc front r xs));
+    waits = λ j more. rests.waits j (here ∙ ap (λ o. then sight o (λ ps. done (r ∷ ps))) more);
   } where
-    here : tell so_far (ask_each f (drop i list)) ≡ then so_far (tell so_far (ask_each f (drop (i + 1) list))) (λ ps. done (r ∷ ps))
-    here = ap (λ l. tell so_far (ask_each f l)) (drop_at list i x at) ∙ read_first x (drop (i + 1) list) r e
+    here : tell sight (ask_each f (drop i list)) ≡ then sight (tell sight (ask_each f (drop (i + 1) list))) (λ ps. done (r ∷ ps))
+    here = ap (λ l. tell sight (ask_each f l)) (drop_at list i x at) ∙ read_first x (drop (i + 1) list) r e
 
-  pub rests_end : (list : List X) (i : ℕ) (front : List R) → length list ≤ i → Rests list i front → Says front ≡ tell so_far (ask_each f list)
+  pub rests_end : (list : List X) (i : ℕ) (front : List R) → length list ≤ i → Rests list i front → Says front ≡ tell sight (ask_each f list)
   rests_end list i front low rests =
-      sym (rests.says [] (ap (λ l. tell so_far (ask_each f l)) (drop_end list i low)) ∙ ap Says (nil_last front))
+      sym (rests.says [] (ap (λ l. tell sight (ask_each f l)) (drop_end list i low)) ∙ ap Says (nil_last front))
 
   pub rests_wait : (list : List X) (i : ℕ) (front : List R) (x : X) (j : Item) → slice_get list i ≡ Some x
-      → tell so_far (f x) ≡ Waits j → Rests list i front → Waits j ≡ tell so_far (ask_each f list)
+      → tell sight (f x) ≡ Waits j → Rests list i front → Waits j ≡ tell sight (ask_each f list)
   rests_wait list i front x j at e rests =
-      sym (rests.waits j (ap (λ l. tell so_far (ask_each f l)) (drop_at list i x at)
-      ∙ told_bind so_far (f x) (λ p. bind (ask_each f (drop (i + 1) list)) (λ ps. done (p ∷ ps))) (Waits j) e))
+      sym (rests.waits j (ap (λ l. tell sight (ask_each f l)) (drop_at list i x at)
+      ∙ told_bind sight (f x) (λ p. bind (ask_each f (drop (i + 1) list)) (λ ps. done (p ∷ ps))) (Waits j) e))
 
 pub parts_last : (s : State) (out : List Seen) (x : Seen) → parts_in s (out ++ x ∷ []) ≡ parts_in s out ++ part_in s x ∷ []
 parts_last s [] x = refl

@@ -1,19 +1,23 @@
 -- What rules ask for.
-use Rattle.std.specs.Prelude.{◌≡◌, ℕ, ◌-◌, ◌&&◌, Bool, true, false, nat_le, nat_lt, if◌then◌else◌, List, [], ◌∷◌, Option, Some, None, option_map, option_and_then}
+use Rattle.std.specs.Prelude.{◌≡◌, ℕ, ◌-◌, ◌&&◌, Bool, true, false, nat_le, nat_lt, if◌then◌else◌, List, [], ◌∷◌, length, Option, Some, None, unwrap_or, option_map, option_and_then}
 use Rattle.std.specs.Option.{option_map_or}
+use Rattle.std.specs.Str.{bytes_eq}
 use Rattle.go_tree.specs.declared.tree.NodeRef.{NodeRef}
 use Rattle.type_model.specs.declared.term.TypeName.{TypeName}
 use Rattle.type_model.specs.GoTypes.{GoType, BasicType, DefinedType, PointerTo, SliceOf, ArrayOf, MapOf, ChanOf, FuncOf, StructOf, InterfaceOf}
 use Rattle.type_model.specs.Declarations.{Declaration}
-use Rattle.mark_walk.specs.Asks.{Ask, done, ask, bind}
+use Rattle.type_model.specs.Tables.{is_same_name}
+use Rattle.mark_walk.specs.Asks.{Ask, done, ask, put, bind}
+use Rattle.typed_tree.specs.Universe.{error_name}
 use Rattle.typed_marks.specs.declared.item.Stage.{Stage}
 use Rattle.typed_marks.specs.declared.item.Stage.TheVariants as s
 use Rattle.typed_marks.specs.declared.item.Item.{Item}
 use Rattle.typed_marks.specs.declared.item.Span.{Span}
 use Rattle.typed_marks.specs.Meanings.{Known, Meaning, Right, Wrong, Beyond, Quiet, Wishes, Declares}
-use Rattle.type_questions.specs.Questions.{Question, Told}
+use Rattle.type_questions.specs.Questions.{Question, DeclaredAs, Told, Holds, Implementing, Selecting, Listing, Declaring}
 use Rattle.unit_read.specs.declared.passage.Passage.{Passage}
-use Rattle.unit_read.specs.Units.{Unit, passage_at, type_node, base_of}
+use Rattle.unit_read.specs.Passages.{passages}
+use Rattle.unit_read.specs.Units.{Unit, passage_at, type_node, error_declaration}
 use Rattle.rule_words.specs.declared.read.How.{How}
 use Rattle.rule_words.specs.declared.read.How.TheVariants as h
 use Rattle.rule_words.specs.declared.read.Read.{Read}
@@ -52,6 +56,17 @@ under_at u at = if stands u at.file at.node then Some (item s.Under at.file at.n
 abbrev pub type_item : Unit → TypeName → Option Item
 type_item u name = option_and_then (under_at u) (type_node u name)
 
+-- What is waited for where nothing that is known declares a type: no block has it, it is never marked, and so the rule has no answer.
+abbrev pub nowhere_of : Unit → Item
+nowhere_of u = item s.Under (length (passages u.trees)) 0
+
+-- the item that declares a type of this name, of this package or of one that isn't known
+abbrev pub item_for : Unit → TypeName → Item
+item_for u name = unwrap_or (type_item u name) (nowhere_of u)
+
+abbrev pub declarer : Unit → TypeName → Option Item
+declarer u name = Some (item_for u name)
+
 -- what a mark says that a type is declared with
 abbrev pub declaration_told : Meaning → Option Declaration
 declaration_told (Right x) = None
@@ -61,13 +76,24 @@ declaration_told Quiet = None
 declaration_told (Wishes demand wish) = None
 declaration_told (Declares d) = Some d
 
-abbrev pub item_ask : Option Item → Asks (Option Declaration)
-item_ask None = done None
-item_ask (Some i) = ask i (λ m. done (declaration_told m))
+abbrev pub item_ask : Item → Asks (Option Declaration)
+item_ask i = ask i (λ m. done (declaration_told m))
 
--- what a defined type is declared with: from the start, or by this package
+abbrev pub declaration_given : Told → Asks (Option Declaration)
+declaration_given (Holds x) = done None
+declaration_given (Implementing x) = done None
+declaration_given (Selecting x) = done None
+declaration_given (Listing x) = done None
+declaration_given (Declaring d) = done (Some d)
+
+-- what a type of this package is declared with, or one of another
+abbrev pub named_ask : Bool → Unit → TypeName → Asks (Option Declaration)
+named_ask true u name = item_ask (item_for u name)
+named_ask false u name = put (DeclaredAs name) declaration_given
+
+-- What a defined type is declared with. Of a type of another package it is asked, so that a rule doesn't rest on what is known of other packages.
 abbrev pub declaration_ask : Unit → TypeName → Asks (Option Declaration)
-declaration_ask u name = option_map_or (λ (d : Declaration). done (Some d)) (base_of u name) (item_ask (type_item u name))
+declaration_ask u name = if is_same_name name error_name then done (Some error_declaration) else named_ask (bytes_eq u.path name.package) u name
 
 abbrev pub named_under : Unit → TypeName → Asks (Option GoType)
 named_under u name = bind (declaration_ask u name) (λ d. done (option_map (λ (d : Declaration). d.under) d))

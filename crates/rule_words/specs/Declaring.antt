@@ -11,7 +11,7 @@ use Rattle.type_model.specs.Tables.{types_in, count, declaration_of}
 use Rattle.type_questions.specs.declared.reached.Reached.{Reached}
 use Rattle.type_questions.specs.declared.reached.Reached.TheVariants.{Got, Lost}
 use Rattle.type_questions.specs.Judging.{IsItemOf}
-use Rattle.type_questions.specs.Questions.{Question, IsComparable, Told, Holds, Implementing, Selecting, Listing}
+use Rattle.type_questions.specs.Questions.{Question, IsComparable, Told, Holds, Implementing, Selecting, Listing, Declaring as DeclaringTold}
 use Rattle.typed_marks.specs.declared.item.Item.{Item}
 use Rattle.typed_marks.specs.declared.state.State.{State}
 use Rattle.typed_marks.specs.Meanings.{Meaning, Quiet, Declares}
@@ -33,6 +33,7 @@ declares told (Holds reached) = declared_by told reached
 declares told (Implementing x) = done Quiet
 declares told (Selecting x) = done Quiet
 declares told (Listing x) = done Quiet
+declares told (DeclaringTold x) = done Quiet
 
 -- ---- in code
 

@@ -9,7 +9,7 @@ use Rattle.typed_tree.specs.declared.rule.Rule.{Rule as RuleNumber}
 use Rattle.typed_tree.specs.declared.rule.TheConstants.{MISMATCHED_OPERANDS, NOT_COMPARABLE}
 use Rattle.typed_marks.specs.Meanings.{Meaning, Wrong, Quiet}
 use Rattle.type_questions.specs.declared.reached.Reached.TheVariants.{Got, Lost}
-use Rattle.type_questions.specs.Questions.{Question, AssignableTo, IsComparable, MethodSet, Told, Holds, Implementing, Selecting, Listing}
+use Rattle.type_questions.specs.Questions.{Question, AssignableTo, IsComparable, MethodSet, Told, Holds, Implementing, Selecting, Listing, Declaring}
 use Rattle.rule_words.specs.Asking.{Rule}
 
 -- one rule where a relation holds, and another where it doesn't; nothing is said where a name that it needs is declared by nothing
@@ -19,6 +19,7 @@ decided yes_rule no_rule (Holds Lost) = done Quiet
 decided yes_rule no_rule (Implementing x) = done Quiet
 decided yes_rule no_rule (Selecting x) = done Quiet
 decided yes_rule no_rule (Listing x) = done Quiet
+decided yes_rule no_rule (Declaring x) = done Quiet
 
 -- the mark where a relation holds, else this rule is broken
 abbrev pub held : Meaning → RuleNumber → Told → Rule
@@ -42,6 +43,7 @@ assigned_with of value to rest (Listing Lost) = done Quiet
 assigned_with of value to rest (Holds x) = done Quiet
 assigned_with of value to rest (Implementing x) = done Quiet
 assigned_with of value to rest (Selecting x) = done Quiet
+assigned_with of value to rest (Declaring x) = done Quiet
 
 -- Whether an operand is assignable to a type. Its methods count where that is an interface, and are asked for there alone.
 abbrev pub assign_ask : Bool → GoType → Option Const → GoType → (Told → Rule) → Rule

@@ -1,35 +1,57 @@
 -- A package that has been read, with its marks so far; and what code finds there, with types themselves in place of their numbers.
-use Rattle.std.specs.Prelude.{◌≡◌, ◌<◌, ℕ, List, length, map, option_map, Option, Some, IfSome, slice_get}
+use Rattle.std.specs.Option.{option_map_or}
+use Rattle.std.specs.Prelude.{◌≡◌, ◌<◌, ℕ, List, length, map, option_map, Option, Some, None, IfSome, slice_get}
 use Rattle.type_model.specs.declared.term.TypeId.{TypeId}
 use Rattle.type_model.specs.declared.term.TypeName.{TypeName}
+use Rattle.type_model.specs.Declarations.{Declaration}
 use Rattle.type_model.specs.GoTypes.{GoType, type_at}
+use Rattle.type_model.specs.declared.table.TypeTable.{TypeTable}
 use Rattle.type_model.specs.Tables.{types_in, terms_in, count, declarations_in, Extends}
 use Rattle.typed_tree.specs.Basics.{HasBasics}
-use Rattle.mark_walk.specs.Telling.{Outcome, Says, Waits}
+use Rattle.mark_walk.specs.Telling.{Outcome, Says, Waits, Glimpse, Answered, Pending, Open, Sight}
 use Rattle.typed_marks.specs.declared.item.Item.{Item}
+use Rattle.typed_marks.specs.Items.{nowhere}
 use Rattle.typed_marks.specs.declared.mark.Mark.{Mark}
 use Rattle.typed_marks.specs.declared.state.State.{State}
 use Rattle.typed_marks.specs.Meanings.{Meaning, mark_in, IsMarkIn}
 use Rattle.typed_marks.specs.States.{IsState, so_far}
 use Rattle.type_questions.specs.declared.reached.Found.{Found}
 use Rattle.type_questions.specs.declared.reached.Found.TheVariants as f
-use Rattle.type_questions.specs.Questions.{Question, Told}
+use Rattle.type_questions.specs.Questions.{Question, AssignableTo, ConvertibleTo, IsComparable, MissingMethod, FieldOrMethod, MethodSet, DeclaredAs, Told, Declaring}
 use Rattle.type_questions.specs.Over.{declared}
 use Rattle.unit_read.specs.declared.subject.Subject.{Subject}
+use Rattle.unit_read.specs.Passages.{passages}
 use Rattle.unit_read.specs.Units.{base_of}
-use Rattle.unit_read.specs.Subjects.{unit_of, IsRead}
+use Rattle.unit_read.specs.Subjects.{full_of, unit_of, IsRead}
 use Rattle.rule_words.specs.declared.seen.Seen.{Seen}
 use Rattle.rule_words.specs.Parts.{Part}
 use Rattle.rule_words.specs.Asking.{type_item, declaration_told}
 
--- The package has been read, the types by whose numbers the environment says what packages export stand in the table under these, and the
--- table declares what is declared from the start and by the marks so far.
+-- The package has been read, there is a block for each of its passages, the types by whose numbers the environment says what packages export stand in the
+-- table under these, and the table declares what is declared from the start and by the marks so far.
 pub record IsScene (u : Subject) (s : State) : Type 0 where
   pub read : IsRead u
   pub state : IsState s
+  pub blocks : length s.blocks.items ≡ length (passages (unit_of u).trees)
   pub basics : HasBasics s.table
   pub env : Extends u.env.now.types.now (terms_in s.table)
-  pub step : (name : TypeName) → declarations_in s.table name ≡ declared (base_of (unit_of u)) (type_item (unit_of u)) declaration_told (so_far s) name
+  pub step : (name : TypeName) → declarations_in s.table name ≡ declared (base_of (full_of u)) (type_item (unit_of u)) declaration_told (so_far s) name
+
+-- ---- what is seen at once
+
+-- A table tells what names are declared with, and that the others are not. What a name is declared with that isn't waits for what is nowhere.
+abbrev pub known_in : State → Question → Glimpse Item Told
+known_in s (AssignableTo q) = Open
+known_in s (ConvertibleTo q) = Open
+known_in s (IsComparable of) = Open
+known_in s (MissingMethod q) = Open
+known_in s (FieldOrMethod q) = Open
+known_in s (MethodSet of) = Open
+known_in s (DeclaredAs name) = option_map_or (λ (d : Declaration). Answered (Declaring d)) (declarations_in s.table name) (Pending (nowhere s.blocks.items))
+
+-- the marks so far, and what the table tells
+abbrev pub sight : State → Sight Item Meaning Question Told
+sight s = record { marks = so_far s; known = known_in s }
 
 -- ---- what is found
 

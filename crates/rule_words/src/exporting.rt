@@ -5,7 +5,7 @@ ghost use Rattle.package_faces.specs.Interfaces.{faces_of};
 ghost use Rattle.type_model.specs.Tables.{types_in, count};
 ghost use Rattle.unit_read.specs.Exports.{uses_in, IsUseIn};
 ghost use Rattle.unit_read.specs.Imports.{exported_of};
-ghost use Rattle.unit_read.specs.Subjects.{unit_of};
+ghost use Rattle.unit_read.specs.Subjects.{full_of, unit_of};
 ghost use Rattle.rule_words.specs.Scenes.{IsScene};
 
 use go_tree::Object;
@@ -23,7 +23,7 @@ pub fn exported<'a>(
     requires { IsScene u.now s.now }
     ensures is { uses_in (types_in s.now.table) (option_copied result) ≡ exported_of (unit_of u.now) name.now object }
     ensures within { IfSome (option_copied result) (IsUseIn (count s.now.table)) }
-    ensures seen { faces_of (types_in s.now.table) u.now.env.now.interfaces.now ≡ (unit_of u.now).env }
+    ensures seen { faces_of (types_in s.now.table) u.now.env.now.interfaces.now ≡ (full_of u.now).env }
 {
     let _ = s;
     exported_of(u, name, object)

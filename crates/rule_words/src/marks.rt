@@ -1,10 +1,9 @@
 //! The marks so far.
 ghost use Rattle.std.specs.Prelude.{◌≡◌};
 ghost use Rattle.mark_walk.specs.Telling.{tell};
-ghost use Rattle.typed_marks.specs.States.{so_far};
 ghost use Rattle.unit_read.specs.Subjects.{unit_of, IsRead};
 ghost use Rattle.rule_words.specs.Asking.{is_within, stands, mark_ask};
-ghost use Rattle.rule_words.specs.Scenes.{IsScene, told_by, IfFound, said, IsMarkOf};
+ghost use Rattle.rule_words.specs.Scenes.{sight, IsScene, told_by, IfFound, said, IsMarkOf};
 
 use type_questions::Found;
 use typed_marks::{Item, Mark, Span, Stage, State};
@@ -30,7 +29,7 @@ pub fn stands(u: &Subject, block: usize, n: usize) -> bool
 /// The mark of a node at a stage, or its item, where that has no mark yet. What isn't there is Silent.
 pub fn look(u: &Subject, s: &State, stage: Stage, block: usize, n: u32) -> Found<Mark, Item>
     requires { IsScene u.now s.now }
-    ensures is { told_by (said s.now) result ≡ tell (so_far s.now) (mark_ask (unit_of u.now) stage block n) }
+    ensures is { told_by (said s.now) result ≡ tell (sight s.now) (mark_ask (unit_of u.now) stage block n) }
     ensures over { IfFound result (IsMarkOf s.now) }
 {
     if !stands(u, block, n as usize) {

@@ -2,11 +2,10 @@
 ghost use Rattle.std.specs.Prelude.{◌≡◌, ◌<◌, IfOk, OnOk, [], length, slice_get, Some};
 ghost use Rattle.std.specs.Global.{Vec};
 ghost use Rattle.mark_walk.specs.Telling.{tell};
-ghost use Rattle.typed_marks.specs.States.{so_far};
 ghost use Rattle.unit_read.specs.Subjects.{unit_of};
 ghost use Rattle.rule_words.specs.Parts.{stage_of};
 ghost use Rattle.rule_words.specs.Asking.{marked_part, part_ask, parts_ask, known_part};
-ghost use Rattle.rule_words.specs.Scenes.{IsScene, told_by, IfFound, said, IsMarkOf, part_in, IsSeenOf, parts_in, AreSeenOf};
+ghost use Rattle.rule_words.specs.Scenes.{sight, IsScene, told_by, IfFound, said, IsMarkOf, part_in, IsSeenOf, parts_in, AreSeenOf};
 
 use crate::marks::look;
 use crate::read::{How, Read};
@@ -32,7 +31,7 @@ fn stage_of(how: How, stage: Stage) -> Stage
 fn known(u: &Subject, s: &State, m: Mark) -> Found<Seen, Item>
     requires scene { IsScene u.now s.now }
     requires mark { IsMarkOf s.now m }
-    ensures is { told_by (part_in s.now) result ≡ tell (so_far s.now) (known_part (unit_of u.now) (said s.now m)) }
+    ensures is { told_by (part_in s.now) result ≡ tell (sight s.now) (known_part (unit_of u.now) (said s.now m)) }
     ensures over { IfFound result (IsSeenOf s.now) }
 {
     match mark_under(u, s, m) {
@@ -44,7 +43,7 @@ fn known(u: &Subject, s: &State, m: Mark) -> Found<Seen, Item>
 fn marked(u: &Subject, s: &State, how: How, m: Mark) -> Found<Seen, Item>
     requires scene { IsScene u.now s.now }
     requires mark { IsMarkOf s.now m }
-    ensures is { told_by (part_in s.now) result ≡ tell (so_far s.now) (marked_part (unit_of u.now) how (said s.now m)) }
+    ensures is { told_by (part_in s.now) result ≡ tell (sight s.now) (marked_part (unit_of u.now) how (said s.now m)) }
     ensures over { IfFound result (IsSeenOf s.now) }
 {
     match how {
@@ -64,7 +63,7 @@ fn marked(u: &Subject, s: &State, how: How, m: Mark) -> Found<Seen, Item>
 /// One part of a node, or the item for whose mark it waits.
 pub fn part(u: &Subject, s: &State, stage: Stage, block: usize, read: Read) -> Found<Seen, Item>
     requires { IsScene u.now s.now }
-    ensures is { told_by (part_in s.now) result ≡ tell (so_far s.now) (part_ask (unit_of u.now) stage block read) }
+    ensures is { told_by (part_in s.now) result ≡ tell (sight s.now) (part_ask (unit_of u.now) stage block read) }
     ensures over { IfFound result (IsSeenOf s.now) }
 {
     match look(u, s, stage_of(read.how, stage), block, read.node) {
@@ -90,7 +89,7 @@ pub fn parts(
     list: &[Read],
 ) -> Result<Found<Vec<Seen>, Item>, NoMemory>
     requires { IsScene u.now s.now }
-    ensures is { IfOk result (λ found. told_by (λ (v : Vec Seen). parts_in s.now v.items) found ≡ tell (so_far s.now) (parts_ask (unit_of u.now) stage block list.now)) }
+    ensures is { IfOk result (λ found. told_by (λ (v : Vec Seen). parts_in s.now v.items) found ≡ tell (sight s.now) (parts_ask (unit_of u.now) stage block list.now)) }
     ensures over { IfOk result (λ found. IfFound found (λ v. AreSeenOf s.now v.items)) }
 {
     let mut out = Vec::with_capacity(alloc, list.len())?;

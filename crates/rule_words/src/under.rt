@@ -6,8 +6,8 @@ ghost use Rattle.type_model.specs.Tables.{types_in, count, IsTable, declarations
 ghost use Rattle.type_model.specs.declared.term.TypeName.{TypeName};
 ghost use Rattle.typed_marks.specs.States.{so_far};
 ghost use Rattle.unit_read.specs.Subjects.{unit_of, IsRead};
-ghost use Rattle.rule_words.specs.Asking.{under_at, type_item, under_ask, mark_under};
-ghost use Rattle.rule_words.specs.Scenes.{IsScene, told_by, IfFound, said, IsMarkOf, type_in, IsTypeOf, MayBeTypeOf};
+ghost use Rattle.rule_words.specs.Asking.{under_at, type_item, nowhere_of, item_for, under_ask, mark_under};
+ghost use Rattle.rule_words.specs.Scenes.{sight, IsScene, told_by, IfFound, said, IsMarkOf, type_in, IsTypeOf, MayBeTypeOf};
 
 use crate::marks::stands;
 use go_tree::NodeRef;
@@ -41,28 +41,51 @@ fn type_item(u: &Subject, name: &TypeName) -> Option<Item>
     }
 }
 
-/// The item that declares a type, if it is a defined one of this package.
+/// For what is waited where nothing that is known declares a type. It is never marked.
+fn nowhere(u: &Subject) -> Item
+    requires { IsRead u.now }
+    ensures { result ≡ nowhere_of (unit_of u.now) }
+{
+    Item {
+        stage: Stage::Under,
+        block: u.passages.len(),
+        node: 0,
+    }
+}
+
+/// The item that declares a type of this name, of this package or of one that isn't known.
+fn item_for(u: &Subject, name: &TypeName) -> Item
+    requires { IsRead u.now }
+    ensures { result ≡ item_for (unit_of u.now) name.now }
+{
+    match type_item(u, name) {
+        Some(item) => item,
+        None => nowhere(u),
+    }
+}
+
+/// The item that declares a type, if it is a defined one.
 fn item_of(u: &Subject, t: &TypeTable, of: TypeId) -> Option<Item>
     requires read { IsRead u.now }
     requires table { IsTable t.now }
     requires within { of.0 < count t.now }
-    ensures { (name : TypeName) → type_at (types_in t.now) of ≡ DefinedType name → result ≡ type_item (unit_of u.now) name }
+    ensures { (name : TypeName) → type_at (types_in t.now) of ≡ DefinedType name → result ≡ Some (item_for (unit_of u.now) name) }
 {
     match t.term(of) {
-        Term::Defined(name) => type_item(u, name),
+        Term::Defined(name) => Some(item_for(u, name)),
         _ => None,
     }
 }
 
 /// The item that has to be marked before more is known of what a type of a table is declared with: that which declares it, while it
-/// has no mark.
+/// has no mark. Where nothing that is known declares it, that never comes.
 pub fn pending(u: &Subject, s: &State, t: &TypeTable, of: TypeId) -> Option<Item>
     requires scene { IsScene u.now s.now }
     requires table { IsTable t.now }
     requires within { of.0 < count t.now }
     ensures waits { IfSome result (λ item. so_far s.now item ≡ None) }
-    ensures is { (name : TypeName) → type_at (types_in t.now) of ≡ DefinedType name → IfSome result (λ item. type_item (unit_of u.now) name ≡ Some item) }
-    ensures none { (name : TypeName) (item : Item) → type_at (types_in t.now) of ≡ DefinedType name → result ≡ None → type_item (unit_of u.now) name ≡ Some item → ¬ (so_far s.now item ≡ None) }
+    ensures is { (name : TypeName) → type_at (types_in t.now) of ≡ DefinedType name → IfSome result (λ item. item_for (unit_of u.now) name ≡ item) }
+    ensures none { (name : TypeName) → type_at (types_in t.now) of ≡ DefinedType name → result ≡ None → ¬ (so_far s.now (item_for (unit_of u.now) name) ≡ None) }
 {
     match item_of(u, t, of) {
         Some(item) => { if s.is_marked(item) { None } else { Some(item) } }
@@ -70,11 +93,11 @@ pub fn pending(u: &Subject, s: &State, t: &TypeTable, of: TypeId) -> Option<Item
     }
 }
 
-/// The underlying type of a type, or the item for which it waits. None where its declaration gives nothing.
+/// The underlying type of a type, or the item for which it waits, be it for ever. None where its declaration gives nothing.
 pub fn under_of(u: &Subject, s: &State, of: TypeId) -> Found<Option<TypeId>, Item>
     requires scene { IsScene u.now s.now }
     requires within { IsTypeOf s.now of }
-    ensures is { told_by (option_map (type_in s.now)) result ≡ tell (so_far s.now) (under_ask (unit_of u.now) (type_in s.now of)) }
+    ensures is { told_by (option_map (type_in s.now)) result ≡ tell (sight s.now) (under_ask (unit_of u.now) (type_in s.now of)) }
     ensures within { IfFound result (MayBeTypeOf s.now) }
 {
     match s.table.underlying(of) {
@@ -90,7 +113,7 @@ pub fn under_of(u: &Subject, s: &State, of: TypeId) -> Found<Option<TypeId>, Ite
 pub fn mark_under(u: &Subject, s: &State, m: Mark) -> Found<Option<TypeId>, Item>
     requires scene { IsScene u.now s.now }
     requires mark { IsMarkOf s.now m }
-    ensures is { told_by (option_map (type_in s.now)) result ≡ tell (so_far s.now) (mark_under (unit_of u.now) (said s.now m)) }
+    ensures is { told_by (option_map (type_in s.now)) result ≡ tell (sight s.now) (mark_under (unit_of u.now) (said s.now m)) }
     ensures within { IfFound result (MayBeTypeOf s.now) }
 {
     match m {

@@ -2,9 +2,8 @@
 ghost use Rattle.std.specs.Prelude.{◌≡◌};
 ghost use Rattle.mark_walk.specs.Telling.{tell};
 ghost use Rattle.typed_tree.specs.Basics.{HasBasics};
-ghost use Rattle.typed_marks.specs.States.{so_far};
 ghost use Rattle.unit_read.specs.Subjects.{unit_of};
-ghost use Rattle.rule_words.specs.Scenes.{IsScene, told_by, IfFound, said, IsMarkOf, type_in, IsTypeOf};
+ghost use Rattle.rule_words.specs.Scenes.{sight, IsScene, told_by, IfFound, said, IsMarkOf, type_in, IsTypeOf};
 ghost use Rattle.rule_words.specs.Wishes.{wish_of, IsWishOf, default_of, fitting_default, before};
 
 use crate::good::basic_type;
@@ -63,7 +62,7 @@ pub fn fitting_default(s: &State, of: TypeId) -> Want
 #[tactic(auto, unfolding(crate::specs::Wishes::before))]
 pub fn before(u: &Subject, s: &State, block: usize, around: &Node, slot: usize) -> Found<Mark, Item>
     requires scene { IsScene u.now s.now }
-    ensures is { told_by (said s.now) result ≡ tell (so_far s.now) (before (unit_of u.now) block around.now slot) }
+    ensures is { told_by (said s.now) result ≡ tell (sight s.now) (before (unit_of u.now) block around.now slot) }
     ensures over { IfFound result (IsMarkOf s.now) }
 {
     match part_of(around, slot) {

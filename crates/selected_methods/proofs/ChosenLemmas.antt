@@ -13,7 +13,7 @@ use Rattle.type_model.specs.Tables.{types_in, declarations_in}
 use Rattle.method_sets.specs.declared.selection.Selected.TheVariants as selected
 use Rattle.method_sets.specs.declared.selection.Selection.{Selection}
 use Rattle.method_sets.specs.declared.selection.Selection.TheVariants as selection
-use Rattle.method_sets.specs.Levels.{ToSelect, Chosen, One, Several, Nothing, SaysSelected, chosen_in}
+use Rattle.method_sets.specs.Levels.{ToSelect, Chosen, One, Several, Nothing, EnoughToSelect, SaysSelected, chosen_in}
 use Rattle.method_sets.specs.Members.{selector, AField, AMethod}
 use Rattle.type_questions.specs.Over.{declared}
 use Rattle.typed_marks.specs.declared.item.Item.{Item}
@@ -21,7 +21,8 @@ use Rattle.typed_marks.specs.declared.state.State.{State}
 use Rattle.typed_marks.specs.Meanings.{Meaning, Quiet}
 use Rattle.typed_marks.specs.States.{so_far}
 use Rattle.unit_read.specs.declared.subject.Subject.{Subject}
-use Rattle.unit_read.specs.Subjects.{unit_of}
+use Rattle.unit_read.specs.Subjects.{full_of, unit_of}
+use Rattle.unit_read.specs.Imports.{bare}
 use Rattle.unit_read.specs.Units.{Unit, base_of}
 use Rattle.rule_words.specs.Asking.{type_item, declaration_told}
 use Rattle.rule_words.specs.Scenes.{IsScene}
@@ -42,27 +43,31 @@ module _ (u : Unit) (t : TypeTable) (name : List ℕ) (of : GoType) (once : (ds 
       → ((path : List ℕ) (method : GoSignature) (pointer : Bool) → x ≡ One path (AMethod method pointer) → ⊥) → IsWhat (IsMethodOf u (declarations_in t) name of) None
   none_chosen x says other = λ w. (
     λ e. absurd cc,
-    λ (path, method, pointer, more, e). absurd (other path method pointer (once (declarations_in t) (to_select u name of) x (One path (AMethod method pointer)) says more)),
+    λ (path, method, pointer, enough, more, e). absurd (other path method pointer (once (declarations_in t) (to_select u name of) x (One path (AMethod method pointer)) says more)),
   )
 
-  one_chosen : (path : List ℕ) (method : GoSignature) (pointer : Bool) → SaysSelected (declarations_in t) (to_select u name of) (One path (AMethod method pointer))
+  one_chosen : (path : List ℕ) (method : GoSignature) (pointer : Bool) → EnoughToSelect (declarations_in t) (to_select u name of) → SaysSelected (declarations_in t) (to_select u name of) (One path (AMethod method pointer))
       → IsWhat (IsMethodOf u (declarations_in t) name of) (method_led u (declarations_in t) name of path)
-  one_chosen path method pointer says = λ w. (
-    λ e. (path, method, pointer, says, e),
-    λ (other, signature, by, more, e).
+  one_chosen path method pointer enough says = λ w. (
+    λ e. (path, method, pointer, enough, says, e),
+    λ (other, signature, by, again, more, e).
         let same : path ≡ other = ap path_of (once (declarations_in t) (to_select u name of) (One path (AMethod method pointer)) (One other (AMethod signature by)) says more) in
         ap (λ (l : List ℕ). method_led u (declarations_in t) name of l) same ∙ e,
   )
 
-  pub what_chosen : (sel : Selection) (o : Option NodeRef) → SaysSelected (declarations_in t) (to_select u name of) (chosen_in t sel) → o ≡ method_chosen u t name of sel
+  pub what_chosen : (sel : Selection) (o : Option NodeRef) → EnoughToSelect (declarations_in t) (to_select u name of) → SaysSelected (declarations_in t) (to_select u name of) (chosen_in t sel) → o ≡ method_chosen u t name of sel
       → IsWhat (IsMethodOf u (declarations_in t) name of) o
-  what_chosen sel o says is = subst (IsWhat (IsMethodOf u (declarations_in t) name of)) (sym is) (by sel says)
+  what_chosen sel o enough says is = subst (IsWhat (IsMethodOf u (declarations_in t) name of)) (sym is) (by sel says)
     where
       by : (x : Selection) → SaysSelected (declarations_in t) (to_select u name of) (chosen_in t x) → IsWhat (IsMethodOf u (declarations_in t) name of) (method_chosen u t name of x)
-      by (selection.Found path (selected.Method method pointer)) says = one_chosen path (signature_of (types_in t) method) pointer says
+      by (selection.Found path (selected.Method method pointer)) says = one_chosen path (signature_of (types_in t) method) pointer enough says
       by (selection.Found path (selected.Field field)) says = none_chosen (chosen_in t (selection.Found path (selected.Field field))) says (λ p m b e. absurd cc)
       by (selection.Ambiguous depth) says = none_chosen (Several depth) says (λ p m b e. absurd cc)
       by selection.Absent says = none_chosen Nothing says (λ p m b e. absurd cc)
+
+-- nothing is told where not enough is declared
+pub what_waiting : (u : Unit) (ds : Declarations) (name : List ℕ) (of : GoType) → (EnoughToSelect ds (to_select u name of) → ⊥) → IsWhat (IsMethodOf u ds name of) None
+what_waiting u ds name of short = λ w. (λ e. absurd cc, λ (path, method, pointer, enough, more, e). absurd (short enough))
 
 -- ---- what is declared
 
@@ -76,22 +81,22 @@ given_item so_far None = refl
 given_item so_far (Some i) = given_mark (so_far i)
 
 -- the table declares what the marks declare
-pub table_declares : (u : Subject) (s : State) → IsScene u s → declarations_in s.table ≡ declared_by (unit_of u) (filled Quiet (so_far s))
+pub table_declares : (u : Subject) (s : State) → IsScene u s → declarations_in s.table ≡ declared_by (full_of u) (filled Quiet (so_far s))
 table_declares u s scene =
     fun_ext (λ (name : TypeName).
-    scene.step name ∙ ap (λ (o : Option Declaration). option_or (base_of (unit_of u) name) o) (given_item (so_far s) (type_item (unit_of u) name)))
+    scene.step name ∙ ap (λ (o : Option Declaration). option_or (base_of (full_of u) name) o) (given_item (so_far s) (type_item (unit_of u) name)))
 
 -- ---- at a node
 
 module _ (u : Unit) (marks : Item → Meaning) (at : NodeRef) where
-  pub what_selected : (ds : Declarations) (of : GoType) (o : Option NodeRef) → owner_of u marks at ≡ Some of → ds ≡ declared_by u marks
-      → IsWhat (IsMethodOf u ds (selected_name u at) of) o → IsWhat (IsSelectedMethod u marks at) o
+  pub what_selected : (ds : Declarations) (of : GoType) (o : Option NodeRef) → owner_of (bare u) marks at ≡ Some of → ds ≡ declared_by u marks
+      → IsWhat (IsMethodOf (bare u) ds (selected_name (bare u) at) of) o → IsWhat (IsSelectedMethod u marks at) o
   what_selected ds of o owns same what = λ w. (
-    λ e. (of, owns, subst (λ (d : Declarations). IsMethodOf u d (selected_name u at) of w) same ((what w).0 e)),
+    λ e. (of, owns, subst (λ (d : Declarations). IsMethodOf (bare u) d (selected_name (bare u) at) of w) same ((what w).0 e)),
     λ (other, owned, is).
         let one : other ≡ of = cc in
-        (what w).1 (subst (λ (d : Declarations). IsMethodOf u d (selected_name u at) of w) (sym same) (subst (λ (x : GoType). IsMethodOf u (declared_by u marks) (selected_name u at) x w) one is)),
+        (what w).1 (subst (λ (d : Declarations). IsMethodOf (bare u) d (selected_name (bare u) at) of w) (sym same) (subst (λ (x : GoType). IsMethodOf (bare u) (declared_by u marks) (selected_name (bare u) at) x w) one is)),
   )
 
-  pub what_unselected : owner_of u marks at ≡ None → IsWhat (IsSelectedMethod u marks at) None
+  pub what_unselected : owner_of (bare u) marks at ≡ None → IsWhat (IsSelectedMethod u marks at) None
   what_unselected none = λ w. (λ e. absurd cc, λ (of, owns, is). absurd cc)

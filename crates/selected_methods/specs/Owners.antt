@@ -45,11 +45,12 @@ type_told (Declares d) = None
 abbrev pub judged : (Item → Meaning) → ℕ → ℕ → Meaning
 judged marks f n = marks (item s.Judged f n)
 
-abbrev pub type_judged : (Item → Meaning) → ℕ → ℕ → Option GoType
-type_judged marks f n = type_told (judged marks f n)
+-- by the mark that the selector's rule reads
+abbrev pub type_placed : (Item → Meaning) → ℕ → ℕ → Option GoType
+type_placed marks f n = type_told (marks (item s.Placed f n))
 
 abbrev pub owner_part : (Item → Meaning) → NodeRef → Node → Option GoType
-owner_part marks at node = option_and_then (type_judged marks at.file) (part node 0)
+owner_part marks at node = option_and_then (type_placed marks at.file) (part node 0)
 
 -- that of a selector which has no fault itself
 abbrev pub owner_good : (Item → Meaning) → NodeRef → Node → Option GoType

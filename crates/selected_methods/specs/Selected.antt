@@ -9,13 +9,14 @@ use Rattle.package_objects.specs.Declares.{part}
 use Rattle.type_model.specs.declared.term.TypeName.{TypeName}
 use Rattle.type_model.specs.GoTypes.{GoType, BasicType, DefinedType, PointerTo, SliceOf, ArrayOf, MapOf, ChanOf, FuncOf, StructOf, InterfaceOf, GoSignature}
 use Rattle.type_model.specs.Declarations.{Declarations, under_of}
-use Rattle.method_sets.specs.Levels.{ToSelect, One, SaysSelected}
+use Rattle.method_sets.specs.Levels.{ToSelect, One, EnoughToSelect, SaysSelected}
 use Rattle.method_sets.specs.Members.{selector, AMethod}
 use Rattle.method_sets.specs.Paths.{base}
 use Rattle.method_sets.specs.Shown.{is_interface_type}
 use Rattle.type_questions.specs.Over.{declared}
 use Rattle.typed_marks.specs.declared.item.Item.{Item}
 use Rattle.typed_marks.specs.Meanings.{Meaning}
+use Rattle.unit_read.specs.Imports.{bare}
 use Rattle.unit_read.specs.Methods.{methods_of, method_name}
 use Rattle.unit_read.specs.Units.{Unit, node_at, type_node, base_of}
 use Rattle.rule_words.specs.Asking.{type_item, declaration_told}
@@ -70,15 +71,16 @@ method_led u ds name of path = option_and_then (method_of u ds name) (led ds (ba
 abbrev pub to_select : Unit → List ℕ → GoType → ToSelect
 to_select u name of = record { of = of; name = selector name u.path }
 
--- the name selects from the type the method whose name is declared at the node
+-- The name selects from the type the method whose name is declared at the node. Enough is declared for that, so it selects it whatever else becomes known.
 abbrev pub IsMethodOf : Unit → Declarations → List ℕ → GoType → NodeRef → Type 0
 IsMethodOf u ds name of w =
-    (path : List ℕ) × (method : GoSignature) × (pointer : Bool) × SaysSelected ds (to_select u name of) (One path (AMethod method pointer)) × (method_led u ds name of path ≡ Some w)
+    (path : List ℕ) × (method : GoSignature) × (pointer : Bool) × EnoughToSelect ds (to_select u name of) × SaysSelected ds (to_select u name of) (One path (AMethod method pointer)) × (method_led u ds name of path ≡ Some w)
 
 -- what is declared from the start, and by the marks
 abbrev pub declared_by : Unit → (Item → Meaning) → Declarations
-declared_by u marks = declared (base_of u) (type_item u) declaration_told (λ i. Some (marks i))
+declared_by u marks = declared (base_of u) (type_item (bare u)) declaration_told (λ i. Some (marks i))
 
--- The node is a selector without a fault, and selects the method whose name is declared at the other. What stands before the dot is a value or a type.
+-- The node is a selector without a fault, and selects the method whose name is declared at the other. What stands before the dot is a value or a type. Only what
+-- is declared rests on what is known of other packages.
 abbrev pub IsSelectedMethod : Unit → (Item → Meaning) → NodeRef → NodeRef → Type 0
-IsSelectedMethod u marks at w = (of : GoType) × (owner_of u marks at ≡ Some of) × IsMethodOf u (declared_by u marks) (selected_name u at) of w
+IsSelectedMethod u marks at w = (of : GoType) × (owner_of (bare u) marks at ≡ Some of) × IsMethodOf (bare u) (declared_by u marks) (selected_name (bare u) at) of w

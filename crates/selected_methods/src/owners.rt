@@ -8,7 +8,7 @@ ghost use Rattle.unit_read.specs.Subjects.{unit_of, IsRead};
 ghost use Rattle.rule_words.specs.Asking.{item};
 ghost use Rattle.rule_words.specs.Good.{known_of, AreFactsOf};
 ghost use Rattle.rule_words.specs.Scenes.{said, type_in, IsMarkOf, MayBeTypeOf};
-ghost use Rattle.selected_methods.specs.Owners.{is_selector, is_good, type_known, type_told, judged, type_judged, owner_part, owner_good, owner_in, owner_of, selected_name};
+ghost use Rattle.selected_methods.specs.Owners.{is_selector, is_good, type_known, type_told, judged, type_placed, owner_part, owner_good, owner_in, owner_of, selected_name};
 
 use go_tree::{Node, NodeKind, NodeRef};
 use package_objects::part_of;
@@ -91,12 +91,22 @@ fn is_good_at(s: &State, at: NodeRef) -> bool
     }
 }
 
-fn type_judged(s: &State, file: u32, n: u32) -> Option<TypeId>
+fn placed_item(file: u32, n: u32) -> Item
+    ensures { result ≡ item Stage.Placed file n }
+{
+    Item {
+        stage: Stage::Placed,
+        block: file as usize,
+        node: n as usize,
+    }
+}
+
+fn type_placed(s: &State, file: u32, n: u32) -> Option<TypeId>
     requires { IsState s.now }
-    ensures is { option_map (type_in s.now) result ≡ type_judged (filled Quiet (so_far s.now)) file n }
+    ensures is { option_map (type_in s.now) result ≡ type_placed (filled Quiet (so_far s.now)) file n }
     ensures over { MayBeTypeOf s.now result }
 {
-    match s.see(judged_item(file, n)) {
+    match s.see(placed_item(file, n)) {
         Some(mark) => type_told(s, mark),
         None => None,
     }
@@ -108,7 +118,7 @@ fn owner_part(s: &State, at: NodeRef, node: &Node) -> Option<TypeId>
     ensures over { MayBeTypeOf s.now result }
 {
     match part_of(node, 0) {
-        Some(n) => type_judged(s, at.file, n),
+        Some(n) => type_placed(s, at.file, n),
         None => None,
     }
 }

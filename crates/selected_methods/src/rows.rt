@@ -6,7 +6,7 @@ ghost use Rattle.object_order.specs.Spots.{place};
 ghost use Rattle.package_objects.specs.Declares.{AreSmall};
 ghost use Rattle.typed_marks.specs.Meanings.{Quiet};
 ghost use Rattle.typed_marks.specs.States.{so_far};
-ghost use Rattle.unit_read.specs.Subjects.{unit_of, cell};
+ghost use Rattle.unit_read.specs.Subjects.{full_of, cell};
 ghost use Rattle.rule_words.specs.Scenes.{IsScene};
 ghost use Rattle.selected_methods.specs.Selected.{IsSelectedMethod};
 ghost use Rattle.selected_methods.specs.InCode.{IsWhat, AreMethods, AreMethodRows};
@@ -27,7 +27,7 @@ fn method_row(
 ) -> Result<Vec<Option<NodeRef>>, NoMemory>
     requires scene { IsScene u.now s.now }
     requires few { end ≤ 2 ^ 32 }
-    ensures { IfOk result (λ row. AreMethods (λ n. IsSelectedMethod (unit_of u.now) (filled Quiet (so_far s.now)) (place file n)) row.items end) }
+    ensures { IfOk result (λ row. AreMethods (λ n. IsSelectedMethod (full_of u.now) (filled Quiet (so_far s.now)) (place file n)) row.items end) }
 {
     let mut row = Vec::new(alloc);
     for node in 0..end {
@@ -50,7 +50,7 @@ fn tree_row(
 ) -> Result<Vec<Option<NodeRef>>, NoMemory>
     requires scene { IsScene u.now s.now }
     requires small { length tree.now.nodes ≤ 2 ^ 32 }
-    ensures { IfOk result (λ row. AreMethods (λ n. IsSelectedMethod (unit_of u.now) (filled Quiet (so_far s.now)) (place file n)) row.items (length tree.now.nodes)) }
+    ensures { IfOk result (λ row. AreMethods (λ n. IsSelectedMethod (full_of u.now) (filled Quiet (so_far s.now)) (place file n)) row.items (length tree.now.nodes)) }
 {
     let row = method_row(alloc, u, s, file, tree.nodes.as_slice().len())?;
     Ok(row)
@@ -60,7 +60,7 @@ fn tree_rows(alloc: Global, u: &Subject, s: &State) -> Result<Vec<Vec<Option<Nod
     requires scene { IsScene u.now s.now }
     requires small { AreSmall u.now.trees.now }
     requires few { length u.now.trees.now ≤ 2 ^ 32 }
-    ensures { IfOk result (λ rows. AreMethodRows (IsSelectedMethod (unit_of u.now) (filled Quiet (so_far s.now))) u.now.trees.now rows.items (length u.now.trees.now)) }
+    ensures { IfOk result (λ rows. AreMethodRows (IsSelectedMethod (full_of u.now) (filled Quiet (so_far s.now))) u.now.trees.now rows.items (length u.now.trees.now)) }
 {
     let mut rows = Vec::new(alloc);
     for file in 0..u.trees.len() {
@@ -80,7 +80,7 @@ pub fn selected_methods(
     requires scene { IsScene u.now s.now }
     requires small { AreSmall u.now.trees.now }
     requires few { length u.now.trees.now ≤ 2 ^ 32 }
-    ensures { IfOk result (λ rows. (at : OneNode) → IsWhat (IsSelectedMethod (unit_of u.now) (filled Quiet (so_far s.now)) at) (cell rows.items at)) }
+    ensures { IfOk result (λ rows. (at : OneNode) → IsWhat (IsSelectedMethod (full_of u.now) (filled Quiet (so_far s.now)) at) (cell rows.items at)) }
 {
     let rows = tree_rows(alloc, u, s)?;
     Ok(rows)

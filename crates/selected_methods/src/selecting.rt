@@ -5,7 +5,7 @@ ghost use Rattle.type_model.specs.GoTypes.{type_at};
 ghost use Rattle.type_model.specs.Tables.{IsTable, types_in, count, declarations_in};
 ghost use Rattle.typed_marks.specs.Meanings.{Quiet};
 ghost use Rattle.typed_marks.specs.States.{so_far};
-ghost use Rattle.unit_read.specs.Subjects.{unit_of, IsRead};
+ghost use Rattle.unit_read.specs.Subjects.{full_of, unit_of, IsRead};
 ghost use Rattle.rule_words.specs.Scenes.{IsScene, type_in, IsTypeOf};
 ghost use Rattle.selected_methods.specs.Selected.{method_led, IsMethodOf, IsSelectedMethod};
 ghost use Rattle.selected_methods.specs.InCode.{method_found, method_chosen, IsWhat};
@@ -15,8 +15,9 @@ use crate::owners::{owner_of, selected_name};
 use crate::ways::{base_of, led};
 use go_tree::NodeRef;
 use gv_base::NoMemory;
-use method_sets::{Selected, Selection, select, selection_lasts};
+use method_sets::{Selected, Selection, choose, selection_lasts};
 use std::alloc::Global;
+use type_growth::Reply;
 use type_model::{TypeId, TypeTable};
 use typed_marks::State;
 use unit_read::Subject;
@@ -72,7 +73,7 @@ fn method_chosen(
     }
 }
 
-/// The method that a name selects from a type.
+/// The method that a name selects from a type, if enough is declared to tell.
 fn selected_from(
     alloc: Global,
     u: &Subject,
@@ -85,9 +86,12 @@ fn selected_from(
     requires within { of.0 < count t.now }
     ensures { IfOk result (IsWhat (IsMethodOf (unit_of u.now) (declarations_in t.now) name.now (type_at (types_in t.now) of))) }
 {
-    let selection = select(alloc, t, of, name, u.path_text())?;
+    let reply = choose(alloc, t, of, name, u.path_text())?;
     selection_lasts();
-    Ok(method_chosen(u, t, name.as_bytes(), of, selection))
+    match reply {
+        Reply::Is(selection) => Ok(method_chosen(u, t, name.as_bytes(), of, selection)),
+        Reply::Waits(_) => Ok(None),
+    }
 }
 
 /// The method that the selector at a node selects.
@@ -98,7 +102,7 @@ pub(crate) fn selected_at(
     at: NodeRef,
 ) -> Result<Option<NodeRef>, NoMemory>
     requires { IsScene u.now s.now }
-    ensures { IfOk result (IsWhat (IsSelectedMethod (unit_of u.now) (filled Quiet (so_far s.now)) at)) }
+    ensures { IfOk result (IsWhat (IsSelectedMethod (full_of u.now) (filled Quiet (so_far s.now)) at)) }
 {
     match owner_of(u, s, at) {
         Some(of) => {

@@ -3,11 +3,10 @@ ghost use Rattle.std.specs.Prelude.{◌≡◌, IfOk, option_map};
 ghost use Rattle.mark_walk.specs.Telling.{tell};
 ghost use Rattle.type_model.specs.Tables.{declarations_in};
 ghost use Rattle.type_rel.specs.Answers.{IsInterface};
-ghost use Rattle.typed_marks.specs.States.{so_far};
 ghost use Rattle.type_answers.specs.Coming.{ComesTo};
 ghost use Rattle.unit_read.specs.Subjects.{unit_of};
 ghost use Rattle.rule_words.specs.Good.{known_of, AreFactsOf};
-ghost use Rattle.rule_words.specs.Scenes.{IsScene, said, IsMarkOf, type_in, IsTypeOf, MayBeTypeOf};
+ghost use Rattle.rule_words.specs.Scenes.{sight, IsScene, said, IsMarkOf, type_in, IsTypeOf, MayBeTypeOf};
 ghost use Rattle.rule_words.specs.Steps.{step_in, IsStepOf};
 ghost use Rattle.statement_rules.specs.TypeSwitching.{implemented, implements_told, implements_rule, type_under, type_told, type_against, guard_under, guard_told, guard_known, guard_placed, guard_part, type_beside, value_or, type_known, type_in_clause, case_type_rule};
 
@@ -28,7 +27,7 @@ use unit_read::Subject;
 
 fn implemented(s: &State, x: Facts, answer: Implements) -> Step
     requires { AreFactsOf s.now x }
-    ensures is { step_in s.now result ≡ tell (so_far s.now) (implemented (known_of s.now x) answer) }
+    ensures is { step_in s.now result ≡ tell (sight s.now) (implemented (known_of s.now x) answer) }
     ensures over { IsStepOf s.now result }
 {
     let _ = s;
@@ -41,7 +40,8 @@ fn implemented(s: &State, x: Facts, answer: Implements) -> Step
 
 #[tactic(auto, using(type_answers::proofs::ComingLaws::same_comes))]
 fn implements_told(u: &Subject, s: &State, x: Facts, told: Reached<Implements>) -> Step
-    requires { AreFactsOf s.now x }
+    requires scene { IsScene u.now s.now }
+    requires facts { AreFactsOf s.now x }
     ensures comes { ComesTo u.now s.now (implements_told (known_of s.now x) told) result }
     ensures over { IsStepOf s.now result }
 {
@@ -270,7 +270,7 @@ fn type_beside(
 
 fn value_or(s: &State, x: Facts) -> Step
     requires { AreFactsOf s.now x }
-    ensures is { step_in s.now result ≡ tell (so_far s.now) (value_or (known_of s.now x)) }
+    ensures is { step_in s.now result ≡ tell (sight s.now) (value_or (known_of s.now x)) }
     ensures over { IsStepOf s.now result }
 {
     let _ = s;

@@ -163,7 +163,7 @@ fn case_by(
     }
 }
 
-#[tactic(auto, using(assign_rules::proofs::FoundLaws::says_comes, assign_rules::proofs::FoundLaws::waits_awaited))]
+#[tactic(auto, using(type_answers::proofs::ComingLaws::says_comes, type_answers::proofs::ComingLaws::waits_awaited))]
 fn case_single(
     alloc: Global,
     u: &Subject,

@@ -1,11 +1,10 @@
 //! Values of clauses, compared with the tag (Go 1.17, "Expression switches", "Comparison operators").
 ghost use Rattle.std.specs.Prelude.{◌≡◌, IfOk};
 ghost use Rattle.mark_walk.specs.Telling.{tell};
-ghost use Rattle.typed_marks.specs.States.{so_far};
 ghost use Rattle.type_answers.specs.Coming.{ComesTo};
 ghost use Rattle.unit_read.specs.Subjects.{unit_of};
 ghost use Rattle.rule_words.specs.Good.{known_of, AreFactsOf};
-ghost use Rattle.rule_words.specs.Scenes.{IsScene, type_in, IsTypeOf};
+ghost use Rattle.rule_words.specs.Scenes.{sight, IsScene, type_in, IsTypeOf};
 ghost use Rattle.rule_words.specs.Steps.{step_in, IsStepOf};
 ghost use Rattle.statement_rules.specs.Switching.{second_if, second_told, second_compared, first_if, first_told, both_compared, compared};
 
@@ -26,7 +25,7 @@ use unit_read::Subject;
 
 fn second_if(s: &State, x: Facts, b: bool) -> Step
     requires { AreFactsOf s.now x }
-    ensures is { step_in s.now result ≡ tell (so_far s.now) (second_if (known_of s.now x) b) }
+    ensures is { step_in s.now result ≡ tell (sight s.now) (second_if (known_of s.now x) b) }
     ensures over { IsStepOf s.now result }
 {
     let _ = s;
@@ -35,7 +34,8 @@ fn second_if(s: &State, x: Facts, b: bool) -> Step
 
 #[tactic(auto, using(type_answers::proofs::ComingLaws::same_comes))]
 fn second_told(u: &Subject, s: &State, x: Facts, told: Reached<bool>) -> Step
-    requires { AreFactsOf s.now x }
+    requires scene { IsScene u.now s.now }
+    requires facts { AreFactsOf s.now x }
     ensures comes { ComesTo u.now s.now (second_told (known_of s.now x) told) result }
     ensures over { IsStepOf s.now result }
 {

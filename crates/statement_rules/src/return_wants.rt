@@ -3,10 +3,9 @@ ghost use Rattle.std.specs.Prelude.{◌≡◌, option_map, slice_get};
 ghost use Rattle.mark_walk.specs.Telling.{tell};
 ghost use Rattle.type_model.specs.GoTypes.{AreBelow};
 ghost use Rattle.type_model.specs.Tables.{count as type_count};
-ghost use Rattle.typed_marks.specs.States.{so_far};
 ghost use Rattle.unit_read.specs.Subjects.{unit_of};
 ghost use Rattle.rule_words.specs.Good.{known_of, AreFactsOf};
-ghost use Rattle.rule_words.specs.Scenes.{IsScene, told_by, IfFound, said, IsMarkOf, type_in, MayBeTypeOf};
+ghost use Rattle.rule_words.specs.Scenes.{sight, IsScene, told_by, IfFound, said, IsMarkOf, type_in, MayBeTypeOf};
 ghost use Rattle.variable_rules.specs.InCode.{types_of};
 ghost use Rattle.statement_rules.specs.Returning.{result_wants, even_wants, results_wants, known_wants, told_wants, typed_wants, function_wants, value_wants, return_wants};
 
@@ -34,7 +33,7 @@ fn result_wants(
 ) -> Found<Mark, Item>
     requires scene { IsScene u.now s.now }
     requires within { MayBeTypeOf s.now o }
-    ensures is { told_by (said s.now) result ≡ tell (so_far s.now) (result_wants (unit_of u.now) block n (option_map (type_in s.now) o)) }
+    ensures is { told_by (said s.now) result ≡ tell (sight s.now) (result_wants (unit_of u.now) block n (option_map (type_in s.now) o)) }
     ensures over { IfFound result (IsMarkOf s.now) }
 {
     match o {
@@ -70,7 +69,7 @@ fn even_wants(
 ) -> Found<Mark, Item>
     requires scene { IsScene u.now s.now }
     requires results { AreBelow (type_count s.now.table) results.now }
-    ensures is { told_by (said s.now) result ≡ tell (so_far s.now) (even_wants (unit_of u.now) block n (types_of s.now results.now) i b) }
+    ensures is { told_by (said s.now) result ≡ tell (sight s.now) (even_wants (unit_of u.now) block n (types_of s.now results.now) i b) }
     ensures over { IfFound result (IsMarkOf s.now) }
 {
     if b {
@@ -92,7 +91,7 @@ fn results_wants(
 ) -> Found<Mark, Item>
     requires scene { IsScene u.now s.now }
     requires results { AreBelow (type_count s.now.table) results.now }
-    ensures is { told_by (said s.now) result ≡ tell (so_far s.now) (results_wants (unit_of u.now) block nodes.now around.now i n (types_of s.now results.now)) }
+    ensures is { told_by (said s.now) result ≡ tell (sight s.now) (results_wants (unit_of u.now) block nodes.now around.now i n (types_of s.now results.now)) }
     ensures over { IfFound result (IsMarkOf s.now) }
 {
     let even = count_of(nodes, around) == many_of(s, results);
@@ -111,7 +110,7 @@ fn known_wants(
 ) -> Found<Mark, Item>
     requires scene { IsScene u.now s.now }
     requires facts { AreFactsOf s.now x }
-    ensures is { told_by (said s.now) result ≡ tell (so_far s.now) (known_wants (unit_of u.now) block nodes.now around.now i n (known_of s.now x)) }
+    ensures is { told_by (said s.now) result ≡ tell (sight s.now) (known_wants (unit_of u.now) block nodes.now around.now i n (known_of s.now x)) }
     ensures over { IfFound result (IsMarkOf s.now) }
 {
     results_wants(u, s, block, nodes, around, i, n, results_of(s, x.of))
@@ -129,7 +128,7 @@ fn told_wants(
 ) -> Found<Mark, Item>
     requires scene { IsScene u.now s.now }
     requires mark { IsMarkOf s.now m }
-    ensures is { told_by (said s.now) result ≡ tell (so_far s.now) (told_wants (unit_of u.now) block nodes.now around.now i n (said s.now m)) }
+    ensures is { told_by (said s.now) result ≡ tell (sight s.now) (told_wants (unit_of u.now) block nodes.now around.now i n (said s.now m)) }
     ensures over { IfFound result (IsMarkOf s.now) }
 {
     match known(s, m) {
@@ -149,7 +148,7 @@ fn typed_wants(
     f: u32,
 ) -> Found<Mark, Item>
     requires { IsScene u.now s.now }
-    ensures is { told_by (said s.now) result ≡ tell (so_far s.now) (typed_wants (unit_of u.now) block nodes.now around.now i n f) }
+    ensures is { told_by (said s.now) result ≡ tell (sight s.now) (typed_wants (unit_of u.now) block nodes.now around.now i n f) }
     ensures over { IfFound result (IsMarkOf s.now) }
 {
     match look(u, s, Stage::Judged, block, f) {
@@ -169,7 +168,7 @@ fn function_wants(
     f: u32,
 ) -> Found<Mark, Item>
     requires { IsScene u.now s.now }
-    ensures is { told_by (said s.now) result ≡ tell (so_far s.now) (function_wants (unit_of u.now) block nodes.now around.now i n f) }
+    ensures is { told_by (said s.now) result ≡ tell (sight s.now) (function_wants (unit_of u.now) block nodes.now around.now i n f) }
     ensures over { IfFound result (IsMarkOf s.now) }
 {
     let call = returned_call(nodes, around, f);
@@ -190,7 +189,7 @@ fn value_wants(
     n: u32,
 ) -> Found<Mark, Item>
     requires { IsScene u.now s.now }
-    ensures is { told_by (said s.now) result ≡ tell (so_far s.now) (value_wants (unit_of u.now) block file p around.now n) }
+    ensures is { told_by (said s.now) result ≡ tell (sight s.now) (value_wants (unit_of u.now) block file p around.now n) }
     ensures over { IfFound result (IsMarkOf s.now) }
 {
     match function_of(u, file, p.around) {
@@ -209,7 +208,7 @@ pub fn want_return(
     around: &Node,
 ) -> Found<Mark, Item>
     requires { IsScene u.now s.now }
-    ensures is { told_by (said s.now) result ≡ tell (so_far s.now) (return_wants (unit_of u.now) block file p around.now) }
+    ensures is { told_by (said s.now) result ≡ tell (sight s.now) (return_wants (unit_of u.now) block file p around.now) }
     ensures over { IfFound result (IsMarkOf s.now) }
 {
     match item(u.nodes_at(file), part_of(around, 0), p.index) {

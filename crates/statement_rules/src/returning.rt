@@ -4,11 +4,10 @@ ghost use Rattle.std.specs.Prelude.{◌≡◌, length, option_and_then, slice_ge
 ghost use Rattle.std.specs.Option.{option_copied};
 ghost use Rattle.mark_walk.specs.Telling.{tell};
 ghost use Rattle.typed_tree.specs.Basics.{HasBasics};
-ghost use Rattle.typed_marks.specs.States.{so_far};
 ghost use Rattle.unit_read.specs.Subjects.{unit_of};
 ghost use Rattle.package_objects.specs.Declares.{is_params};
 ghost use Rattle.rule_words.specs.Good.{known_of, AreFactsOf};
-ghost use Rattle.rule_words.specs.Scenes.{IsScene, said, IsMarkOf, IsTypeOf, type_in};
+ghost use Rattle.rule_words.specs.Scenes.{sight, IsScene, said, IsMarkOf, IsTypeOf, type_in};
 ghost use Rattle.rule_words.specs.Steps.{step_in, IsStepOf};
 ghost use Rattle.statement_rules.specs.Returning.{results_slot, is_named_entry, first_is_named, are_named, are_named_at, names_results_in, names_results, count_of, first_of, calls, if_calls, names_many, names_many_at, are_many, are_many_at, returns_many_in, returns_many, returned_call, returned_known, returned_told, returned_rule, valued_rule, bare_rule, counted_rule, function_known, function_told, function_rule, return_rule};
 
@@ -206,7 +205,7 @@ pub fn returned_call(nodes: &[Node], node: &Node, f: u32) -> Option<u32>
 fn returned_known(s: &State, many: usize, x: Facts) -> Step
     requires basics { HasBasics s.now.table }
     requires facts { AreFactsOf s.now x }
-    ensures is { step_in s.now result ≡ tell (so_far s.now) (returned_known many (known_of s.now x)) }
+    ensures is { step_in s.now result ≡ tell (sight s.now) (returned_known many (known_of s.now x)) }
     ensures over { IsStepOf s.now result }
 {
     held_if(s, gives(s, x, many), WRONG_NUMBER_OF_RESULTS)
@@ -215,7 +214,7 @@ fn returned_known(s: &State, many: usize, x: Facts) -> Step
 fn returned_told(s: &State, many: usize, m: Mark) -> Step
     requires basics { HasBasics s.now.table }
     requires mark { IsMarkOf s.now m }
-    ensures is { step_in s.now result ≡ tell (so_far s.now) (returned_told many (said s.now m)) }
+    ensures is { step_in s.now result ≡ tell (sight s.now) (returned_told many (said s.now m)) }
     ensures over { IsStepOf s.now result }
 {
     match known(s, m) {
@@ -226,7 +225,7 @@ fn returned_told(s: &State, many: usize, m: Mark) -> Step
 
 fn returned(u: &Subject, s: &State, block: usize, many: usize, n: u32) -> Step
     requires { IsScene u.now s.now }
-    ensures is { step_in s.now result ≡ tell (so_far s.now) (returned_rule (unit_of u.now) block many n) }
+    ensures is { step_in s.now result ≡ tell (sight s.now) (returned_rule (unit_of u.now) block many n) }
     ensures over { IsStepOf s.now result }
 {
     match look(u, s, Stage::Placed, block, n) {
@@ -245,7 +244,7 @@ fn valued(
     many: usize,
 ) -> Step
     requires { IsScene u.now s.now }
-    ensures is { step_in s.now result ≡ tell (so_far s.now) (valued_rule (unit_of u.now) block nodes.now node.now f many) }
+    ensures is { step_in s.now result ≡ tell (sight s.now) (valued_rule (unit_of u.now) block nodes.now node.now f many) }
     ensures over { IsStepOf s.now result }
 {
     match returned_call(nodes, node, f) {
@@ -256,7 +255,7 @@ fn valued(
 
 fn without_values(s: &State, named: bool, many: usize) -> Step
     requires { HasBasics s.now.table }
-    ensures is { step_in s.now result ≡ tell (so_far s.now) (bare_rule named many) }
+    ensures is { step_in s.now result ≡ tell (sight s.now) (bare_rule named many) }
     ensures over { IsStepOf s.now result }
 {
     held_if(s, many == 0 || named, WRONG_NUMBER_OF_RESULTS)
@@ -272,7 +271,7 @@ fn counted(
     many: usize,
 ) -> Step
     requires { IsScene u.now s.now }
-    ensures is { step_in s.now result ≡ tell (so_far s.now) (counted_rule (unit_of u.now) block nodes.now node.now f many) }
+    ensures is { step_in s.now result ≡ tell (sight s.now) (counted_rule (unit_of u.now) block nodes.now node.now f many) }
     ensures over { IsStepOf s.now result }
 {
     if count_of(nodes, node) == 0 {
@@ -302,7 +301,7 @@ fn function_known(
 ) -> Step
     requires scene { IsScene u.now s.now }
     requires facts { AreFactsOf s.now x }
-    ensures is { step_in s.now result ≡ tell (so_far s.now) (function_known (unit_of u.now) block nodes.now node.now f (known_of s.now x)) }
+    ensures is { step_in s.now result ≡ tell (sight s.now) (function_known (unit_of u.now) block nodes.now node.now f (known_of s.now x)) }
     ensures over { IsStepOf s.now result }
 {
     counted(u, s, block, nodes, node, f, many_results(s, x.of))
@@ -319,7 +318,7 @@ fn function_told(
 ) -> Step
     requires scene { IsScene u.now s.now }
     requires mark { IsMarkOf s.now m }
-    ensures is { step_in s.now result ≡ tell (so_far s.now) (function_told (unit_of u.now) block nodes.now node.now f (said s.now m)) }
+    ensures is { step_in s.now result ≡ tell (sight s.now) (function_told (unit_of u.now) block nodes.now node.now f (said s.now m)) }
     ensures over { IsStepOf s.now result }
 {
     match known(s, m) {
@@ -330,7 +329,7 @@ fn function_told(
 
 fn in_function(u: &Subject, s: &State, block: usize, nodes: &[Node], node: &Node, f: u32) -> Step
     requires { IsScene u.now s.now }
-    ensures is { step_in s.now result ≡ tell (so_far s.now) (function_rule (unit_of u.now) block nodes.now node.now f) }
+    ensures is { step_in s.now result ≡ tell (sight s.now) (function_rule (unit_of u.now) block nodes.now node.now f) }
     ensures over { IsStepOf s.now result }
 {
     match look(u, s, Stage::Judged, block, f) {
@@ -342,7 +341,7 @@ fn in_function(u: &Subject, s: &State, block: usize, nodes: &[Node], node: &Node
 /// How far the rule of a return statement goes: E87.
 pub fn judge_return(u: &Subject, s: &State, block: usize, at: NodeRef, node: &Node) -> Step
     requires { IsScene u.now s.now }
-    ensures is { step_in s.now result ≡ tell (so_far s.now) (return_rule (unit_of u.now) block at node.now) }
+    ensures is { step_in s.now result ≡ tell (sight s.now) (return_rule (unit_of u.now) block at node.now) }
     ensures over { IsStepOf s.now result }
 {
     match function_of(u, at.file, at.node) {

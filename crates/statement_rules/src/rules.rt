@@ -1,9 +1,8 @@
 //! The rules of statements.
 ghost use Rattle.std.specs.Prelude.{◌≡◌};
 ghost use Rattle.mark_walk.specs.Telling.{tell};
-ghost use Rattle.typed_marks.specs.States.{so_far};
 ghost use Rattle.unit_read.specs.Subjects.{unit_of};
-ghost use Rattle.rule_words.specs.Scenes.{IsScene, parts_in, AreSeenOf};
+ghost use Rattle.rule_words.specs.Scenes.{sight, IsScene, parts_in, AreSeenOf};
 ghost use Rattle.rule_words.specs.Steps.{step_in, IsStepOf};
 ghost use Rattle.rule_words.specs.Wanting.{wanted_of, IsWantedOf};
 ghost use Rattle.statement_rules.specs.Rules.{statement_reads, rule_by, statement_rule};
@@ -35,7 +34,7 @@ pub fn statement_reads(kind: NodeKind, slot: usize) -> Option<How>
 
 fn judge_by(u: &Subject, s: &State, block: usize, at: NodeRef, node: &Node, kind: NodeKind) -> Step
     requires { IsScene u.now s.now }
-    ensures is { step_in s.now result ≡ tell (so_far s.now) (rule_by (unit_of u.now) block at node.now kind) }
+    ensures is { step_in s.now result ≡ tell (sight s.now) (rule_by (unit_of u.now) block at node.now kind) }
     ensures over { IsStepOf s.now result }
 {
     match kind {
@@ -76,7 +75,7 @@ pub fn judge_statement(
     requires scene { IsScene u.now s.now }
     requires parts { AreSeenOf s.now parts.now }
     requires wanted { IsWantedOf s.now wanted }
-    ensures is { step_in s.now result ≡ tell (so_far s.now) (statement_rule (unit_of u.now) block at node.now (parts_in s.now parts.now) (wanted_of s.now wanted)) }
+    ensures is { step_in s.now result ≡ tell (sight s.now) (statement_rule (unit_of u.now) block at node.now (parts_in s.now parts.now) (wanted_of s.now wanted)) }
     ensures over { IsStepOf s.now result }
 {
     let _ = parts;

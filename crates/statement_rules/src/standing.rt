@@ -1,11 +1,10 @@
 //! Expressions as statements, `go` and `defer`.
 ghost use Rattle.std.specs.Prelude.{◌≡◌, true};
 ghost use Rattle.mark_walk.specs.Telling.{tell};
-ghost use Rattle.typed_marks.specs.States.{so_far};
 ghost use Rattle.unit_read.specs.Subjects.{unit_of};
 ghost use Rattle.rule_words.specs.Answers.{is_plain};
 ghost use Rattle.rule_words.specs.Good.{known_of, AreFactsOf};
-ghost use Rattle.rule_words.specs.Scenes.{IsScene, said, IsMarkOf};
+ghost use Rattle.rule_words.specs.Scenes.{sight, IsScene, said, IsMarkOf};
 ghost use Rattle.rule_words.specs.Steps.{step_in, IsStepOf};
 ghost use Rattle.statement_rules.specs.Standing.{gives_value, builtin_gives_value, is_refused, callee_known, callee_told, callee_rule, called_by, called_rule, standing_fault, other_rule, standing_at, standing_known, standing_rule, communicating_known, communicating_rule, started_known, started_told, started_part, go_rule};
 
@@ -63,7 +62,7 @@ fn callee_known(u: &Subject, s: &State, file: u32, n: u32, good: Mark, rule: Rul
     requires mark { IsMarkOf s.now good }
     requires plain { is_plain good ≡ true }
     requires facts { AreFactsOf s.now f }
-    ensures is { step_in s.now result ≡ tell (so_far s.now) (callee_known (unit_of u.now) file n (said s.now good) rule (known_of s.now f)) }
+    ensures is { step_in s.now result ≡ tell (sight s.now) (callee_known (unit_of u.now) file n (said s.now good) rule (known_of s.now f)) }
     ensures over { IsStepOf s.now result }
 {
     let _ = s;
@@ -78,7 +77,7 @@ fn callee_told(u: &Subject, s: &State, file: u32, n: u32, good: Mark, rule: Rule
     requires good { IsMarkOf s.now good }
     requires plain { is_plain good ≡ true }
     requires mark { IsMarkOf s.now m }
-    ensures is { step_in s.now result ≡ tell (so_far s.now) (callee_told (unit_of u.now) file n (said s.now good) rule (said s.now m)) }
+    ensures is { step_in s.now result ≡ tell (sight s.now) (callee_told (unit_of u.now) file n (said s.now good) rule (said s.now m)) }
     ensures over { IsStepOf s.now result }
 {
     match known(s, m) {
@@ -91,7 +90,7 @@ fn callee(u: &Subject, s: &State, block: usize, file: u32, good: Mark, rule: Rul
     requires scene { IsScene u.now s.now }
     requires good { IsMarkOf s.now good }
     requires plain { is_plain good ≡ true }
-    ensures is { step_in s.now result ≡ tell (so_far s.now) (callee_rule (unit_of u.now) block file (said s.now good) rule n) }
+    ensures is { step_in s.now result ≡ tell (sight s.now) (callee_rule (unit_of u.now) block file (said s.now good) rule n) }
     ensures over { IsStepOf s.now result }
 {
     match look(u, s, Stage::Placed, block, n) {
@@ -112,7 +111,7 @@ fn called_by(
     requires scene { IsScene u.now s.now }
     requires good { IsMarkOf s.now good }
     requires plain { is_plain good ≡ true }
-    ensures is { step_in s.now result ≡ tell (so_far s.now) (called_by (unit_of u.now) block file (said s.now good) rule call.now) }
+    ensures is { step_in s.now result ≡ tell (sight s.now) (called_by (unit_of u.now) block file (said s.now good) rule call.now) }
     ensures over { IsStepOf s.now result }
 {
     match part_of(call, 0) {
@@ -127,7 +126,7 @@ fn called(u: &Subject, s: &State, block: usize, file: u32, n: u32, good: Mark, r
     requires scene { IsScene u.now s.now }
     requires good { IsMarkOf s.now good }
     requires plain { is_plain good ≡ true }
-    ensures is { step_in s.now result ≡ tell (so_far s.now) (called_rule (unit_of u.now) block file n (said s.now good) rule) }
+    ensures is { step_in s.now result ≡ tell (sight s.now) (called_rule (unit_of u.now) block file n (said s.now good) rule) }
     ensures over { IsStepOf s.now result }
 {
     match node_of(u.nodes_at(file), n) {
@@ -150,7 +149,7 @@ fn standing_fault(mode: Mode) -> Rule
 
 fn other(u: &Subject, s: &State, file: u32, n: u32, x: Facts) -> Step
     requires { AreFactsOf s.now x }
-    ensures is { step_in s.now result ≡ tell (so_far s.now) (other_rule (unit_of u.now) file n (known_of s.now x)) }
+    ensures is { step_in s.now result ≡ tell (sight s.now) (other_rule (unit_of u.now) file n (known_of s.now x)) }
     ensures over { IsStepOf s.now result }
 {
     let _ = s;
@@ -164,7 +163,7 @@ fn other(u: &Subject, s: &State, file: u32, n: u32, x: Facts) -> Step
 fn standing_at(u: &Subject, s: &State, block: usize, file: u32, n: u32, x: Facts) -> Step
     requires scene { IsScene u.now s.now }
     requires facts { AreFactsOf s.now x }
-    ensures is { step_in s.now result ≡ tell (so_far s.now) (standing_at (unit_of u.now) block file n (known_of s.now x)) }
+    ensures is { step_in s.now result ≡ tell (sight s.now) (standing_at (unit_of u.now) block file n (known_of s.now x)) }
     ensures over { IsStepOf s.now result }
 {
     if is_call(kind_of(u.nodes_at(file), n)) {
@@ -177,7 +176,7 @@ fn standing_at(u: &Subject, s: &State, block: usize, file: u32, n: u32, x: Facts
 fn standing_known(u: &Subject, s: &State, block: usize, file: u32, n: u32, x: Facts) -> Step
     requires scene { IsScene u.now s.now }
     requires facts { AreFactsOf s.now x }
-    ensures is { step_in s.now result ≡ tell (so_far s.now) (standing_known (unit_of u.now) block file n (known_of s.now x)) }
+    ensures is { step_in s.now result ≡ tell (sight s.now) (standing_known (unit_of u.now) block file n (known_of s.now x)) }
     ensures over { IsStepOf s.now result }
 {
     let n = bare(u.nodes_at(file), n);
@@ -188,7 +187,7 @@ fn standing_known(u: &Subject, s: &State, block: usize, file: u32, n: u32, x: Fa
 pub fn judge_standing(u: &Subject, s: &State, block: usize, file: u32, n: u32, m: Mark) -> Step
     requires scene { IsScene u.now s.now }
     requires mark { IsMarkOf s.now m }
-    ensures is { step_in s.now result ≡ tell (so_far s.now) (standing_rule (unit_of u.now) block file n (said s.now m)) }
+    ensures is { step_in s.now result ≡ tell (sight s.now) (standing_rule (unit_of u.now) block file n (said s.now m)) }
     ensures over { IsStepOf s.now result }
 {
     match m {
@@ -205,7 +204,7 @@ pub fn judge_standing(u: &Subject, s: &State, block: usize, file: u32, n: u32, m
 
 fn communicating_known(u: &Subject, s: &State, file: u32, n: u32, x: Facts) -> Step
     requires { AreFactsOf s.now x }
-    ensures is { step_in s.now result ≡ tell (so_far s.now) (communicating_known (unit_of u.now) file n (known_of s.now x)) }
+    ensures is { step_in s.now result ≡ tell (sight s.now) (communicating_known (unit_of u.now) file n (known_of s.now x)) }
     ensures over { IsStepOf s.now result }
 {
     let _ = s;
@@ -220,7 +219,7 @@ fn communicating_known(u: &Subject, s: &State, file: u32, n: u32, x: Facts) -> S
 /// How far the rule goes of an expression in a clause of a select statement, from its own mark: E86.
 pub fn judge_communicating(u: &Subject, s: &State, file: u32, n: u32, m: Mark) -> Step
     requires { IsMarkOf s.now m }
-    ensures is { step_in s.now result ≡ tell (so_far s.now) (communicating_rule (unit_of u.now) file n (said s.now m)) }
+    ensures is { step_in s.now result ≡ tell (sight s.now) (communicating_rule (unit_of u.now) file n (said s.now m)) }
     ensures over { IsStepOf s.now result }
 {
     match m {
@@ -238,7 +237,7 @@ pub fn judge_communicating(u: &Subject, s: &State, file: u32, n: u32, m: Mark) -
 fn started_known(u: &Subject, s: &State, block: usize, file: u32, n: u32, x: Facts) -> Step
     requires scene { IsScene u.now s.now }
     requires facts { AreFactsOf s.now x }
-    ensures is { step_in s.now result ≡ tell (so_far s.now) (started_known (unit_of u.now) block file n (known_of s.now x)) }
+    ensures is { step_in s.now result ≡ tell (sight s.now) (started_known (unit_of u.now) block file n (known_of s.now x)) }
     ensures over { IsStepOf s.now result }
 {
     let _ = x;
@@ -252,7 +251,7 @@ fn started_known(u: &Subject, s: &State, block: usize, file: u32, n: u32, x: Fac
 fn started_told(u: &Subject, s: &State, block: usize, file: u32, n: u32, m: Mark) -> Step
     requires scene { IsScene u.now s.now }
     requires mark { IsMarkOf s.now m }
-    ensures is { step_in s.now result ≡ tell (so_far s.now) (started_told (unit_of u.now) block file n (said s.now m)) }
+    ensures is { step_in s.now result ≡ tell (sight s.now) (started_told (unit_of u.now) block file n (said s.now m)) }
     ensures over { IsStepOf s.now result }
 {
     match known(s, m) {
@@ -263,7 +262,7 @@ fn started_told(u: &Subject, s: &State, block: usize, file: u32, n: u32, m: Mark
 
 fn started_part(u: &Subject, s: &State, block: usize, file: u32, n: u32) -> Step
     requires { IsScene u.now s.now }
-    ensures is { step_in s.now result ≡ tell (so_far s.now) (started_part (unit_of u.now) block file n) }
+    ensures is { step_in s.now result ≡ tell (sight s.now) (started_part (unit_of u.now) block file n) }
     ensures over { IsStepOf s.now result }
 {
     match look(u, s, Stage::Placed, block, n) {
@@ -275,7 +274,7 @@ fn started_part(u: &Subject, s: &State, block: usize, file: u32, n: u32) -> Step
 /// How far the rule of `go` and `defer` goes: E71.
 pub fn judge_go(u: &Subject, s: &State, block: usize, file: u32, node: &Node) -> Step
     requires { IsScene u.now s.now }
-    ensures is { step_in s.now result ≡ tell (so_far s.now) (go_rule (unit_of u.now) block file node.now) }
+    ensures is { step_in s.now result ≡ tell (sight s.now) (go_rule (unit_of u.now) block file node.now) }
     ensures over { IsStepOf s.now result }
 {
     match part_of(node, 0) {

@@ -3,9 +3,8 @@ ghost use Rattle.std.specs.Prelude.{◌≡◌, option_map};
 ghost use Rattle.std.specs.Option.{option_copied};
 ghost use Rattle.mark_walk.specs.Telling.{tell, Says};
 ghost use Rattle.typed_tree.specs.Basics.{HasBasics};
-ghost use Rattle.typed_marks.specs.States.{so_far};
 ghost use Rattle.unit_read.specs.Subjects.{unit_of, IsRead};
-ghost use Rattle.rule_words.specs.Scenes.{IsScene, told_by, IfFound, said, IsMarkOf, type_in, IsTypeOf, MayBeTypeOf};
+ghost use Rattle.rule_words.specs.Scenes.{sight, IsScene, told_by, IfFound, said, IsMarkOf, type_in, IsTypeOf, MayBeTypeOf};
 ghost use Rattle.rule_words.specs.Steps.{step_in, IsStepOf};
 ghost use Rattle.statement_rules.specs.Switching.{is_default_at, any_before, default_in, default_by, default_rule, truth, tag_told, tag_mark, tag_in, switch_around, tag_ask, case_wish, case_against, case_told, case_wants};
 
@@ -52,7 +51,7 @@ fn any_before(nodes: &[Node], around: &Node, slot: usize) -> bool
 
 fn default_in(s: &State, slot: usize, nodes: &[Node], around: &Node) -> Step
     requires { HasBasics s.now.table }
-    ensures is { step_in s.now result ≡ tell (so_far s.now) (default_in slot nodes.now around.now) }
+    ensures is { step_in s.now result ≡ tell (sight s.now) (default_in slot nodes.now around.now) }
     ensures over { IsStepOf s.now result }
 {
     held_if(s, !any_before(nodes, around, slot), SECOND_DEFAULT)
@@ -60,7 +59,7 @@ fn default_in(s: &State, slot: usize, nodes: &[Node], around: &Node) -> Step
 
 fn default_by(u: &Subject, s: &State, file: u32, p: Place) -> Step
     requires { IsScene u.now s.now }
-    ensures is { step_in s.now result ≡ tell (so_far s.now) (default_by (unit_of u.now) file p) }
+    ensures is { step_in s.now result ≡ tell (sight s.now) (default_by (unit_of u.now) file p) }
     ensures over { IsStepOf s.now result }
 {
     let nodes = u.nodes_at(file);
@@ -73,7 +72,7 @@ fn default_by(u: &Subject, s: &State, file: u32, p: Place) -> Step
 /// How far the rule of a default clause goes: E85.
 pub fn judge_default(u: &Subject, s: &State, at: NodeRef) -> Step
     requires { IsScene u.now s.now }
-    ensures is { step_in s.now result ≡ tell (so_far s.now) (default_rule (unit_of u.now) at) }
+    ensures is { step_in s.now result ≡ tell (sight s.now) (default_rule (unit_of u.now) at) }
     ensures over { IsStepOf s.now result }
 {
     match u.place_at(at) {
@@ -86,7 +85,7 @@ pub fn judge_default(u: &Subject, s: &State, at: NodeRef) -> Step
 
 fn tag_told(s: &State, m: Mark) -> Option<TypeId>
     requires { IsMarkOf s.now m }
-    ensures is { Says (option_map (type_in s.now) result) ≡ tell (so_far s.now) (tag_told (said s.now m)) }
+    ensures is { Says (option_map (type_in s.now) result) ≡ tell (sight s.now) (tag_told (said s.now m)) }
     ensures within { MayBeTypeOf s.now result }
 {
     match known(s, m) {
@@ -97,7 +96,7 @@ fn tag_told(s: &State, m: Mark) -> Option<TypeId>
 
 fn tag_mark(u: &Subject, s: &State, block: usize, n: u32) -> Found<Option<TypeId>, Item>
     requires { IsScene u.now s.now }
-    ensures is { told_by (option_map (type_in s.now)) result ≡ tell (so_far s.now) (tag_mark (unit_of u.now) block n) }
+    ensures is { told_by (option_map (type_in s.now)) result ≡ tell (sight s.now) (tag_mark (unit_of u.now) block n) }
     ensures within { IfFound result (MayBeTypeOf s.now) }
 {
     match look(u, s, Stage::Placed, block, n) {
@@ -122,7 +121,7 @@ fn tag_in(
     switch: &Node,
 ) -> Found<Option<TypeId>, Item>
     requires { IsScene u.now s.now }
-    ensures is { told_by (option_map (type_in s.now)) result ≡ tell (so_far s.now) (tag_in (unit_of u.now) block file switch.now) }
+    ensures is { told_by (option_map (type_in s.now)) result ≡ tell (sight s.now) (tag_in (unit_of u.now) block file switch.now) }
     ensures within { IfFound result (MayBeTypeOf s.now) }
 {
     match tag_of(u, file, u.nodes_at(file), switch) {
@@ -151,7 +150,7 @@ pub fn tag_type(
     clause: u32,
 ) -> Found<Option<TypeId>, Item>
     requires { IsScene u.now s.now }
-    ensures is { told_by (option_map (type_in s.now)) result ≡ tell (so_far s.now) (tag_ask (unit_of u.now) block file clause) }
+    ensures is { told_by (option_map (type_in s.now)) result ≡ tell (sight s.now) (tag_ask (unit_of u.now) block file clause) }
     ensures within { IfFound result (MayBeTypeOf s.now) }
 {
     match switch_around(u, file, clause) {
@@ -166,7 +165,7 @@ fn case_wish(s: &State, tag: TypeId, under: Option<TypeId>) -> Mark
     requires basics { HasBasics s.now.table }
     requires tag { IsTypeOf s.now tag }
     requires under { MayBeTypeOf s.now under }
-    ensures is { Says (said s.now result) ≡ tell (so_far s.now) (case_wish (type_in s.now tag) (option_map (type_in s.now) under)) }
+    ensures is { Says (said s.now result) ≡ tell (sight s.now) (case_wish (type_in s.now tag) (option_map (type_in s.now) under)) }
     ensures over { IsMarkOf s.now result }
 {
     if takes_default(s, under) {
@@ -179,7 +178,7 @@ fn case_wish(s: &State, tag: TypeId, under: Option<TypeId>) -> Mark
 fn case_against(u: &Subject, s: &State, tag: TypeId) -> Found<Mark, Item>
     requires scene { IsScene u.now s.now }
     requires tag { IsTypeOf s.now tag }
-    ensures is { told_by (said s.now) result ≡ tell (so_far s.now) (case_against (unit_of u.now) (type_in s.now tag)) }
+    ensures is { told_by (said s.now) result ≡ tell (sight s.now) (case_against (unit_of u.now) (type_in s.now tag)) }
     ensures over { IfFound result (IsMarkOf s.now) }
 {
     match under_of(u, s, tag) {
@@ -191,7 +190,7 @@ fn case_against(u: &Subject, s: &State, tag: TypeId) -> Found<Mark, Item>
 fn case_told(u: &Subject, s: &State, block: usize, n: u32, o: Option<TypeId>) -> Found<Mark, Item>
     requires scene { IsScene u.now s.now }
     requires tag { MayBeTypeOf s.now o }
-    ensures is { told_by (said s.now) result ≡ tell (so_far s.now) (case_told (unit_of u.now) block n (option_map (type_in s.now) o)) }
+    ensures is { told_by (said s.now) result ≡ tell (sight s.now) (case_told (unit_of u.now) block n (option_map (type_in s.now) o)) }
     ensures over { IfFound result (IsMarkOf s.now) }
 {
     match o {
@@ -210,7 +209,7 @@ pub fn want_case(
     n: u32,
 ) -> Found<Mark, Item>
     requires { IsScene u.now s.now }
-    ensures is { told_by (said s.now) result ≡ tell (so_far s.now) (case_wants (unit_of u.now) block file clause n) }
+    ensures is { told_by (said s.now) result ≡ tell (sight s.now) (case_wants (unit_of u.now) block file clause n) }
     ensures over { IfFound result (IsMarkOf s.now) }
 {
     match tag_type(u, s, block, file, clause) {

@@ -3,10 +3,9 @@ ghost use Rattle.std.specs.Prelude.{◌≡◌, option_and_then, option_map, slic
 ghost use Rattle.std.specs.Option.{option_copied};
 ghost use Rattle.mark_walk.specs.Telling.{tell, Says};
 ghost use Rattle.typed_tree.specs.Basics.{HasBasics};
-ghost use Rattle.typed_marks.specs.States.{so_far};
 ghost use Rattle.unit_read.specs.Subjects.{unit_of, IsRead};
 ghost use Rattle.rule_words.specs.Good.{known_of, AreFactsOf};
-ghost use Rattle.rule_words.specs.Scenes.{IsScene, said, IsMarkOf, type_in, IsTypeOf, MayBeTypeOf};
+ghost use Rattle.rule_words.specs.Scenes.{sight, IsScene, said, IsMarkOf, type_in, IsTypeOf, MayBeTypeOf};
 ghost use Rattle.rule_words.specs.Steps.{step_in, IsStepOf};
 ghost use Rattle.assign_rules.specs.Kinds.{guard_of};
 ghost use Rattle.statement_rules.specs.TypeSwitching.{bound_of, bound_name, binds_blank, guarded_under, guarded_told, guarded_known, guarded_placed, guarded_part, guarded_rule, type_switch_rule, clause_around, switch_node, guard_in, guard_around, type_wants, is_type_case, only_type, single_type, clause_typed, clause_told, clause_type, clause_known, clause_named, clause_by, clause_in, clause_object};
@@ -70,7 +69,7 @@ fn binds_blank(u: &Subject, file: u32, nodes: &[Node], switch: &Node) -> bool
 fn guarded_under(s: &State, under: TypeId) -> Step
     requires basics { HasBasics s.now.table }
     requires under { IsTypeOf s.now under }
-    ensures is { step_in s.now result ≡ tell (so_far s.now) (guarded_under (type_in s.now under)) }
+    ensures is { step_in s.now result ≡ tell (sight s.now) (guarded_under (type_in s.now under)) }
     ensures over { IsStepOf s.now result }
 {
     held_if(s, is_interface(s, under), NOT_AN_INTERFACE)
@@ -79,7 +78,7 @@ fn guarded_under(s: &State, under: TypeId) -> Step
 fn guarded_told(s: &State, under: Option<TypeId>) -> Step
     requires basics { HasBasics s.now.table }
     requires under { MayBeTypeOf s.now under }
-    ensures is { step_in s.now result ≡ tell (so_far s.now) (guarded_told (option_map (type_in s.now) under)) }
+    ensures is { step_in s.now result ≡ tell (sight s.now) (guarded_told (option_map (type_in s.now) under)) }
     ensures over { IsStepOf s.now result }
 {
     match under {
@@ -91,7 +90,7 @@ fn guarded_told(s: &State, under: Option<TypeId>) -> Step
 fn guarded_known(u: &Subject, s: &State, x: Facts) -> Step
     requires scene { IsScene u.now s.now }
     requires facts { AreFactsOf s.now x }
-    ensures is { step_in s.now result ≡ tell (so_far s.now) (guarded_known (unit_of u.now) (known_of s.now x)) }
+    ensures is { step_in s.now result ≡ tell (sight s.now) (guarded_known (unit_of u.now) (known_of s.now x)) }
     ensures over { IsStepOf s.now result }
 {
     match under_of(u, s, x.last) {
@@ -103,7 +102,7 @@ fn guarded_known(u: &Subject, s: &State, x: Facts) -> Step
 fn guarded_placed(u: &Subject, s: &State, m: Mark) -> Step
     requires scene { IsScene u.now s.now }
     requires mark { IsMarkOf s.now m }
-    ensures is { step_in s.now result ≡ tell (so_far s.now) (guarded_placed (unit_of u.now) (said s.now m)) }
+    ensures is { step_in s.now result ≡ tell (sight s.now) (guarded_placed (unit_of u.now) (said s.now m)) }
     ensures over { IsStepOf s.now result }
 {
     match known(s, m) {
@@ -114,7 +113,7 @@ fn guarded_placed(u: &Subject, s: &State, m: Mark) -> Step
 
 fn guarded_part(u: &Subject, s: &State, block: usize, n: u32) -> Step
     requires { IsScene u.now s.now }
-    ensures is { step_in s.now result ≡ tell (so_far s.now) (guarded_part (unit_of u.now) block n) }
+    ensures is { step_in s.now result ≡ tell (sight s.now) (guarded_part (unit_of u.now) block n) }
     ensures over { IsStepOf s.now result }
 {
     match look(u, s, Stage::Placed, block, n) {
@@ -125,7 +124,7 @@ fn guarded_part(u: &Subject, s: &State, block: usize, n: u32) -> Step
 
 fn guarded(u: &Subject, s: &State, block: usize, nodes: &[Node], node: &Node) -> Step
     requires { IsScene u.now s.now }
-    ensures is { step_in s.now result ≡ tell (so_far s.now) (guarded_rule (unit_of u.now) block nodes.now node.now) }
+    ensures is { step_in s.now result ≡ tell (sight s.now) (guarded_rule (unit_of u.now) block nodes.now node.now) }
     ensures over { IsStepOf s.now result }
 {
     match guard_of(nodes, node) {
@@ -137,7 +136,7 @@ fn guarded(u: &Subject, s: &State, block: usize, nodes: &[Node], node: &Node) ->
 /// How far the rule of a type switch goes: E8, E46.
 pub fn judge_type_switch(u: &Subject, s: &State, block: usize, file: u32, node: &Node) -> Step
     requires { IsScene u.now s.now }
-    ensures is { step_in s.now result ≡ tell (so_far s.now) (type_switch_rule (unit_of u.now) block file node.now) }
+    ensures is { step_in s.now result ≡ tell (sight s.now) (type_switch_rule (unit_of u.now) block file node.now) }
     ensures over { IsStepOf s.now result }
 {
     let nodes = u.nodes_at(file);
@@ -192,7 +191,7 @@ pub fn guard_around(u: &Subject, file: u32, clause: u32) -> Option<u32>
 
 /// What the place of a type in a clause wants.
 pub fn want_type(s: &State, nodes: &[Node], around: &Node, slot: usize) -> Mark
-    ensures is { Says (said s.now result) ≡ tell (so_far s.now) (type_wants nodes.now around.now slot) }
+    ensures is { Says (said s.now result) ≡ tell (sight s.now) (type_wants nodes.now around.now slot) }
     ensures over { IsMarkOf s.now result }
 {
     let _ = s;
@@ -234,7 +233,7 @@ fn single_type(nodes: &[Node], clause: &Node) -> Option<u32>
 fn clause_typed(s: &State, x: Facts, t: Facts) -> Step
     requires facts { AreFactsOf s.now x }
     requires typing { AreFactsOf s.now t }
-    ensures is { step_in s.now result ≡ tell (so_far s.now) (clause_typed (known_of s.now x) (known_of s.now t)) }
+    ensures is { step_in s.now result ≡ tell (sight s.now) (clause_typed (known_of s.now x) (known_of s.now t)) }
     ensures over { IsStepOf s.now result }
 {
     if is_nil_mode(t.mode) {
@@ -247,7 +246,7 @@ fn clause_typed(s: &State, x: Facts, t: Facts) -> Step
 fn clause_told(s: &State, x: Facts, m: Mark) -> Step
     requires facts { AreFactsOf s.now x }
     requires mark { IsMarkOf s.now m }
-    ensures is { step_in s.now result ≡ tell (so_far s.now) (clause_told (known_of s.now x) (said s.now m)) }
+    ensures is { step_in s.now result ≡ tell (sight s.now) (clause_told (known_of s.now x) (said s.now m)) }
     ensures over { IsStepOf s.now result }
 {
     match known(s, m) {
@@ -259,7 +258,7 @@ fn clause_told(s: &State, x: Facts, m: Mark) -> Step
 fn clause_type(u: &Subject, s: &State, file: u32, x: Facts, t: u32) -> Step
     requires scene { IsScene u.now s.now }
     requires facts { AreFactsOf s.now x }
-    ensures is { step_in s.now result ≡ tell (so_far s.now) (clause_type (unit_of u.now) file (known_of s.now x) t) }
+    ensures is { step_in s.now result ≡ tell (sight s.now) (clause_type (unit_of u.now) file (known_of s.now x) t) }
     ensures over { IsStepOf s.now result }
 {
     match look(u, s, Stage::Placed, file as usize, t) {
@@ -271,7 +270,7 @@ fn clause_type(u: &Subject, s: &State, file: u32, x: Facts, t: u32) -> Step
 fn clause_known(u: &Subject, s: &State, file: u32, clause: &Node, x: Facts) -> Step
     requires scene { IsScene u.now s.now }
     requires facts { AreFactsOf s.now x }
-    ensures is { step_in s.now result ≡ tell (so_far s.now) (clause_known (unit_of u.now) file clause.now (known_of s.now x)) }
+    ensures is { step_in s.now result ≡ tell (sight s.now) (clause_known (unit_of u.now) file clause.now (known_of s.now x)) }
     ensures over { IsStepOf s.now result }
 {
     match single_type(u.nodes_at(file), clause) {
@@ -283,7 +282,7 @@ fn clause_known(u: &Subject, s: &State, file: u32, clause: &Node, x: Facts) -> S
 fn clause_named(u: &Subject, s: &State, file: u32, clause: &Node, m: Mark) -> Step
     requires scene { IsScene u.now s.now }
     requires mark { IsMarkOf s.now m }
-    ensures is { step_in s.now result ≡ tell (so_far s.now) (clause_named (unit_of u.now) file clause.now (said s.now m)) }
+    ensures is { step_in s.now result ≡ tell (sight s.now) (clause_named (unit_of u.now) file clause.now (said s.now m)) }
     ensures over { IsStepOf s.now result }
 {
     match known(s, m) {
@@ -294,7 +293,7 @@ fn clause_named(u: &Subject, s: &State, file: u32, clause: &Node, m: Mark) -> St
 
 fn clause_by(u: &Subject, s: &State, file: u32, clause: &Node, name: u32) -> Step
     requires { IsScene u.now s.now }
-    ensures is { step_in s.now result ≡ tell (so_far s.now) (clause_by (unit_of u.now) file clause.now name) }
+    ensures is { step_in s.now result ≡ tell (sight s.now) (clause_by (unit_of u.now) file clause.now name) }
     ensures over { IsStepOf s.now result }
 {
     match look(u, s, Stage::Object, file as usize, name) {
@@ -305,7 +304,7 @@ fn clause_by(u: &Subject, s: &State, file: u32, clause: &Node, name: u32) -> Ste
 
 fn clause_in(u: &Subject, s: &State, file: u32, clause: &Node, switch: &Node) -> Step
     requires { IsScene u.now s.now }
-    ensures is { step_in s.now result ≡ tell (so_far s.now) (clause_in (unit_of u.now) file clause.now switch.now) }
+    ensures is { step_in s.now result ≡ tell (sight s.now) (clause_in (unit_of u.now) file clause.now switch.now) }
     ensures over { IsStepOf s.now result }
 {
     match bound_name(u.nodes_at(file), switch) {
@@ -317,7 +316,7 @@ fn clause_in(u: &Subject, s: &State, file: u32, clause: &Node, switch: &Node) ->
 /// How far the rule goes of the variable that a clause of a type switch declares.
 pub fn judge_clause_object(u: &Subject, s: &State, at: NodeRef, clause: &Node) -> Step
     requires { IsScene u.now s.now }
-    ensures is { step_in s.now result ≡ tell (so_far s.now) (clause_object (unit_of u.now) at clause.now) }
+    ensures is { step_in s.now result ≡ tell (sight s.now) (clause_object (unit_of u.now) at clause.now) }
     ensures over { IsStepOf s.now result }
 {
     match switch_node(u, at.file, at.node) {

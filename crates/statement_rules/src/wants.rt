@@ -1,9 +1,8 @@
 //! What the places in statements want.
 ghost use Rattle.std.specs.Prelude.{◌≡◌};
 ghost use Rattle.mark_walk.specs.Telling.{tell, Says};
-ghost use Rattle.typed_marks.specs.States.{so_far};
 ghost use Rattle.unit_read.specs.Subjects.{unit_of};
-ghost use Rattle.rule_words.specs.Scenes.{IsScene, told_by, IfFound, said, IsMarkOf};
+ghost use Rattle.rule_words.specs.Scenes.{sight, IsScene, told_by, IfFound, said, IsMarkOf};
 ghost use Rattle.statement_rules.specs.Wants.{if_it, is_part, is_condition_at, condition_wants, is_tag_at, value_in_clause, clause_wants, type_clause_wants, wants_by, statement_wants};
 
 use crate::return_wants::want_return;
@@ -22,7 +21,7 @@ use typed_marks::{Item, Mark, State, Want};
 use unit_read::{Place, Subject};
 
 fn if_it(s: &State, b: bool) -> Mark
-    ensures is { Says (said s.now result) ≡ tell (so_far s.now) (if_it b) }
+    ensures is { Says (said s.now result) ≡ tell (sight s.now) (if_it b) }
     ensures over { IsMarkOf s.now result }
 {
     let _ = s;
@@ -52,7 +51,7 @@ fn is_condition_at(nodes: &[Node], around: &Node, slot: usize) -> bool
 }
 
 fn condition_wants(s: &State, nodes: &[Node], around: &Node, slot: usize) -> Mark
-    ensures is { Says (said s.now result) ≡ tell (so_far s.now) (condition_wants nodes.now around.now slot) }
+    ensures is { Says (said s.now result) ≡ tell (sight s.now) (condition_wants nodes.now around.now slot) }
     ensures over { IsMarkOf s.now result }
 {
     if_it(s, is_condition_at(nodes, around, slot))
@@ -76,7 +75,7 @@ fn value_in_clause(
     around: &Node,
 ) -> Found<Mark, Item>
     requires { IsScene u.now s.now }
-    ensures is { told_by (said s.now) result ≡ tell (so_far s.now) (value_in_clause (unit_of u.now) block file p around.now) }
+    ensures is { told_by (said s.now) result ≡ tell (sight s.now) (value_in_clause (unit_of u.now) block file p around.now) }
     ensures over { IfFound result (IsMarkOf s.now) }
 {
     match item(u.nodes_at(file), part_of(around, 0), p.index) {
@@ -94,7 +93,7 @@ fn clause_wants(
     around: &Node,
 ) -> Found<Mark, Item>
     requires { IsScene u.now s.now }
-    ensures is { told_by (said s.now) result ≡ tell (so_far s.now) (clause_wants (unit_of u.now) block file p around.now) }
+    ensures is { told_by (said s.now) result ≡ tell (sight s.now) (clause_wants (unit_of u.now) block file p around.now) }
     ensures over { IfFound result (IsMarkOf s.now) }
 {
     if p.slot == 0 {
@@ -105,7 +104,7 @@ fn clause_wants(
 }
 
 fn type_clause_wants(u: &Subject, s: &State, file: u32, p: Place, around: &Node) -> Mark
-    ensures is { Says (said s.now result) ≡ tell (so_far s.now) (type_clause_wants (unit_of u.now) file p around.now) }
+    ensures is { Says (said s.now result) ≡ tell (sight s.now) (type_clause_wants (unit_of u.now) file p around.now) }
     ensures over { IsMarkOf s.now result }
 {
     if p.slot == 0 {
@@ -125,7 +124,7 @@ fn wants_by(
     kind: NodeKind,
 ) -> Found<Mark, Item>
     requires { IsScene u.now s.now }
-    ensures is { told_by (said s.now) result ≡ tell (so_far s.now) (wants_by (unit_of u.now) block file p around.now kind) }
+    ensures is { told_by (said s.now) result ≡ tell (sight s.now) (wants_by (unit_of u.now) block file p around.now kind) }
     ensures over { IfFound result (IsMarkOf s.now) }
 {
     match kind {
@@ -157,7 +156,7 @@ pub fn want_statement(
     around: &Node,
 ) -> Found<Mark, Item>
     requires { IsScene u.now s.now }
-    ensures is { told_by (said s.now) result ≡ tell (so_far s.now) (statement_wants (unit_of u.now) block p around.now) }
+    ensures is { told_by (said s.now) result ≡ tell (sight s.now) (statement_wants (unit_of u.now) block p around.now) }
     ensures over { IfFound result (IsMarkOf s.now) }
 {
     wants_by(u, s, block, file_of(u, block), p, around, around.kind)

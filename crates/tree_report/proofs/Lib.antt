@@ -9,6 +9,7 @@ pub mod SourceLemmas
 pub mod NodeCosts
 pub mod NodeLemmas
 pub mod HeadLemmas
+mod ApartLemmas
 pub mod TreeLemmas
 pub mod OrderLemmas
 pub mod StandLemmas

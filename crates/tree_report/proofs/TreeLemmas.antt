@@ -1,5 +1,5 @@
 -- The packages of a tree of the form are a tree as a run takes it.
-use Rattle.std.proofs.Common.{◌≡◌, ℕ, zero, suc, ◌<◌, ◌≤◌, ◌^◌, Bool, true, false, Option, Some, None, List, [], ◌∷◌, length, map, filter, slice_get, get_or, refl, sym, ap, ◌∙◌, subst, arith}
+use Rattle.std.proofs.Common.{◌≡◌, ℕ, ◌<◌, ◌≤◌, ◌^◌, true, Option, Some, List, length, map, filter, slice_get, get_or, sym, ap, ◌∙◌, subst, arith}
 use Rattle.std.specs.List.{All, AllPairs, Contains}
 use Rattle.std.proofs.lemmas.Option.{slice_get_within, get_or_from_slice_get}
 use Rattle.std.proofs.lemmas.List.{length-map}
@@ -13,9 +13,9 @@ use Rattle.import_graph.specs.declared.pack.PackState.TheVariants.{Broken, NameC
 use Rattle.import_graph.specs.declared.pack.Package.{Package}
 use Rattle.import_graph.specs.Orders.{is_sound}
 use Rattle.import_graph.specs.Packages.{paths_of, IsStateOf, IsWhole, IsPackage, ArePackages}
-use Rattle.import_graph.proofs.ListLemmas.{any-get, map-get, get-map}
+use Rattle.import_graph.proofs.ListLemmas.{map-get, get-map}
 use Rattle.import_graph.proofs.LawLemmas.{numbered}
-use Rattle.gv_driver.proofs.Places.{element, at-contained, contains-at}
+use Rattle.gv_driver.proofs.Places.{element}
 use Rattle.analysis_core.specs.Replies.{file_numbered}
 use Rattle.gv_driver.specs.Nodes.{Named, AreNamed}
 use Rattle.gv_driver.specs.Judging.{text_of, ImportsPath, IsPackageOf, IsSource}
@@ -25,6 +25,7 @@ use Rattle.gv_driver.specs.Trees.{IsAmong, IsTree}
 use Rattle.tree_report.specs.Form.{IsForm}
 use Rattle.tree_report.specs.Limits.{IsWithin}
 use Rattle.tree_report.specs.Reports.{texts_of}
+use Rattle.tree_report.proofs.ApartLemmas.{import-apart}
 use Rattle.tree_report.proofs.LimitLemmas.{sizes-few, sizes-short}
 use Rattle.tree_report.proofs.HeadLemmas.{AreShort, import-found, names-agree, package-of, trees-of}
 use Rattle.tree_report.proofs.ReadLemmas.{source-size}
@@ -109,6 +110,7 @@ is-tree tree verdicts heads packages ordered form = record {
       let here : IsPackageOf found.0.path (map (file_numbered tree) found.0.files) of = subst (λ (x : PackageTexts). IsPackageOf x.path x.files of) (sym found.2) is_of in
       subst (λ (x : PackageTexts). IsAmong (map (texts_of tree) packages) x.imports path) found.2
       (imports-of tree verdicts heads packages p found.0 of path form found.1 (ap (λ (x : PackageTexts). x.sound) found.2 ∙ sound) here imported);
+  apart = λ p q other imports there. import-apart tree heads packages form.packed p q other imports there;
 }
 
 -- the paths of packages rise

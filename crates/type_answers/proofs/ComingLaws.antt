@@ -17,28 +17,29 @@ use Rattle.rule_words.specs.declared.step.Step.{Step}
 use Rattle.rule_words.specs.declared.step.Step.TheVariants as step
 use Rattle.rule_words.specs.Answers.{answer_in}
 use Rattle.rule_words.specs.Asking.{Asks, Rule}
-use Rattle.rule_words.specs.Scenes.{told_by}
+use Rattle.rule_words.specs.Scenes.{IsScene, sight, told_by}
 use Rattle.rule_words.specs.Steps.{step_in, question_in, rest_in}
+use Rattle.type_answers.proofs.PendingLemmas.{true_sight}
 use Rattle.type_answers.specs.Coming.{says_at, pends_at, GivesAt, AwaitsAt, FoundBy, Leads, ComesTo}
 
 -- ---- what is said at once
 
 -- a step that is what is told of the rule
-pub same_comes : (u : Subject) (s : State) (rule : Rule) (x : Step) → step_in s x ≡ tell (so_far s) rule → ComesTo u s rule x
-same_comes u s rule (step.Says given) is = says_gives (says_at u) (so_far s) rule (answer_in s given) (sym is)
-same_comes u s rule (step.Waits i) is = waits_awaits (says_at u) (pends_at u) (so_far s) rule i (sym is)
-same_comes u s rule (step.Puts asked rest) is = record { gives = gives; awaits = awaits } where
+pub same_comes : (u : Subject) (s : State) (rule : Rule) (x : Step) → IsScene u s → step_in s x ≡ tell (sight s) rule → ComesTo u s rule x
+same_comes u s rule (step.Says given) scene is = says_gives (says_at u) (sight s) (pends_at u) (true_sight u s scene) rule (answer_in s given) (sym is)
+same_comes u s rule (step.Waits i) scene is = waits_awaits (says_at u) (sight s) (pends_at u) (true_sight u s scene) rule i (sym is)
+same_comes u s rule (step.Puts asked rest) scene is = record { gives = gives; awaits = awaits } where
   gives : (m : Meaning) → GivesAt u s (put (question_in s asked) (rest_in s rest)) m → GivesAt u s rule m
-  gives m (told, says, more) = puts_gives (says_at u) (so_far s) rule (question_in s asked) (rest_in s rest) told m (sym is) says more
+  gives m (told, says, more) = puts_gives (says_at u) (sight s) (pends_at u) (true_sight u s scene) rule (question_in s asked) (rest_in s rest) told m (sym is) says more
 
   awaits : (i : Item) → AwaitsAt u s (put (question_in s asked) (rest_in s rest)) i → AwaitsAt u s rule i
-  awaits i (inl is_pending) = puts_pends (says_at u) (pends_at u) (so_far s) rule (question_in s asked) (rest_in s rest) i (sym is) is_pending
-  awaits i (inr (told, says, more)) = puts_awaits (says_at u) (pends_at u) (so_far s) rule (question_in s asked) (rest_in s rest) told i (sym is) says more
+  awaits i (inl is_pending) = puts_pends (says_at u) (sight s) (pends_at u) (true_sight u s scene) rule (question_in s asked) (rest_in s rest) i (sym is) is_pending
+  awaits i (inr (told, says, more)) = puts_awaits (says_at u) (sight s) (pends_at u) (true_sight u s scene) rule (question_in s asked) (rest_in s rest) told i (sym is) says more
 
 -- what is found that is told of what is asked
-pub same_found : {T R : Type 0} (u : Subject) (s : State) (told : T → R) (r : Asks R) (found : Found T Item) → told_by told found ≡ tell (so_far s) r → FoundBy u s told r found
-same_found u s told r (f.Is x) is = says_gives (says_at u) (so_far s) r (told x) (sym is)
-same_found u s told r (f.Wait i) is = waits_awaits (says_at u) (pends_at u) (so_far s) r i (sym is)
+pub same_found : {T R : Type 0} (u : Subject) (s : State) (told : T → R) (r : Asks R) (found : Found T Item) → IsScene u s → told_by told found ≡ tell (sight s) r → FoundBy u s told r found
+same_found u s told r (f.Is x) scene is = says_gives (says_at u) (sight s) (pends_at u) (true_sight u s scene) r (told x) (sym is)
+same_found u s told r (f.Wait i) scene is = waits_awaits (says_at u) (sight s) (pends_at u) (true_sight u s scene) r i (sym is)
 
 -- ---- a rule within a rule
 
@@ -74,6 +75,20 @@ pub bind_found : {T R S : Type 0} (u : Subject) (s : State) (told : T → S) (r 
     → FoundBy u s told (bind r rest) found
 bind_found u s told r rest x (f.Is y) first more = gives_bind u s r rest x (told y) first more
 bind_found u s told r rest x (f.Wait i) first more = awaits_after u s r rest x i first more
+
+-- ---- what goes on from what is told at once
+
+pub says_comes : {R : Type 0} (u : Subject) (s : State) (r : Asks R) (rest : R → Rule) (x : R) (next : Step) → IsScene u s → Says x ≡ tell (sight s) r → ComesTo u s (rest x) next
+    → ComesTo u s (bind r rest) next
+says_comes u s r rest x next scene told more = bind_comes u s r rest x next (says_gives (says_at u) (sight s) (pends_at u) (true_sight u s scene) r x (sym told)) more
+
+pub says_found : {T R S : Type 0} (u : Subject) (s : State) (into : T → S) (r : Asks R) (rest : R → Asks S) (x : R) (found : Found T Item) → IsScene u s → Says x ≡ tell (sight s) r
+    → FoundBy u s into (rest x) found → FoundBy u s into (bind r rest) found
+says_found u s into r rest x found scene told more =
+    bind_found u s into r rest x found (says_gives (says_at u) (sight s) (pends_at u) (true_sight u s scene) r x (sym told)) more
+
+pub waits_awaited : {R S : Type 0} (u : Subject) (s : State) (r : Asks R) (rest : R → Asks S) (i : Item) → IsScene u s → Waits i ≡ tell (sight s) r → AwaitsAt u s (bind r rest) i
+waits_awaited u s r rest i scene told = bind_waits u s r rest i (waits_awaits (says_at u) (sight s) (pends_at u) (true_sight u s scene) r i (sym told))
 
 -- ---- a question
 

@@ -27,27 +27,28 @@ use Rattle.typed_marks.specs.declared.mark.ConstId.{ConstId}
 use Rattle.typed_marks.specs.Meanings.{Meaning, constant_at}
 use Rattle.typed_marks.specs.States.{so_far}
 use Rattle.unit_read.specs.declared.subject.Subject.{Subject}
-use Rattle.unit_read.specs.Subjects.{unit_of}
+use Rattle.unit_read.specs.Imports.{bare}
+use Rattle.unit_read.specs.Subjects.{full_of, unit_of}
 use Rattle.unit_read.specs.Units.{Unit, base_of}
-use Rattle.rule_words.specs.Asking.{type_item, declaration_told}
+use Rattle.rule_words.specs.Asking.{declarer, declaration_told}
 use Rattle.rule_words.specs.Scenes.{type_in}
 use Rattle.type_answers.specs.declared.relations.Relation.{Relation}
 use Rattle.type_answers.specs.Asked.{relating}
 
 -- the answers to questions, over what is declared from the start and what the marks declare
 abbrev pub says_of : Unit → (Item → Option Meaning) → Question → Told → Type 0
-says_of u so_far q told = says (base_of u) (type_item u) declaration_told so_far q told
+says_of u so_far q told = says (base_of u) (declarer (bare u)) declaration_told so_far q told
 
 -- the items for which a question waits
 abbrev pub pends_of : Unit → (Item → Option Meaning) → Question → Item → Type 0
-pends_of u so_far q i = pends (base_of u) (type_item u) declaration_told so_far q i
+pends_of u so_far q i = pends (base_of u) (declarer (bare u)) declaration_told so_far q i
 
 pub answers_last : (u : Unit) → Lasting (says_of u) (pends_of u)
-answers_last u = questions_last (base_of u) (type_item u) declaration_told
+answers_last u = questions_last (base_of u) (declarer (bare u)) declaration_told
 
 -- an answer that a question has over the marks so far, told as `into` says; or an item for which it waits
 abbrev pub IsAnswered : {A : Type 0} → Subject → State → Question → (Reached A → Told) → Found (Reached A) Item → Type 0
-IsAnswered u s q into found = IsFound (base_of (unit_of u)) (type_item (unit_of u)) declaration_told (so_far s) q into found
+IsAnswered u s q into found = IsFound (base_of (full_of u)) (declarer (unit_of u)) declaration_told (so_far s) q into found
 
 -- ---- over tables
 

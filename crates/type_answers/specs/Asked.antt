@@ -11,7 +11,7 @@ use Rattle.type_rel.specs.declared.answer.Implements.{Implements}
 use Rattle.type_rel.specs.declared.answer.Implements.TheVariants.{Yes, Missing}
 use Rattle.type_questions.specs.declared.reached.Reached.{Reached}
 use Rattle.type_questions.specs.declared.reached.Reached.TheVariants.{Got, Lost}
-use Rattle.type_questions.specs.Questions.{Question, AssignableTo, ConvertibleTo, IsComparable, MissingMethod, FieldOrMethod, MethodSet, Told, Holds, Implementing, Selecting, Listing}
+use Rattle.type_questions.specs.Questions.{Question, AssignableTo, ConvertibleTo, IsComparable, MissingMethod, FieldOrMethod, MethodSet, Told, Holds, Implementing, Selecting, Listing, Declaring}
 use Rattle.typed_marks.specs.Meanings.{Quiet}
 use Rattle.rule_words.specs.Asking.{Asks, Rule}
 use Rattle.rule_words.specs.Putting.{methods_from}
@@ -26,24 +26,28 @@ bool_told (Holds x) = x
 bool_told (Implementing x) = Lost
 bool_told (Selecting x) = Lost
 bool_told (Listing x) = Lost
+bool_told (Declaring x) = Lost
 
 abbrev pub methods_told : Told → Reached (List GoMethod)
 methods_told (Holds x) = Lost
 methods_told (Implementing x) = Lost
 methods_told (Selecting x) = Lost
 methods_told (Listing x) = x
+methods_told (Declaring x) = Lost
 
 abbrev pub chosen_told : Told → Reached Chosen
 chosen_told (Holds x) = Lost
 chosen_told (Implementing x) = Lost
 chosen_told (Selecting x) = x
 chosen_told (Listing x) = Lost
+chosen_told (Declaring x) = Lost
 
 abbrev pub implements_told : Told → Reached Implements
 implements_told (Holds x) = Lost
 implements_told (Implementing x) = x
 implements_told (Selecting x) = Lost
 implements_told (Listing x) = Lost
+implements_told (Declaring x) = Lost
 
 -- what a rule makes of an answer; nothing is said where there is none
 abbrev pub need_told : {A : Type 0} → Reached A → (A → Rule) → Rule

@@ -9,7 +9,7 @@ use Rattle.typed_marks.specs.declared.state.State.{State}
 use Rattle.typed_marks.specs.Meanings.{Meaning}
 use Rattle.typed_marks.specs.States.{so_far}
 use Rattle.unit_read.specs.declared.subject.Subject.{Subject}
-use Rattle.unit_read.specs.Subjects.{unit_of}
+use Rattle.unit_read.specs.Subjects.{full_of}
 use Rattle.rule_words.specs.declared.step.Asked.{Asked}
 use Rattle.rule_words.specs.declared.step.Rest.{Rest}
 use Rattle.rule_words.specs.declared.step.Step.{Step}
@@ -21,10 +21,10 @@ use Rattle.type_answers.specs.Answering.{says_of, pends_of}
 
 -- The answers to a package's questions, and the items for which they wait, closed: proofs that put judges together don't look into them.
 unfoldable pub says_at : Subject → (Item → Option Meaning) → Question → Told → Type 0
-says_at u so_far q told = says_of (unit_of u) so_far q told
+says_at u so_far q told = says_of (full_of u) so_far q told
 
 unfoldable pub pends_at : Subject → (Item → Option Meaning) → Question → Item → Type 0
-pends_at u so_far q i = pends_of (unit_of u) so_far q i
+pends_at u so_far q i = pends_of (full_of u) so_far q i
 
 -- over the marks so far this is given
 abbrev pub GivesAt : {R : Type 0} → Subject → State → Asks R → R → Type 0

@@ -8,9 +8,9 @@ ghost use Rattle.rel_growth.specs.Implement.{implement_of};
 ghost use Rattle.type_questions.specs.Judging.{AreMethodsBelow, IsFoundBy, IsOfTable};
 ghost use Rattle.type_questions.specs.Questions.{FieldOrMethod, MethodSet, MissingMethod, Implementing};
 ghost use Rattle.typed_marks.specs.States.{so_far};
-ghost use Rattle.unit_read.specs.Subjects.{unit_of};
+ghost use Rattle.unit_read.specs.Subjects.{full_of, unit_of};
 ghost use Rattle.unit_read.specs.Units.{base_of};
-ghost use Rattle.rule_words.specs.Asking.{type_item, declaration_told};
+ghost use Rattle.rule_words.specs.Asking.{declarer, declaration_told};
 ghost use Rattle.rule_words.specs.Scenes.{IsScene, IsTypeOf, type_in};
 ghost use Rattle.type_answers.specs.Answering.{IsAnswered, listed_told, selection_told, AreSelectedBelow};
 
@@ -72,7 +72,7 @@ pub fn missing_at(
 fn reached(u: &Subject, s: &State, reply: Reply<Selection>) -> Found<Reached<Selection>, Item>
     requires scene { IsScene u.now s.now }
     requires within { IsOfTable s.now.table reply }
-    ensures { IsFoundBy s.now.table (base_of (unit_of u.now)) (type_item (unit_of u.now)) declaration_told (so_far s.now) reply result }
+    ensures { IsFoundBy s.now.table (base_of (full_of u.now)) (declarer (unit_of u.now)) declaration_told (so_far s.now) reply result }
 {
     let scene = Scene {
         subject: u,

@@ -1,9 +1,10 @@
 //! The marks so far, as questions about types need them.
 ghost use Rattle.typed_marks.specs.Meanings.{Meaning};
 ghost use Rattle.typed_marks.specs.States.{so_far};
-ghost use Rattle.unit_read.specs.Units.{Unit, base_of};
-ghost use Rattle.unit_read.specs.Subjects.{unit_of};
-ghost use Rattle.rule_words.specs.Asking.{type_item, declaration_told};
+ghost use Rattle.unit_read.specs.Units.{base_of};
+ghost use Rattle.unit_read.specs.Subjects.{full_of, unit_of};
+ghost use Rattle.unit_read.specs.declared.subject.Subject.{Subject as Read};
+ghost use Rattle.rule_words.specs.Asking.{declarer, declaration_told};
 ghost use Rattle.rule_words.specs.Scenes.{IsScene};
 
 use rule_words::pending;
@@ -24,15 +25,15 @@ impl<'a> Seen for Scene<'a> {
 
     ghost Meaning = { Meaning };
 
-    ghost Subject = { Unit };
+    ghost Subject = { Read };
 
-    ghost subject = { λ scene. unit_of scene.subject.now };
+    ghost subject = { λ scene. scene.subject.now };
 
     ghost IsSeen = { λ scene. IsScene scene.subject.now scene.state.now };
 
-    ghost base = { base_of };
+    ghost base = { λ u. base_of (full_of u) };
 
-    ghost under = { type_item };
+    ghost under = { λ u. declarer (unit_of u) };
 
     ghost reads = { declaration_told };
 

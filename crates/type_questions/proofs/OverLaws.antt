@@ -1,5 +1,5 @@
 -- A relation whose answers last, asked over marks.
-use Rattle.std.proofs.Common.{◌≡◌, Option, Some, None, refl, ap, ◌∙◌, inl, inr}
+use Rattle.std.proofs.Common.{◌≡◌, Option, Some, None, refl, ap, ◌∙◌}
 use Rattle.std.specs.Option.{option_or, option_map_or}
 use Rattle.type_model.specs.declared.term.TypeName.{TypeName}
 use Rattle.type_model.specs.Declarations.{Declaration, Declarations}
@@ -44,18 +44,15 @@ module _ {I M : Type 0} (base : Declarations) (under : TypeName → Option I) (r
 
   -- what is declared by nothing isn't declared, and won't be
   pub nothing_declared : (so_far : I → Option M) (name : TypeName) → GivesNothing base under reads so_far name → declared base under reads so_far name ≡ None
-  nothing_declared so_far name (none, inl no_item) =
-      marked_declared so_far name none ∙ ap (λ o. option_map_or reads (option_map_or so_far o None) None) no_item
-  nothing_declared so_far name (none, inr (item, mark, is, at, gives)) =
+  nothing_declared so_far name (none, (item, mark, is, at, gives)) =
       marked_declared so_far name none
       ∙ (ap (λ o. option_map_or reads (option_map_or so_far o None) None) is ∙ (ap (λ o. option_map_or reads o None) at ∙ gives))
 
   pub nothing_stays : (so_far next : I → Option M) (name : TypeName) → Keeps so_far next → GivesNothing base under reads so_far name → GivesNothing base under reads next name
-  nothing_stays so_far next name keeps (none, inl no_item) = (none, inl no_item)
-  nothing_stays so_far next name keeps (none, inr (item, mark, is, at, gives)) = (none, inr (item, mark, is, keeps item mark at, gives))
+  nothing_stays so_far next name keeps (none, (item, mark, is, at, gives)) = (none, (item, mark, is, keeps item mark at, gives))
 
   -- what waits isn't declared
-  pending_declared : (so_far : I → Option M) (name : TypeName) (item : I) → base name ≡ None → IsPending under so_far name item → declared base under reads so_far name ≡ None
+  pub pending_declared : (so_far : I → Option M) (name : TypeName) (item : I) → base name ≡ None → IsPending under so_far name item → declared base under reads so_far name ≡ None
   pending_declared so_far name item none (is, at) =
       marked_declared so_far name none
       ∙ (ap (λ o. option_map_or reads (option_map_or so_far o None) None) is ∙ ap (λ o. option_map_or reads o None) at)

@@ -1,6 +1,6 @@
 -- Questions about types, asked over marks. Some names are declared from the start: those of packages that are imported, and those of the
 -- universe block. Each other name of the package is declared by an item: its mark says with which underlying type and methods, or that its
--- declaration gives nothing. A name that is neither, as one that another package doesn't declare, is declared by nothing.
+-- declaration gives nothing. Of a name that is neither, as one of a package that isn't known, nothing is known, and a question that needs it has no answer.
 use Rattle.std.specs.Prelude.{◌≡◌, ◌⊎◌, Option, Some, None}
 use Rattle.std.specs.Option.{option_or, option_map_or}
 use Rattle.type_model.specs.declared.term.TypeName.{TypeName}
@@ -22,12 +22,11 @@ marked under reads so_far name = option_map_or reads (mark_of under so_far name)
 abbrev pub declared : {I M : Type 0} → Declarations → (TypeName → Option I) → (M → Option Declaration) → (I → Option M) → Declarations
 declared base under reads so_far name = option_or (base name) (marked under reads so_far name)
 
--- the name is declared by no item, or by one whose mark says that its declaration gives nothing
+-- the name is declared by an item whose mark says that its declaration gives nothing
 abbrev pub IsOfNothing : {I M : Type 0} → (TypeName → Option I) → (M → Option Declaration) → (I → Option M) → TypeName → Type 0
-IsOfNothing {I} {M} under reads so_far name =
-    (under name ≡ None) ⊎ ((item : I) × (mark : M) × (under name ≡ Some item) × (so_far item ≡ Some mark) × (reads mark ≡ None))
+IsOfNothing {I} {M} under reads so_far name = (item : I) × (mark : M) × (under name ≡ Some item) × (so_far item ≡ Some mark) × (reads mark ≡ None)
 
--- the name is declared by nothing, whatever is marked later
+-- the name is declared by nothing, whatever is marked or known later
 abbrev pub GivesNothing : {I M : Type 0} → Declarations → (TypeName → Option I) → (M → Option Declaration) → (I → Option M) → TypeName → Type 0
 GivesNothing base under reads so_far name = (base name ≡ None) × IsOfNothing under reads so_far name
 

@@ -3,12 +3,12 @@ ghost use Rattle.std.specs.Prelude.{◌≡◌, true, option_map};
 ghost use Rattle.mark_walk.specs.Asks.{bind};
 ghost use Rattle.mark_walk.specs.Telling.{tell};
 ghost use Rattle.type_model.specs.Tables.{IsTable};
-ghost use Rattle.typed_marks.specs.States.{so_far, IsState};
+ghost use Rattle.typed_marks.specs.States.{IsState};
 ghost use Rattle.unit_read.specs.Subjects.{unit_of};
 ghost use Rattle.rule_words.specs.declared.answer.Answer.TheVariants as answer;
 ghost use Rattle.rule_words.specs.declared.step.Step.TheVariants as step;
 ghost use Rattle.rule_words.specs.Answers.{is_plain};
-ghost use Rattle.rule_words.specs.Scenes.{IsScene, said, IsMarkOf, type_in, IsTypeOf, MayBeTypeOf};
+ghost use Rattle.rule_words.specs.Scenes.{sight, IsScene, said, IsMarkOf, type_in, IsTypeOf, MayBeTypeOf};
 ghost use Rattle.rule_words.specs.Steps.{step_in, IsStepOf};
 ghost use Rattle.rule_words.specs.Good.{known_of, AreFactsOf};
 ghost use Rattle.type_rules.specs.Interfaces.{is_interface, embeds, embeds_type, embeds_known, embedding_rule};
@@ -52,7 +52,7 @@ fn embeds(s: &State, m: Mark, under: TypeId) -> Step
     requires mark { IsMarkOf s.now m }
     requires plain { is_plain m ≡ true }
     requires under { IsTypeOf s.now under }
-    ensures is { step_in s.now result ≡ tell (so_far s.now) (embeds (said s.now m) (type_in s.now under)) }
+    ensures is { step_in s.now result ≡ tell (sight s.now) (embeds (said s.now m) (type_in s.now under)) }
     ensures over { IsStepOf s.now result }
 {
     if is_interface(s, under) {
@@ -67,7 +67,7 @@ fn embeds_type(s: &State, m: Mark, under: Option<TypeId>) -> Step
     requires mark { IsMarkOf s.now m }
     requires plain { is_plain m ≡ true }
     requires under { MayBeTypeOf s.now under }
-    ensures is { step_in s.now result ≡ tell (so_far s.now) (embeds_type (said s.now m) (option_map (type_in s.now) under)) }
+    ensures is { step_in s.now result ≡ tell (sight s.now) (embeds_type (said s.now m) (option_map (type_in s.now) under)) }
     ensures over { IsStepOf s.now result }
 {
     match under {
@@ -81,7 +81,7 @@ fn embeds_known(u: &Subject, s: &State, m: Mark, x: Facts) -> Step
     requires mark { IsMarkOf s.now m }
     requires plain { is_plain m ≡ true }
     requires facts { AreFactsOf s.now x }
-    ensures is { step_in s.now result ≡ tell (so_far s.now) (embeds_known (unit_of u.now) (said s.now m) (known_of s.now x)) }
+    ensures is { step_in s.now result ≡ tell (sight s.now) (embeds_known (unit_of u.now) (said s.now m) (known_of s.now x)) }
     ensures over { IsStepOf s.now result }
 {
     match under_of(u, s, x.of) {
@@ -95,7 +95,7 @@ pub fn judge_embedding(u: &Subject, s: &State, m: Mark) -> Step
     requires scene { IsScene u.now s.now }
     requires mark { IsMarkOf s.now m }
     requires plain { is_plain m ≡ true }
-    ensures is { step_in s.now result ≡ tell (so_far s.now) (embedding_rule (unit_of u.now) (said s.now m)) }
+    ensures is { step_in s.now result ≡ tell (sight s.now) (embedding_rule (unit_of u.now) (said s.now m)) }
     ensures over { IsStepOf s.now result }
 {
     match known(s, m) {

@@ -2,11 +2,10 @@
 ghost use Rattle.std.specs.Prelude.{◌≡◌, ◌||◌, IfOk};
 ghost use Rattle.mark_walk.specs.Telling.{tell};
 ghost use Rattle.package_objects.specs.Declares.{items};
-ghost use Rattle.typed_marks.specs.States.{so_far};
 ghost use Rattle.typed_marks.specs.declared.state.State.{State};
 ghost use Rattle.unit_read.specs.Members.{type_word, embedded_name};
 ghost use Rattle.unit_read.specs.Subjects.{unit_of, IsRead};
-ghost use Rattle.rule_words.specs.Scenes.{IsScene, type_in, part_in, IsSeenOf};
+ghost use Rattle.rule_words.specs.Scenes.{sight, IsScene, type_in, part_in, IsSeenOf};
 ghost use Rattle.rule_words.specs.Steps.{step_in, IsStepOf};
 ghost use Rattle.type_rules.specs.Structs.{is_upper, is_exported, owner_of, begins_quoted, tag_in, tag_of, field_of, repeats, repeat_among, field_rule};
 ghost use Rattle.type_rules.specs.Members.{field_in};
@@ -156,7 +155,7 @@ fn repeat_among(u: &Subject, file: u32, nodes: &[Node], names: Option<u32>, n: u
 pub fn field(u: &Subject, s: &State, file: u32, nodes: &[Node], node: &Node, p: Seen) -> Step
     requires scene { IsScene u.now s.now }
     requires part { IsSeenOf s.now p }
-    ensures is { step_in s.now result ≡ tell (so_far s.now) (field_rule (unit_of u.now) file nodes.now node.now (part_in s.now p)) }
+    ensures is { step_in s.now result ≡ tell (sight s.now) (field_rule (unit_of u.now) file nodes.now node.now (part_in s.now p)) }
     ensures over { IsStepOf s.now result }
 {
     if repeat_among(

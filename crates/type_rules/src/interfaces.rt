@@ -5,11 +5,11 @@ ghost use Rattle.mark_walk.specs.Telling.{tell};
 ghost use Rattle.type_model.specs.GoTypes.{SignatureBelow, MethodsBelow, methods_of, signature_of};
 ghost use Rattle.type_model.specs.Orders.{AreInOrder};
 ghost use Rattle.type_model.specs.Tables.{types_in, count, IsTable};
-ghost use Rattle.typed_marks.specs.States.{so_far, IsState};
+ghost use Rattle.typed_marks.specs.States.{IsState};
 ghost use Rattle.typed_tree.specs.Basics.{HasBasics};
 ghost use Rattle.unit_read.specs.Subjects.{unit_of, IsRead};
 ghost use Rattle.rule_words.specs.Putting.{methods_from};
-ghost use Rattle.rule_words.specs.Scenes.{type_in, IsTypeOf, MayBeTypeOf, part_in, IsSeenOf, parts_in, AreSeenOf};
+ghost use Rattle.rule_words.specs.Scenes.{sight, type_in, IsTypeOf, MayBeTypeOf, part_in, IsSeenOf, parts_in, AreSeenOf};
 ghost use Rattle.rule_words.specs.Steps.{step_in, IsStepOf};
 ghost use Rattle.type_rules.specs.Interfaces.{signature_told, methods_told, method_with, written_method, embedded_methods, is_method, elem_methods, elem_at, nth_methods, all_methods, in_order, interface_rule};
 ghost use Rattle.type_rules.specs.Elements.{method_in};
@@ -320,7 +320,7 @@ pub fn interface(
     requires state { IsState s.now }
     requires basics { HasBasics s.now.table }
     requires parts { AreSeenOf s.now parts.now }
-    ensures is { IfOk result (λ step. step_in s.now step ≡ tell (so_far s.now) (interface_rule (unit_of u.now) file node.now (parts_in s.now parts.now))) }
+    ensures is { IfOk result (λ step. step_in s.now step ≡ tell (sight s.now) (interface_rule (unit_of u.now) file node.now (parts_in s.now parts.now))) }
     ensures over { IfOk result (IsStepOf s.now) }
 {
     if !are_good(s, parts, part_count(node)) {

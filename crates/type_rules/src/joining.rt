@@ -3,13 +3,13 @@ ghost use Rattle.std.specs.Prelude.{◌≡◌, ◌++◌, ◌∷◌, [], true, na
 ghost use Rattle.mark_walk.specs.Telling.{tell};
 ghost use Rattle.type_model.specs.GoTypes.{MethodsBelow};
 ghost use Rattle.type_model.specs.Tables.{count};
-ghost use Rattle.typed_marks.specs.States.{so_far, IsState};
+ghost use Rattle.typed_marks.specs.States.{IsState};
 ghost use Rattle.typed_tree.specs.Basics.{HasBasics};
 ghost use Rattle.unit_read.specs.Subjects.{unit_of, IsRead};
 ghost use Rattle.rule_words.specs.declared.read.How.TheVariants as h;
 ghost use Rattle.rule_words.specs.Answers.{is_plain};
 ghost use Rattle.rule_words.specs.Parts.{read_as};
-ghost use Rattle.rule_words.specs.Scenes.{IsScene, said, IsMarkOf, type_in, IsTypeOf, MayBeTypeOf, part_in, IsSeenOf, parts_in, AreSeenOf};
+ghost use Rattle.rule_words.specs.Scenes.{sight, IsScene, said, IsMarkOf, type_in, IsTypeOf, MayBeTypeOf, part_in, IsSeenOf, parts_in, AreSeenOf};
 ghost use Rattle.rule_words.specs.Steps.{step_in, IsStepOf};
 ghost use Rattle.rule_words.specs.Good.{known_of, AreFactsOf};
 ghost use Rattle.type_rules.specs.Elements.{method_in};
@@ -190,7 +190,7 @@ fn joined(
     requires plain { is_plain m ≡ true }
     requires methods { MethodsBelow (count s.now.table) methods.now }
     requires parts { AreSeenOf s.now parts.now }
-    ensures is { IfOk result (λ step. step_in s.now step ≡ tell (so_far s.now) (joined (unit_of u.now) file reads.now (said s.now m) (map (method_in s.now) methods.now) (parts_in s.now parts.now))) }
+    ensures is { IfOk result (λ step. step_in s.now step ≡ tell (sight s.now) (joined (unit_of u.now) file reads.now (said s.now m) (map (method_in s.now) methods.now) (parts_in s.now parts.now))) }
     ensures over { IfOk result (IsStepOf s.now) }
 {
     let found = clash_among(alloc, u, s, file, methods, reads, parts, reads.len())?;
@@ -216,7 +216,7 @@ fn after_others(
     requires mark { IsMarkOf s.now m }
     requires plain { is_plain m ≡ true }
     requires under { IsTypeOf s.now under }
-    ensures is { IfOk result (λ step. step_in s.now step ≡ tell (so_far s.now) (after_others (unit_of u.now) block file reads.now (said s.now m) (type_in s.now under))) }
+    ensures is { IfOk result (λ step. step_in s.now step ≡ tell (sight s.now) (after_others (unit_of u.now) block file reads.now (said s.now m) (type_in s.now under))) }
     ensures over { IfOk result (IsStepOf s.now) }
 {
     let methods = methods_told(s, under);
@@ -244,7 +244,7 @@ fn elem_of(
     requires mark { IsMarkOf s.now m }
     requires plain { is_plain m ≡ true }
     requires under { IsTypeOf s.now under }
-    ensures is { IfOk result (λ step. step_in s.now step ≡ tell (so_far s.now) (elem_of (unit_of u.now) block file reads.now (said s.now m) (type_in s.now under))) }
+    ensures is { IfOk result (λ step. step_in s.now step ≡ tell (sight s.now) (elem_of (unit_of u.now) block file reads.now (said s.now m) (type_in s.now under))) }
     ensures over { IfOk result (IsStepOf s.now) }
 {
     if is_interface(s, under) {
@@ -269,7 +269,7 @@ fn elem_with(
     requires mark { IsMarkOf s.now m }
     requires plain { is_plain m ≡ true }
     requires under { MayBeTypeOf s.now under }
-    ensures is { IfOk result (λ step. step_in s.now step ≡ tell (so_far s.now) (elem_with (unit_of u.now) block file reads.now (said s.now m) (option_map (type_in s.now) under))) }
+    ensures is { IfOk result (λ step. step_in s.now step ≡ tell (sight s.now) (elem_with (unit_of u.now) block file reads.now (said s.now m) (option_map (type_in s.now) under))) }
     ensures over { IfOk result (IsStepOf s.now) }
 {
     match under {
@@ -295,7 +295,7 @@ fn elem_known(
     requires mark { IsMarkOf s.now m }
     requires plain { is_plain m ≡ true }
     requires facts { AreFactsOf s.now x }
-    ensures is { IfOk result (λ step. step_in s.now step ≡ tell (so_far s.now) (elem_known (unit_of u.now) block file reads.now (said s.now m) (known_of s.now x))) }
+    ensures is { IfOk result (λ step. step_in s.now step ≡ tell (sight s.now) (elem_known (unit_of u.now) block file reads.now (said s.now m) (known_of s.now x))) }
     ensures over { IfOk result (IsStepOf s.now) }
 {
     match under_of(u, s, x.of) {
@@ -319,7 +319,7 @@ fn elem_by(
     requires scene { IsScene u.now s.now }
     requires mark { IsMarkOf s.now m }
     requires plain { is_plain m ≡ true }
-    ensures is { IfOk result (λ step. step_in s.now step ≡ tell (so_far s.now) (elem_by (unit_of u.now) block file reads.now (said s.now m))) }
+    ensures is { IfOk result (λ step. step_in s.now step ≡ tell (sight s.now) (elem_by (unit_of u.now) block file reads.now (said s.now m))) }
     ensures over { IfOk result (IsStepOf s.now) }
 {
     match known(s, m) {
@@ -346,7 +346,7 @@ pub fn judge_element(
     requires scene { IsScene u.now s.now }
     requires mark { IsMarkOf s.now m }
     requires plain { is_plain m ≡ true }
-    ensures is { IfOk result (λ step. step_in s.now step ≡ tell (so_far s.now) (element_rule (unit_of u.now) block file around.now i (said s.now m))) }
+    ensures is { IfOk result (λ step. step_in s.now step ≡ tell (sight s.now) (element_rule (unit_of u.now) block file around.now i (said s.now m))) }
     ensures over { IfOk result (IsStepOf s.now) }
 {
     let reads = others(alloc, u.nodes_at(file), around, i)?;

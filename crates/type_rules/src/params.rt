@@ -1,10 +1,9 @@
 //! Lists of parameters.
 ghost use Rattle.std.specs.Prelude.{◌≡◌, ◌++◌, ◌∷◌, [], ◌-◌, map, length, ◌&&◌, OnOk, IfOk};
 ghost use Rattle.mark_walk.specs.Telling.{tell};
-ghost use Rattle.typed_marks.specs.States.{so_far};
 ghost use Rattle.type_model.specs.GoTypes.{AreBelow, types_at};
 ghost use Rattle.type_model.specs.Tables.{types_in, count};
-ghost use Rattle.rule_words.specs.Scenes.{type_in, IsTypeOf, part_in, parts_in, IsSeenOf, AreSeenOf};
+ghost use Rattle.rule_words.specs.Scenes.{sight, type_in, IsTypeOf, part_in, parts_in, IsSeenOf, AreSeenOf};
 ghost use Rattle.rule_words.specs.Steps.{step_in, IsStepOf};
 ghost use Rattle.typed_tree.specs.Basics.{HasBasics};
 ghost use Rattle.package_objects.specs.Declares.{part};
@@ -218,7 +217,7 @@ pub fn params(
 ) -> Result<Step, NoMemory>
     requires basics { HasBasics s.now.table }
     requires parts { AreSeenOf s.now parts.now }
-    ensures is { IfOk result (λ step. step_in s.now step ≡ tell (so_far s.now) (params_rule nodes.now node.now (parts_in s.now parts.now))) }
+    ensures is { IfOk result (λ step. step_in s.now step ≡ tell (sight s.now) (params_rule nodes.now node.now (parts_in s.now parts.now))) }
     ensures over { IfOk result (IsStepOf s.now) }
 {
     if !are_good(s, parts, part_count(node)) {

@@ -4,11 +4,11 @@ ghost use Rattle.std.specs.Str.{bytes_eq};
 ghost use Rattle.mark_walk.specs.Asks.{bind};
 ghost use Rattle.mark_walk.specs.Telling.{tell};
 ghost use Rattle.type_model.specs.Tables.{IsTable};
-ghost use Rattle.typed_marks.specs.States.{so_far, IsState};
+ghost use Rattle.typed_marks.specs.States.{IsState};
 ghost use Rattle.typed_tree.specs.Basics.{HasBasics};
 ghost use Rattle.unit_read.specs.Subjects.{unit_of};
 ghost use Rattle.rule_words.specs.Asking.{under_ask};
-ghost use Rattle.rule_words.specs.Scenes.{IsScene, part_in, IsSeenOf, parts_in, AreSeenOf, type_in, IsTypeOf, MayBeTypeOf};
+ghost use Rattle.rule_words.specs.Scenes.{sight, IsScene, part_in, IsSeenOf, parts_in, AreSeenOf, type_in, IsTypeOf, MayBeTypeOf};
 ghost use Rattle.rule_words.specs.Steps.{step_in, IsStepOf};
 ghost use Rattle.rule_words.specs.Good.{given, known_of, AreFactsOf};
 ghost use Rattle.type_rules.specs.Receivers.{receiver_base, is_own, may_have_methods, is_single, based_on, with_base, base_ask, receiver_of, receiver_rule, is_method_decl, is_receiver, list_in, list_of, list_rule};
@@ -111,7 +111,7 @@ fn based_on(
     requires basics { HasBasics s.now.table }
     requires parts { AreSeenOf s.now parts.now }
     requires under { IsTypeOf s.now under }
-    ensures is { IfOk result (λ step. step_in s.now step ≡ tell (so_far s.now) (based_on nodes.now node.now (parts_in s.now parts.now) (type_in s.now under))) }
+    ensures is { IfOk result (λ step. step_in s.now step ≡ tell (sight s.now) (based_on nodes.now node.now (parts_in s.now parts.now) (type_in s.now under))) }
     ensures over { IfOk result (IsStepOf s.now) }
 {
     if !may_have_methods(s, under) {
@@ -133,7 +133,7 @@ fn with_base(
     requires basics { HasBasics s.now.table }
     requires parts { AreSeenOf s.now parts.now }
     requires under { MayBeTypeOf s.now under }
-    ensures is { IfOk result (λ step. step_in s.now step ≡ tell (so_far s.now) (with_base nodes.now node.now (parts_in s.now parts.now) (option_map (type_in s.now) under))) }
+    ensures is { IfOk result (λ step. step_in s.now step ≡ tell (sight s.now) (with_base nodes.now node.now (parts_in s.now parts.now) (option_map (type_in s.now) under))) }
     ensures over { IfOk result (IsStepOf s.now) }
 {
     match under {
@@ -157,7 +157,7 @@ fn base_asked(
     requires scene { IsScene u.now s.now }
     requires parts { AreSeenOf s.now parts.now }
     requires of { IsTypeOf s.now of }
-    ensures is { IfOk result (λ step. step_in s.now step ≡ tell (so_far s.now) (bind (under_ask (unit_of u.now) (type_in s.now of)) (λ under. with_base nodes.now node.now (parts_in s.now parts.now) under))) }
+    ensures is { IfOk result (λ step. step_in s.now step ≡ tell (sight s.now) (bind (under_ask (unit_of u.now) (type_in s.now of)) (λ under. with_base nodes.now node.now (parts_in s.now parts.now) under))) }
     ensures over { IfOk result (IsStepOf s.now) }
 {
     match under_of(u, s, of) {
@@ -182,7 +182,7 @@ fn base_tested(
     requires scene { IsScene u.now s.now }
     requires parts { AreSeenOf s.now parts.now }
     requires of { IsTypeOf s.now of }
-    ensures is { IfOk result (λ step. step_in s.now step ≡ tell (so_far s.now) (base_ask (unit_of u.now) nodes.now node.now (parts_in s.now parts.now) (type_in s.now of))) }
+    ensures is { IfOk result (λ step. step_in s.now step ≡ tell (sight s.now) (base_ask (unit_of u.now) nodes.now node.now (parts_in s.now parts.now) (type_in s.now of))) }
     ensures over { IfOk result (IsStepOf s.now) }
 {
     if !is_own(u, s, of) {
@@ -204,7 +204,7 @@ fn receiver_of(
     requires scene { IsScene u.now s.now }
     requires parts { AreSeenOf s.now parts.now }
     requires facts { AreFactsOf s.now x }
-    ensures is { IfOk result (λ step. step_in s.now step ≡ tell (so_far s.now) (receiver_of (unit_of u.now) nodes.now node.now (parts_in s.now parts.now) (known_of s.now x))) }
+    ensures is { IfOk result (λ step. step_in s.now step ≡ tell (sight s.now) (receiver_of (unit_of u.now) nodes.now node.now (parts_in s.now parts.now) (known_of s.now x))) }
     ensures over { IfOk result (IsStepOf s.now) }
 {
     let base = receiver_base(s, x.of);
@@ -224,7 +224,7 @@ fn receiver_given(
     requires scene { IsScene u.now s.now }
     requires parts { AreSeenOf s.now parts.now }
     requires part { IsSeenOf s.now p }
-    ensures is { IfOk result (λ step. step_in s.now step ≡ tell (so_far s.now) (given (part_in s.now p).mark (λ x. receiver_of (unit_of u.now) nodes.now node.now (parts_in s.now parts.now) x))) }
+    ensures is { IfOk result (λ step. step_in s.now step ≡ tell (sight s.now) (given (part_in s.now p).mark (λ x. receiver_of (unit_of u.now) nodes.now node.now (parts_in s.now parts.now) x))) }
     ensures over { IfOk result (IsStepOf s.now) }
 {
     match known(s, p.mark) {
@@ -247,7 +247,7 @@ fn receiver(
 ) -> Result<Step, NoMemory>
     requires scene { IsScene u.now s.now }
     requires parts { AreSeenOf s.now parts.now }
-    ensures is { IfOk result (λ step. step_in s.now step ≡ tell (so_far s.now) (receiver_rule (unit_of u.now) nodes.now node.now (parts_in s.now parts.now))) }
+    ensures is { IfOk result (λ step. step_in s.now step ≡ tell (sight s.now) (receiver_rule (unit_of u.now) nodes.now node.now (parts_in s.now parts.now))) }
     ensures over { IfOk result (IsStepOf s.now) }
 {
     if !is_single(nodes, node) {
@@ -284,7 +284,7 @@ fn list_in(
 ) -> Result<Step, NoMemory>
     requires scene { IsScene u.now s.now }
     requires parts { AreSeenOf s.now parts.now }
-    ensures is { IfOk result (λ step. step_in s.now step ≡ tell (so_far s.now) (list_in (unit_of u.now) nodes.now node.now (parts_in s.now parts.now) p)) }
+    ensures is { IfOk result (λ step. step_in s.now step ≡ tell (sight s.now) (list_in (unit_of u.now) nodes.now node.now (parts_in s.now parts.now) p)) }
     ensures over { IfOk result (IsStepOf s.now) }
 {
     if is_receiver(nodes, p) {
@@ -306,7 +306,7 @@ fn list_of(
 ) -> Result<Step, NoMemory>
     requires scene { IsScene u.now s.now }
     requires parts { AreSeenOf s.now parts.now }
-    ensures is { IfOk result (λ step. step_in s.now step ≡ tell (so_far s.now) (list_of (unit_of u.now) nodes.now node.now (parts_in s.now parts.now) place)) }
+    ensures is { IfOk result (λ step. step_in s.now step ≡ tell (sight s.now) (list_of (unit_of u.now) nodes.now node.now (parts_in s.now parts.now) place)) }
     ensures over { IfOk result (IsStepOf s.now) }
 {
     match place {
@@ -332,7 +332,7 @@ pub fn list(
 ) -> Result<Step, NoMemory>
     requires scene { IsScene u.now s.now }
     requires parts { AreSeenOf s.now parts.now }
-    ensures is { IfOk result (λ step. step_in s.now step ≡ tell (so_far s.now) (list_rule (unit_of u.now) at node.now (parts_in s.now parts.now))) }
+    ensures is { IfOk result (λ step. step_in s.now step ≡ tell (sight s.now) (list_rule (unit_of u.now) at node.now (parts_in s.now parts.now))) }
     ensures over { IfOk result (IsStepOf s.now) }
 {
     let nodes = u.nodes_at(at.file);

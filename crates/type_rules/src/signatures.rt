@@ -5,12 +5,11 @@ ghost use Rattle.mark_walk.specs.Telling.{tell, Says};
 ghost use Rattle.typed_marks.specs.declared.state.State.{State};
 ghost use Rattle.typed_tree.specs.declared.mark.Mode.TheVariants as mode;
 ghost use Rattle.rule_words.specs.Answers.{typed};
-ghost use Rattle.typed_marks.specs.States.{so_far};
 ghost use Rattle.type_model.specs.GoTypes.{AreBelow, types_at, NoType};
 ghost use Rattle.type_model.specs.Tables.{types_in, count, IsTable};
 ghost use Rattle.package_objects.specs.Declares.{is_params, is_block};
 ghost use Rattle.unit_read.specs.Subjects.{unit_of};
-ghost use Rattle.rule_words.specs.Scenes.{IsScene, said, IsMarkOf, type_in, IsTypeOf};
+ghost use Rattle.rule_words.specs.Scenes.{sight, IsScene, said, IsMarkOf, type_in, IsTypeOf};
 ghost use Rattle.rule_words.specs.Steps.{step_in, IsStepOf};
 ghost use Rattle.rule_words.specs.Good.{known_of, AreFactsOf};
 ghost use Rattle.type_rules.specs.Signatures.{params_told, results_of, signature_type, joined_rule, resulting_rule, unless_block, results_node, results_rule, taking_rule, from_params, params_ask, signature_rule};
@@ -126,7 +125,7 @@ fn joined(alloc: Global, s: &State, kind: NodeKind, t: Taken, y: Facts) -> Resul
     requires state { IsTable s.now.table }
     requires taken { IsTakenOf s.now t }
     requires facts { AreFactsOf s.now y }
-    ensures is { IfOk result (λ step. step_in s.now step ≡ tell (so_far s.now) (joined_rule kind (taken_in s.now t) (known_of s.now y))) }
+    ensures is { IfOk result (λ step. step_in s.now step ≡ tell (sight s.now) (joined_rule kind (taken_in s.now t) (known_of s.now y))) }
     ensures over { IfOk result (IsStepOf s.now) }
 {
     let results = results_of(alloc, s, kind, y.of)?;
@@ -137,7 +136,7 @@ fn resulting(alloc: Global, s: &State, kind: NodeKind, t: Taken, m: Mark) -> Res
     requires state { IsTable s.now.table }
     requires taken { IsTakenOf s.now t }
     requires mark { IsMarkOf s.now m }
-    ensures is { IfOk result (λ step. step_in s.now step ≡ tell (so_far s.now) (resulting_rule kind (taken_in s.now t) (said s.now m))) }
+    ensures is { IfOk result (λ step. step_in s.now step ≡ tell (sight s.now) (resulting_rule kind (taken_in s.now t) (said s.now m))) }
     ensures over { IfOk result (IsStepOf s.now) }
 {
     match known(s, m) {
@@ -160,7 +159,7 @@ fn with_results(
 ) -> Result<Step, NoMemory>
     requires scene { IsScene u.now s.now }
     requires taken { IsTakenOf s.now t }
-    ensures is { IfOk result (λ step. step_in s.now step ≡ tell (so_far s.now) (results_rule (unit_of u.now) block nodes.now (Some n) (taken_in s.now t))) }
+    ensures is { IfOk result (λ step. step_in s.now step ≡ tell (sight s.now) (results_rule (unit_of u.now) block nodes.now (Some n) (taken_in s.now t))) }
     ensures over { IfOk result (IsStepOf s.now) }
 {
     match look(u, s, Stage::Placed, block, n) {
@@ -183,7 +182,7 @@ fn results(
 ) -> Result<Step, NoMemory>
     requires scene { IsScene u.now s.now }
     requires taken { IsTakenOf s.now t }
-    ensures is { IfOk result (λ step. step_in s.now step ≡ tell (so_far s.now) (results_rule (unit_of u.now) block nodes.now node (taken_in s.now t))) }
+    ensures is { IfOk result (λ step. step_in s.now step ≡ tell (sight s.now) (results_rule (unit_of u.now) block nodes.now node (taken_in s.now t))) }
     ensures over { IfOk result (IsStepOf s.now) }
 {
     match node {
@@ -206,7 +205,7 @@ fn taking(
 ) -> Result<Step, NoMemory>
     requires scene { IsScene u.now s.now }
     requires facts { AreFactsOf s.now x }
-    ensures is { IfOk result (λ step. step_in s.now step ≡ tell (so_far s.now) (taking_rule (unit_of u.now) block nodes.now node (known_of s.now x))) }
+    ensures is { IfOk result (λ step. step_in s.now step ≡ tell (sight s.now) (taking_rule (unit_of u.now) block nodes.now node (known_of s.now x))) }
     ensures over { IfOk result (IsStepOf s.now) }
 {
     let told = params_told(alloc, s, x.of)?;
@@ -230,7 +229,7 @@ fn from_params(
 ) -> Result<Step, NoMemory>
     requires scene { IsScene u.now s.now }
     requires mark { IsMarkOf s.now m }
-    ensures is { IfOk result (λ step. step_in s.now step ≡ tell (so_far s.now) (from_params (unit_of u.now) block nodes.now node (said s.now m))) }
+    ensures is { IfOk result (λ step. step_in s.now step ≡ tell (sight s.now) (from_params (unit_of u.now) block nodes.now node (said s.now m))) }
     ensures over { IfOk result (IsStepOf s.now) }
 {
     match known(s, m) {
@@ -252,7 +251,7 @@ fn params_asked(
     n: u32,
 ) -> Result<Step, NoMemory>
     requires scene { IsScene u.now s.now }
-    ensures is { IfOk result (λ step. step_in s.now step ≡ tell (so_far s.now) (params_ask (unit_of u.now) block nodes.now node n)) }
+    ensures is { IfOk result (λ step. step_in s.now step ≡ tell (sight s.now) (params_ask (unit_of u.now) block nodes.now node n)) }
     ensures over { IfOk result (IsStepOf s.now) }
 {
     match look(u, s, Stage::Placed, block, n) {
@@ -296,7 +295,7 @@ pub fn judge_signature(
 ) -> Result<Step, NoMemory>
     requires scene { IsScene u.now s.now }
     requires few { i < 4 }
-    ensures is { IfOk result (λ step. step_in s.now step ≡ tell (so_far s.now) (signature_rule (unit_of u.now) block nodes.now node.now i)) }
+    ensures is { IfOk result (λ step. step_in s.now step ≡ tell (sight s.now) (signature_rule (unit_of u.now) block nodes.now node.now i)) }
     ensures over { IfOk result (IsStepOf s.now) }
 {
     match part_of(node, i) {

@@ -3,10 +3,9 @@ ghost use Rattle.std.specs.Prelude.{◌≡◌, ◌++◌, ◌∷◌, [], Some, ma
 ghost use Rattle.mark_walk.specs.Telling.{tell};
 ghost use Rattle.type_model.specs.GoTypes.{FieldsBelow, fields_of};
 ghost use Rattle.type_model.specs.Tables.{types_in, count};
-ghost use Rattle.typed_marks.specs.States.{so_far};
 ghost use Rattle.typed_tree.specs.Basics.{HasBasics};
 ghost use Rattle.unit_read.specs.Subjects.{unit_of, IsRead};
-ghost use Rattle.rule_words.specs.Scenes.{type_in, IsTypeOf, parts_in, AreSeenOf};
+ghost use Rattle.rule_words.specs.Scenes.{sight, type_in, IsTypeOf, parts_in, AreSeenOf};
 ghost use Rattle.rule_words.specs.Steps.{step_in, IsStepOf};
 ghost use Rattle.type_rules.specs.Structs.{fields_from, tag_of, field_of, named_field, nth_field, named_fields, embedded_field, fields_by, fields_at, nth_fields, all_fields, struct_rule};
 ghost use Rattle.type_rules.specs.Members.{field_in};
@@ -282,7 +281,7 @@ pub fn structure(
     requires read { IsRead u.now }
     requires basics { HasBasics s.now.table }
     requires parts { AreSeenOf s.now parts.now }
-    ensures is { IfOk result (λ step. step_in s.now step ≡ tell (so_far s.now) (struct_rule (unit_of u.now) file node.now (parts_in s.now parts.now))) }
+    ensures is { IfOk result (λ step. step_in s.now step ≡ tell (sight s.now) (struct_rule (unit_of u.now) file node.now (parts_in s.now parts.now))) }
     ensures over { IfOk result (IsStepOf s.now) }
 {
     if !are_good(s, parts, part_count(node)) {

@@ -2,8 +2,7 @@
 ghost use Rattle.std.specs.Prelude.{◌≡◌};
 ghost use Rattle.mark_walk.specs.Telling.{tell};
 ghost use Rattle.typed_marks.specs.Meanings.{constant_at};
-ghost use Rattle.typed_marks.specs.States.{so_far};
-ghost use Rattle.rule_words.specs.Scenes.{part_in, IsSeenOf};
+ghost use Rattle.rule_words.specs.Scenes.{sight, part_in, IsSeenOf};
 ghost use Rattle.rule_words.specs.Steps.{step_in, IsStepOf};
 ghost use Rattle.rule_words.specs.Good.{known_of, AreFactsOf};
 ghost use Rattle.type_rules.specs.Types.{pointing_rule, slice_rule, chan_rule, map_of, map_rule, length_in, length_of, array_of, sized_rule, array_rule, same_rule};
@@ -17,7 +16,7 @@ use typed_tree::{BAD_ARRAY_LENGTH, Mode};
 
 pub fn pointing(s: &State, p: Seen) -> Step
     requires { IsSeenOf s.now p }
-    ensures is { step_in s.now result ≡ tell (so_far s.now) (pointing_rule (part_in s.now p)) }
+    ensures is { step_in s.now result ≡ tell (sight s.now) (pointing_rule (part_in s.now p)) }
     ensures over { IsStepOf s.now result }
 {
     match known(s, p.mark) {
@@ -28,7 +27,7 @@ pub fn pointing(s: &State, p: Seen) -> Step
 
 pub fn slice(s: &State, p: Seen) -> Step
     requires { IsSeenOf s.now p }
-    ensures is { step_in s.now result ≡ tell (so_far s.now) (slice_rule (part_in s.now p)) }
+    ensures is { step_in s.now result ≡ tell (sight s.now) (slice_rule (part_in s.now p)) }
     ensures over { IsStepOf s.now result }
 {
     match known(s, p.mark) {
@@ -39,7 +38,7 @@ pub fn slice(s: &State, p: Seen) -> Step
 
 pub fn chan(s: &State, direction: Dir, p: Seen) -> Step
     requires { IsSeenOf s.now p }
-    ensures is { step_in s.now result ≡ tell (so_far s.now) (chan_rule direction (part_in s.now p)) }
+    ensures is { step_in s.now result ≡ tell (sight s.now) (chan_rule direction (part_in s.now p)) }
     ensures over { IsStepOf s.now result }
 {
     match known(s, p.mark) {
@@ -51,7 +50,7 @@ pub fn chan(s: &State, direction: Dir, p: Seen) -> Step
 fn map_of(s: &State, key: Facts, p: Seen) -> Step
     requires key { AreFactsOf s.now key }
     requires part { IsSeenOf s.now p }
-    ensures is { step_in s.now result ≡ tell (so_far s.now) (map_of (known_of s.now key) (part_in s.now p)) }
+    ensures is { step_in s.now result ≡ tell (sight s.now) (map_of (known_of s.now key) (part_in s.now p)) }
     ensures over { IsStepOf s.now result }
 {
     match known(s, p.mark) {
@@ -63,7 +62,7 @@ fn map_of(s: &State, key: Facts, p: Seen) -> Step
 pub fn map(s: &State, key: Seen, p: Seen) -> Step
     requires key { IsSeenOf s.now key }
     requires part { IsSeenOf s.now p }
-    ensures is { step_in s.now result ≡ tell (so_far s.now) (map_rule (part_in s.now key) (part_in s.now p)) }
+    ensures is { step_in s.now result ≡ tell (sight s.now) (map_rule (part_in s.now key) (part_in s.now p)) }
     ensures over { IsStepOf s.now result }
 {
     match known(s, key.mark) {
@@ -109,7 +108,7 @@ fn length_of(constants: &[Const], value: Option<ConstId>) -> Option<u64>
 
 fn array_of(s: &State, p: Seen, n: u64) -> Step
     requires { IsSeenOf s.now p }
-    ensures is { step_in s.now result ≡ tell (so_far s.now) (array_of (part_in s.now p) n) }
+    ensures is { step_in s.now result ≡ tell (sight s.now) (array_of (part_in s.now p) n) }
     ensures over { IsStepOf s.now result }
 {
     match known(s, p.mark) {
@@ -121,7 +120,7 @@ fn array_of(s: &State, p: Seen, n: u64) -> Step
 /// E11, then the type.
 fn sized(s: &State, size: Facts, p: Seen) -> Step
     requires part { IsSeenOf s.now p }
-    ensures is { step_in s.now result ≡ tell (so_far s.now) (sized_rule (known_of s.now size) (part_in s.now p)) }
+    ensures is { step_in s.now result ≡ tell (sight s.now) (sized_rule (known_of s.now size) (part_in s.now p)) }
     ensures over { IsStepOf s.now result }
 {
     match length_of(&s.constants, size.value) {
@@ -133,7 +132,7 @@ fn sized(s: &State, size: Facts, p: Seen) -> Step
 pub fn array(s: &State, size: Seen, p: Seen) -> Step
     requires size { IsSeenOf s.now size }
     requires part { IsSeenOf s.now p }
-    ensures is { step_in s.now result ≡ tell (so_far s.now) (array_rule (part_in s.now size) (part_in s.now p)) }
+    ensures is { step_in s.now result ≡ tell (sight s.now) (array_rule (part_in s.now size) (part_in s.now p)) }
     ensures over { IsStepOf s.now result }
 {
     match known(s, size.mark) {
@@ -145,7 +144,7 @@ pub fn array(s: &State, size: Seen, p: Seen) -> Step
 /// The type that is written for a parameter or a field.
 pub fn same(s: &State, p: Seen) -> Step
     requires { IsSeenOf s.now p }
-    ensures is { step_in s.now result ≡ tell (so_far s.now) (same_rule (part_in s.now p)) }
+    ensures is { step_in s.now result ≡ tell (sight s.now) (same_rule (part_in s.now p)) }
     ensures over { IsStepOf s.now result }
 {
     match known(s, p.mark) {

@@ -21,10 +21,10 @@ use Rattle.typed_marks.specs.declared.mark.Want.{Want}
 use Rattle.typed_marks.specs.declared.mark.Want.TheVariants as w
 use Rattle.typed_marks.specs.declared.mark.Mark.{Mark}
 use Rattle.typed_marks.specs.declared.mark.Mark.TheVariants as m
-use Rattle.typed_marks.specs.Items.{is_item, number_of}
+use Rattle.typed_marks.specs.Items.{is_item, is_nowhere, number_of}
 use Rattle.typed_marks.specs.Meanings.{Meaning, Known, Right, Wishes, Takes, Fits, Assigned, constant_at, known_in, wish_in, declaration_of, declared, mark_in, AreWithin, IsValueWithin, IsWantWithin, IsDeclared, IsMarkIn}
 use Rattle.typed_marks.specs.Cells.{cell}
-use Rattle.typed_marks.specs.States.{kept, said_over}
+use Rattle.typed_marks.specs.States.{kept, left_out, said_over}
 
 -- what is declared is declared so
 abbrev pub Grows : Declarations → Declarations → Type 0
@@ -112,9 +112,13 @@ module _ (old new : TypeTable) (constants more : List Const) (has : HasMore old 
       is_item_of : Item → Bool
       is_item_of i = is_item blocks i
 
-      by : (b : Bool) → is_item_of i ≡ b → (if b then cell cells (number_of blocks i) else Some m.Silent) ≡ Some mark → IsMarkIn old constants mark
+      out : (b : Bool) → (if b then None else Some m.Silent) ≡ Some mark → IsMarkIn old constants mark
+      out true e = absurd cc
+      out false e = let same : m.Silent ≡ mark = cc in subst (IsMarkIn old constants) same tt
+
+      by : (b : Bool) → is_item_of i ≡ b → (if b then cell cells (number_of blocks i) else left_out blocks i) ≡ Some mark → IsMarkIn old constants mark
       by true at e = over (number_of blocks i) mark e
-      by false at e = let same : m.Silent ≡ mark = cc in subst (IsMarkIn old constants) same tt
+      by false at e = out (is_nowhere blocks i) e
 
     pub said_same : (i : Item) → said_over new more blocks cells i ≡ said_over old constants blocks cells i
     said_same i = said (kept blocks cells i) (kept_over i)

@@ -1,5 +1,5 @@
 -- Items by number.
-use Rattle.std.specs.Prelude.{◌≡◌, ◌<◌, ◌≤◌, ◌+◌, ◌*◌, ◌-◌, ℕ, ◌&&◌, Bool, true, false, nat_le, nat_lt, List, Option, Some, None, slice_get}
+use Rattle.std.specs.Prelude.{◌≡◌, ◌<◌, ◌≤◌, ◌+◌, ◌*◌, ◌-◌, ◌==◌, ℕ, ◌&&◌, Bool, true, false, nat_le, nat_lt, length, List, Option, Some, None, slice_get}
 use Rattle.std.specs.Option.{option_map_or}
 use Rattle.typed_marks.specs.declared.item.Stage.{Stage}
 use Rattle.typed_marks.specs.declared.item.Stage.TheVariants as s
@@ -31,6 +31,21 @@ number_in stage n b = b.start + 6 * (n - b.low) + stage_number stage
 
 abbrev pub number_of : List Block → Item → ℕ
 number_of blocks i = option_map_or (number_in i.stage i.node) (slice_get blocks i.block) 0
+
+-- behind the last block: it is no item, and never marked, so that what waits for it waits for ever
+abbrev pub nowhere : List Block → Item
+nowhere blocks = record { stage = s.Under; block = length blocks; node = 0 }
+
+abbrev pub is_under : Stage → Bool
+is_under s.Before = false
+is_under s.Wanted = false
+is_under s.Judged = false
+is_under s.Placed = false
+is_under s.Object = false
+is_under s.Under = true
+
+abbrev pub is_nowhere : List Block → Item → Bool
+is_nowhere blocks i = is_under i.stage && (i.block == length blocks && i.node == 0)
 
 -- the items of blocks have the numbers below the count, each its own
 pub record AreBlocks (blocks : List Block) (count : ℕ) : Type 0 where

@@ -12,12 +12,16 @@ use Rattle.typed_marks.specs.declared.mark.Mark.{Mark}
 use Rattle.typed_marks.specs.declared.mark.Mark.TheVariants.{Silent}
 use Rattle.typed_marks.specs.declared.state.State.{State}
 use Rattle.typed_marks.specs.Cells.{cell}
-use Rattle.typed_marks.specs.Items.{is_item, number_of, AreBlocks}
+use Rattle.typed_marks.specs.Items.{is_item, is_nowhere, number_of, AreBlocks}
 use Rattle.typed_marks.specs.Meanings.{Meaning, mark_in, IsMarkIn}
 
--- the mark that is kept of an item; nothing is said of what is none
+-- nothing is said of what is no item; but what is nowhere has no mark
+abbrev pub left_out : List Block → Item → Option Mark
+left_out blocks i = if is_nowhere blocks i then None else Some Silent
+
+-- the mark that is kept of an item
 abbrev pub kept : List Block → List (Option Mark) → Item → Option Mark
-kept blocks cells i = if is_item blocks i then cell cells (number_of blocks i) else Some Silent
+kept blocks cells i = if is_item blocks i then cell cells (number_of blocks i) else left_out blocks i
 
 -- what the marks so far say over tables
 abbrev pub said_over : TypeTable → List Const → List Block → List (Option Mark) → Item → Option Meaning

@@ -1,5 +1,5 @@
 //! Cells with marks. Most marks are met again and again and stand once: a cell has the number of its mark.
-ghost use Rattle.std.specs.Prelude.{◌≡◌, ◌<◌, ◌+◌, Some, [], IfOk, OnOk, IsTrue, MatchResult, is_some, length, nat_lt, set, slice_get};
+ghost use Rattle.std.specs.Prelude.{◌≡◌, ◌<◌, ◌+◌, ◌^◌, Some, [], IfOk, OnOk, IsTrue, MatchResult, is_some, length, nat_lt, set, slice_get};
 ghost use Rattle.typed_marks.specs.Cells.{cell, filled, AllNone, AreNumbered, Holds};
 
 use crate::mark::Mark;
@@ -109,6 +109,14 @@ pub struct Cells {
     numbers: Vec<u32>,
 }
 
+/// How many numbers there are: a list that stands in memory is shorter than 2^63.
+fn count_of(numbers: &[u32]) -> usize
+    ensures count { result ≡ length numbers.now }
+    ensures small { result + 1 < 2 ^ 64 }
+{
+    numbers.len()
+}
+
 impl Model for Cells {
     ghost use Rattle.typed_marks.specs.Cells.{Filled, filled, AreNumbered};
 
@@ -134,11 +142,12 @@ impl Cells {
         })
     }
 
-    /// How many cells there are.
+    /// How many cells there are; these and one more can be counted.
     pub fn len(&self) -> usize
-        ensures { result ≡ length self.now.items }
+        ensures count { result ≡ length self.now.items }
+        ensures small { result + 1 < 2 ^ 64 }
     {
-        self.numbers.len()
+        count_of(&self.numbers)
     }
 
     /// So many cells more, without marks; what can't be counted is answered as want of memory.

@@ -11,5 +11,5 @@ mod state;
 pub use cells::Cells;
 pub use item::{Block, Item, Span, Stage};
 pub use mark::{ConstId, Facts, Mark, Want};
-pub use numbers::{is_item, number_of};
+pub use numbers::{is_item, is_nowhere, nowhere, number_of};
 pub use state::State;

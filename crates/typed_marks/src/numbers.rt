@@ -1,6 +1,6 @@
 //! Items by number.
 ghost use Rattle.std.specs.Prelude.{◌≡◌, ◌<◌, ◌≤◌, ◌+◌, ◌-◌, ◌*◌, true, slice_get, length};
-ghost use Rattle.typed_marks.specs.Items.{is_in, is_item, IsItem, stage_number, number_in, number_of, AreBlocks};
+ghost use Rattle.typed_marks.specs.Items.{is_in, is_item, is_nowhere, is_under, nowhere, IsItem, stage_number, number_in, number_of, AreBlocks};
 
 use crate::item::{Block, Item, Stage};
 
@@ -24,6 +24,37 @@ pub fn is_item(blocks: &[Block], item: Item) -> bool
         Some(block) => is_in(item.node, block),
         None => false,
     }
+}
+
+/// What is never marked: what waits for it waits for ever. It is no item.
+pub fn nowhere(blocks: &[Block]) -> Item
+    ensures { result ≡ nowhere blocks.now }
+{
+    Item {
+        stage: Stage::Under,
+        block: blocks.len(),
+        node: 0,
+    }
+}
+
+fn is_under(stage: Stage) -> bool
+    ensures { result ≡ is_under stage }
+{
+    match stage {
+        Stage::Before => false,
+        Stage::Wanted => false,
+        Stage::Judged => false,
+        Stage::Placed => false,
+        Stage::Object => false,
+        Stage::Under => true,
+    }
+}
+
+/// Whether that is never marked.
+pub fn is_nowhere(blocks: &[Block], item: Item) -> bool
+    ensures { result ≡ is_nowhere blocks.now item }
+{
+    is_under(item.stage) && (item.block == blocks.len() && item.node == 0)
 }
 
 fn stage_number(stage: Stage) -> usize

@@ -17,7 +17,7 @@ ghost use Rattle.typed_marks.specs.States.{kept, so_far, IsState, block_of, laid
 use crate::cells::Cells;
 use crate::item::{Block, Item, Span};
 use crate::mark::{ConstId, Mark};
-use crate::numbers::{is_item, number_of};
+use crate::numbers::{is_item, is_nowhere, number_of};
 use gv_base::{Const, NoMemory};
 use std::alloc::Global;
 use type_model::{Added, Method, Term, TypeId, TypeName, TypeTable};
@@ -108,6 +108,8 @@ impl State {
         if is_item(&self.blocks, item) {
             self.cells
                 .get(number_of(&self.blocks, item, self.cells.len()))
+        } else if is_nowhere(&self.blocks, item) {
+            None
         } else {
             Some(Mark::Silent)
         }
@@ -121,7 +123,7 @@ impl State {
             self.cells
                 .has(number_of(&self.blocks, item, self.cells.len()))
         } else {
-            true
+            !is_nowhere(&self.blocks, item)
         }
     }
 

@@ -21,7 +21,7 @@ use Rattle.unit_read.specs.declared.subject.Subject.{Subject}
 use Rattle.unit_read.specs.Environments.{interface_paths, names_of, object_in, faces_in, IsEnvironment}
 use Rattle.unit_read.specs.Exports.{mark_in, use_in, uses_in, IsUseIn, object_at, object_by, object_from, object_of}
 use Rattle.unit_read.specs.Imports.{paths_of, object_name, out_mark, plain_mark, exported_in, exported_by, exported_of, lead_at}
-use Rattle.unit_read.specs.Subjects.{unit_of, IsRead}
+use Rattle.unit_read.specs.Subjects.{full_of, IsRead}
 
 all_at : {X : Type 0} (P : X → Type 0) (xs : List X) (k : ℕ) (x : X) → All P xs → slice_get xs k ≡ Some x → P x
 all_at P xs k x all at = subst P (get_or_from_slice_get xs k x x at) (all k x (slice_get_within xs k x at))
@@ -110,11 +110,11 @@ module _ (types : List GoType) (n : ℕ) where
 
 -- what the package that an object is has for a name
 module _ (s : Subject) (read : IsRead s) (name : List ℕ) where
-  pub uses_are : (object : Option Object) → uses_in (types_of s.env.now.types.now) (object_of s name object) ≡ exported_of (unit_of s) name object
+  pub uses_are : (object : Option Object) → uses_in (types_of s.env.now.types.now) (object_of s name object) ≡ exported_of (full_of s) name object
   unfolding faces_in
   uses_are None = refl
   uses_are (Some (o.Import at)) =
-      sym (led (types_of s.env.now.types.now) (length s.env.now.types.now) s.env.now.interfaces.now read.env.within name (lead_at (unit_of s) at))
+      sym (led (types_of s.env.now.types.now) (length s.env.now.types.now) s.env.now.interfaces.now read.env.within name (lead_at (full_of s) at))
   uses_are (Some (o.Universe i)) = refl
   uses_are (Some (o.Local at)) = refl
   uses_are (Some (o.Package at)) = refl
@@ -122,7 +122,7 @@ module _ (s : Subject) (read : IsRead s) (name : List ℕ) where
   pub uses_within : (object : Option Object) → IfSome (object_of s name object) (IsUseIn (length s.env.now.types.now))
   uses_within None = tt
   uses_within (Some (o.Import at)) =
-      within_lead (types_of s.env.now.types.now) (length s.env.now.types.now) s.env.now.interfaces.now read.env.within name (lead_at (unit_of s) at)
+      within_lead (types_of s.env.now.types.now) (length s.env.now.types.now) s.env.now.interfaces.now read.env.within name (lead_at (full_of s) at)
   uses_within (Some (o.Universe i)) = tt
   uses_within (Some (o.Local at)) = tt
   uses_within (Some (o.Package at)) = tt

@@ -1,3 +1,4 @@
+pub mod BareLemmas
 pub mod CellLemmas
 pub mod EntryLemmas
 pub mod EnvironmentLemmas

@@ -17,7 +17,7 @@ use Rattle.unit_read.specs.declared.lead.Lead.{Lead}
 use Rattle.unit_read.specs.declared.subject.Subject.{Subject}
 use Rattle.unit_read.specs.Environments.{names_of, object_in}
 use Rattle.unit_read.specs.Imports.{meaning_by, lead_at, plain_mark}
-use Rattle.unit_read.specs.Subjects.{unit_of}
+use Rattle.unit_read.specs.Subjects.{full_of}
 
 -- the place of the object of a name
 abbrev pub member_of : List ℕ → Interface → Option ℕ
@@ -59,5 +59,5 @@ object_from interfaces name lead = option_and_then (λ (l : Lead). object_by int
 
 -- the object that the package has to which a use leads
 abbrev pub object_of : Subject → List ℕ → Option Object → Option Exported
-object_of s name (Some (o.Import at)) = object_from s.env.now.interfaces.now name (lead_at (unit_of s) at)
+object_of s name (Some (o.Import at)) = object_from s.env.now.interfaces.now name (lead_at (full_of s) at)
 object_of s name _ = None

@@ -8,7 +8,7 @@ use Rattle.object_order.specs.Views.{group_in}
 use Rattle.unit_read.specs.declared.subject.Subject.{Subject}
 use Rattle.unit_read.specs.Entries.{entry}
 use Rattle.unit_read.specs.Environments.{IsEnvironment, faces_in}
-use Rattle.unit_read.specs.Imports.{lead_at}
+use Rattle.unit_read.specs.Imports.{lead_at, bare}
 use Rattle.unit_read.specs.Index.{texts_of, found}
 use Rattle.unit_read.specs.Passages.{passages}
 use Rattle.unit_read.specs.Texts.{AreTexts}
@@ -24,9 +24,13 @@ cell {X} rows at = option_and_then (λ (row : Vec (Option X)). option_and_then (
 abbrev pub flag : List (Vec Bool) → NodeRef → Bool
 flag rows at = option_map_or (λ (row : Vec Bool). slice_index_or row.items at.node false) (slice_get rows at.file) false
 
--- the package of a subject
+-- the package of a subject, over its whole environment
+abbrev pub full_of : Subject → Unit
+full_of s = record { path = s.path.now; texts = texts_of s.texts.now; trees = s.trees.now; uses = s.uses.now; env = faces_in s.env.now; redeclared = flag s.redeclared.items; cyclic = flag s.cyclic.items; circular = flag s.circular.items; owner = cell s.owners.items }
+
+-- the package as its rules read it
 abbrev pub unit_of : Subject → Unit
-unit_of s = record { path = s.path.now; texts = texts_of s.texts.now; trees = s.trees.now; uses = s.uses.now; env = faces_in s.env.now; redeclared = flag s.redeclared.items; cyclic = flag s.cyclic.items; circular = flag s.circular.items; owner = cell s.owners.items }
+unit_of s = bare (full_of s)
 
 -- the name of a defined type of a package that is declared at package level
 abbrev pub top_name : Unit → List ℕ → TypeName
@@ -47,7 +51,7 @@ pub record IsRead (s : Subject) : Type 0 where
   pub places : (at : NodeRef) → cell s.places.items at ≡ place_at (unit_of s) at
   pub specs : (at : NodeRef) → entry s.specs.items at ≡ spec_at (unit_of s) at
   pub env : IsEnvironment s.env.now
-  pub leads : (at : NodeRef) → entry s.leads.items at ≡ lead_at (unit_of s) at
+  pub leads : (at : NodeRef) → entry s.leads.items at ≡ lead_at (full_of s) at
   pub types : s.defined.items ≡ defined (unit_of s)
   pub locals : (k : ℕ) (at : NodeRef) → slice_get (defined (unit_of s)) k ≡ Some at → entry s.locals.items at ≡ Some (type_name (unit_of s) at).local
   pub inside : (at : NodeRef) → entry s.locals.items at ≡ option_map (λ (n : TypeName). n.local) (type_name_at (unit_of s) at)

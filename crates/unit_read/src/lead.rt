@@ -6,6 +6,6 @@ use typed_tree::Limit;
 pub struct Lead {
     /// The limit outside which it lies.
     pub limit: Option<Limit>,
-    /// The number of the interface that has its path.
+    /// The number of the interface that has its path, unless it lies outside a limit.
     pub interface: Option<usize>,
 }

@@ -3,7 +3,7 @@ ghost use Rattle.std.specs.Prelude.{◌≡◌, [], IfOk, length, slice_index_or,
 ghost use Rattle.std.specs.Option.{option_copied};
 ghost use Rattle.go_tree.specs.ImportPaths.{are_segments};
 ghost use Rattle.unit_read.specs.Environments.{IsEnvironment, faces_in};
-ghost use Rattle.unit_read.specs.Imports.{is_import, dot_limit, path_limit, lead_by};
+ghost use Rattle.unit_read.specs.Imports.{is_import, dot_limit, path_limit, place_within, lead_by};
 ghost use Rattle.unit_read.specs.Index.{texts_of};
 ghost use Rattle.unit_read.specs.Rows.{IsRow, AreRows, token_bytes, lead_in, lead_for, leads_in};
 
@@ -55,6 +55,17 @@ fn segments_of(value: &[u8]) -> &[u8]
     if are_segments(value) { value } else { &[] }
 }
 
+/// The number of the interface that has the path of an import, unless that lies outside a limit.
+fn place_within(limit: Option<Limit>, env: &Environment, path: &[u8]) -> Option<usize>
+    requires { IsEnvironment env.now }
+    ensures { result ≡ place_within limit (faces_in env.now) path.now }
+{
+    match limit {
+        Some(_) => None,
+        None => find(&env.paths, path),
+    }
+}
+
 /// What an import of a literal leads to.
 fn lead_by(
     alloc: Global,
@@ -66,9 +77,10 @@ fn lead_by(
     ensures { IfOk result (λ lead. lead ≡ lead_by (faces_in env.now) literal.now kind) }
 {
     let value = text_value(alloc, literal)?;
+    let limit = path_limit(&value, kind);
     Ok(Lead {
-        limit: path_limit(&value, kind),
-        interface: find(&env.paths, segments_of(&value)),
+        limit,
+        interface: place_within(limit, env, segments_of(&value)),
     })
 }
 

@@ -9,7 +9,7 @@ ghost use Rattle.unit_read.specs.Entries.{entry};
 ghost use Rattle.unit_read.specs.Imports.{lead_at};
 ghost use Rattle.unit_read.specs.Members.{is_repeat};
 ghost use Rattle.unit_read.specs.Methods.{methods_of, is_repeated_method};
-ghost use Rattle.unit_read.specs.Subjects.{cell, flag, unit_of, IsRead};
+ghost use Rattle.unit_read.specs.Subjects.{cell, flag, full_of, unit_of, IsRead};
 
 use crate::entries::Entries;
 use crate::environment::Environment;
@@ -204,7 +204,7 @@ impl<'a> Subject<'a> {
     /// What an import leads to.
     pub fn lead_at(&self, at: NodeRef) -> Option<Lead>
         requires { IsRead self.now }
-        ensures { result ≡ lead_at (unit_of self.now) at }
+        ensures { result ≡ lead_at (full_of self.now) at }
     {
         entry(&self.leads, at)
     }

@@ -3,7 +3,7 @@ ghost use Rattle.std.specs.Prelude.{◌≡◌, ◌≤◌, ◌^◌, IfOk, length}
 ghost use Rattle.go_tree.specs.Bindings.{AreInOrder};
 ghost use Rattle.unit_read.specs.Environments.{IsEnvironment, faces_in};
 ghost use Rattle.unit_read.specs.Index.{texts_of};
-ghost use Rattle.unit_read.specs.Subjects.{unit_of, IsRead};
+ghost use Rattle.unit_read.specs.Subjects.{full_of, IsRead};
 ghost use Rattle.unit_read.specs.Texts.{AreTexts};
 ghost use Rattle.unit_rows.specs.Drafts.{package_unit, with_flags, with_owners};
 ghost use Rattle.package_objects.specs.Declares.{AreSmall};
@@ -44,7 +44,7 @@ pub fn read_unit<'a>(
     requires env { IsEnvironment env.now }
     requires texts { AreTexts path.now (texts_of texts.now) trees.now }
     ensures read { IfOk result (λ s. IsRead s) }
-    ensures of { IfOk result (λ s. unit_of s ≡ package_unit path.now (texts_of texts.now) trees.now uses.now (faces_in env.now) redeclared.items cyclic.items circular.items owners.items) }
+    ensures of { IfOk result (λ s. full_of s ≡ package_unit path.now (texts_of texts.now) trees.now uses.now (faces_in env.now) redeclared.items cyclic.items circular.items owners.items) }
     ensures env { IfOk result (λ s. s.env.now ≡ env.now) }
 {
     let passages = passages(alloc, trees)?;
@@ -102,7 +102,7 @@ pub fn with_flags<'a>(
 ) -> Subject<'a>
     requires { IsRead s }
     ensures read { IsRead result }
-    ensures of { unit_of result ≡ with_flags (unit_of s.entry) redeclared.items cyclic.items circular.items }
+    ensures of { full_of result ≡ with_flags (full_of s.entry) redeclared.items cyclic.items circular.items }
     ensures env { result.env.now ≡ s.entry.env.now }
 {
     let mut s = s;
@@ -122,7 +122,7 @@ pub fn with_owners<'a>(
     requires small { AreSmall s.trees.now }
     requires few { length s.trees.now ≤ 2 ^ 32 }
     ensures read { IfOk result (λ r. IsRead r) }
-    ensures of { IfOk result (λ r. unit_of r ≡ with_owners (unit_of s.entry) owners.items) }
+    ensures of { IfOk result (λ r. full_of r ≡ with_owners (full_of s.entry) owners.items) }
     ensures env { IfOk result (λ r. r.env.now ≡ s.entry.env.now) }
 {
     let mut s = s;

@@ -2,10 +2,9 @@
 ghost use Rattle.std.specs.Prelude.{◌≡◌};
 ghost use Rattle.mark_walk.specs.Telling.{tell, Says};
 ghost use Rattle.typed_tree.specs.Basics.{HasBasics};
-ghost use Rattle.typed_marks.specs.States.{so_far};
 ghost use Rattle.unit_read.specs.Subjects.{unit_of};
 ghost use Rattle.rule_words.specs.Good.{known_of, AreFactsOf};
-ghost use Rattle.rule_words.specs.Scenes.{IsScene, said, IsMarkOf};
+ghost use Rattle.rule_words.specs.Scenes.{sight, IsScene, said, IsMarkOf};
 ghost use Rattle.rule_words.specs.Steps.{step_in, IsStepOf};
 ghost use Rattle.rule_words.specs.Words.{nothing as nothing_said};
 ghost use Rattle.variable_rules.specs.Counts.{shared_mark, shared_told, shared_rule, equal_mark, counted_rule};
@@ -51,7 +50,7 @@ fn shared_mark(s: &State, count: usize, x: Facts) -> Step
 fn shared_told(s: &State, count: usize, m: Mark) -> Step
     requires basics { HasBasics s.now.table }
     requires mark { IsMarkOf s.now m }
-    ensures is { step_in s.now result ≡ tell (so_far s.now) (shared_told count (said s.now m)) }
+    ensures is { step_in s.now result ≡ tell (sight s.now) (shared_told count (said s.now m)) }
     ensures over { IsStepOf s.now result }
 {
     match known(s, m) {
@@ -62,7 +61,7 @@ fn shared_told(s: &State, count: usize, m: Mark) -> Step
 
 fn shared(u: &Subject, s: &State, block: usize, count: usize, n: u32) -> Step
     requires { IsScene u.now s.now }
-    ensures is { step_in s.now result ≡ tell (so_far s.now) (shared_rule (unit_of u.now) block count n) }
+    ensures is { step_in s.now result ≡ tell (sight s.now) (shared_rule (unit_of u.now) block count n) }
     ensures over { IsStepOf s.now result }
 {
     match look(u, s, Stage::Placed, block, n) {
@@ -94,7 +93,7 @@ pub fn counted(
     node: &Node,
 ) -> Step
     requires { IsScene u.now s.now }
-    ensures is { step_in s.now result ≡ tell (so_far s.now) (counted_rule (unit_of u.now) block file nodes.now slot node.now) }
+    ensures is { step_in s.now result ≡ tell (sight s.now) (counted_rule (unit_of u.now) block file nodes.now slot node.now) }
     ensures over { IsStepOf s.now result }
 {
     let names = name_count(nodes, node);

@@ -2,10 +2,9 @@
 ghost use Rattle.std.specs.Prelude.{◌≡◌};
 ghost use Rattle.mark_walk.specs.Telling.{tell, Says};
 ghost use Rattle.typed_tree.specs.Basics.{HasBasics};
-ghost use Rattle.typed_marks.specs.States.{so_far};
 ghost use Rattle.unit_read.specs.Subjects.{unit_of};
 ghost use Rattle.rule_words.specs.Good.{known_of, AreFactsOf};
-ghost use Rattle.rule_words.specs.Scenes.{IsScene, said, IsMarkOf, type_in, IsTypeOf};
+ghost use Rattle.rule_words.specs.Scenes.{sight, IsScene, said, IsMarkOf, type_in, IsTypeOf};
 ghost use Rattle.rule_words.specs.Steps.{step_in, IsStepOf};
 ghost use Rattle.variable_rules.specs.Objects.{variable, typed_told, typed_object, valued_told, valued_object, shared_of, shared_told, shared_object, own_value, by_own, by_value, untyped_object, variable_object};
 
@@ -40,7 +39,7 @@ fn variable(s: &State, of: TypeId) -> Step
 
 fn typed_told(s: &State, m: Mark) -> Step
     requires { IsMarkOf s.now m }
-    ensures is { step_in s.now result ≡ tell (so_far s.now) (typed_told (said s.now m)) }
+    ensures is { step_in s.now result ≡ tell (sight s.now) (typed_told (said s.now m)) }
     ensures over { IsStepOf s.now result }
 {
     match known(s, m) {
@@ -51,7 +50,7 @@ fn typed_told(s: &State, m: Mark) -> Step
 
 fn typed(u: &Subject, s: &State, file: u32, t: u32) -> Step
     requires { IsScene u.now s.now }
-    ensures is { step_in s.now result ≡ tell (so_far s.now) (typed_object (unit_of u.now) file t) }
+    ensures is { step_in s.now result ≡ tell (sight s.now) (typed_object (unit_of u.now) file t) }
     ensures over { IsStepOf s.now result }
 {
     match look(u, s, Stage::Placed, file as usize, t) {
@@ -64,7 +63,7 @@ fn typed(u: &Subject, s: &State, file: u32, t: u32) -> Step
 
 fn valued_told(s: &State, m: Mark) -> Step
     requires { IsMarkOf s.now m }
-    ensures is { step_in s.now result ≡ tell (so_far s.now) (valued_told (said s.now m)) }
+    ensures is { step_in s.now result ≡ tell (sight s.now) (valued_told (said s.now m)) }
     ensures over { IsStepOf s.now result }
 {
     match known(s, m) {
@@ -75,7 +74,7 @@ fn valued_told(s: &State, m: Mark) -> Step
 
 pub fn valued(u: &Subject, s: &State, file: u32, n: u32) -> Step
     requires { IsScene u.now s.now }
-    ensures is { step_in s.now result ≡ tell (so_far s.now) (valued_object (unit_of u.now) file n) }
+    ensures is { step_in s.now result ≡ tell (sight s.now) (valued_object (unit_of u.now) file n) }
     ensures over { IsStepOf s.now result }
 {
     match look(u, s, Stage::Placed, file as usize, n) {
@@ -101,7 +100,7 @@ fn shared_of(s: &State, count: usize, i: usize, x: Facts) -> Step
 fn shared_told(s: &State, count: usize, i: usize, m: Mark) -> Step
     requires basics { HasBasics s.now.table }
     requires mark { IsMarkOf s.now m }
-    ensures is { step_in s.now result ≡ tell (so_far s.now) (shared_told count i (said s.now m)) }
+    ensures is { step_in s.now result ≡ tell (sight s.now) (shared_told count i (said s.now m)) }
     ensures over { IsStepOf s.now result }
 {
     match known(s, m) {
@@ -112,7 +111,7 @@ fn shared_told(s: &State, count: usize, i: usize, m: Mark) -> Step
 
 fn shared(u: &Subject, s: &State, file: u32, count: usize, i: usize, n: u32) -> Step
     requires { IsScene u.now s.now }
-    ensures is { step_in s.now result ≡ tell (so_far s.now) (shared_object (unit_of u.now) file count i n) }
+    ensures is { step_in s.now result ≡ tell (sight s.now) (shared_object (unit_of u.now) file count i n) }
     ensures over { IsStepOf s.now result }
 {
     match look(u, s, Stage::Placed, file as usize, n) {
@@ -143,7 +142,7 @@ fn by_own(
     i: usize,
 ) -> Step
     requires { IsScene u.now s.now }
-    ensures is { step_in s.now result ≡ tell (so_far s.now) (by_own (unit_of u.now) file nodes.now slot node.now i) }
+    ensures is { step_in s.now result ≡ tell (sight s.now) (by_own (unit_of u.now) file nodes.now slot node.now i) }
     ensures over { IsStepOf s.now result }
 {
     match own_value(nodes, slot, node, i) {
@@ -162,7 +161,7 @@ pub fn by_value(
     slot: usize,
 ) -> Step
     requires { IsScene u.now s.now }
-    ensures is { step_in s.now result ≡ tell (so_far s.now) (by_value (unit_of u.now) file nodes.now node.now i slot) }
+    ensures is { step_in s.now result ≡ tell (sight s.now) (by_value (unit_of u.now) file nodes.now node.now i slot) }
     ensures over { IsStepOf s.now result }
 {
     let count = name_count(nodes, node);
@@ -174,7 +173,7 @@ pub fn by_value(
 
 fn untyped(u: &Subject, s: &State, file: u32, nodes: &[Node], node: &Node, i: usize) -> Step
     requires { IsScene u.now s.now }
-    ensures is { step_in s.now result ≡ tell (so_far s.now) (untyped_object (unit_of u.now) file nodes.now node.now i) }
+    ensures is { step_in s.now result ≡ tell (sight s.now) (untyped_object (unit_of u.now) file nodes.now node.now i) }
     ensures over { IsStepOf s.now result }
 {
     match value_slot(node.kind) {
@@ -186,7 +185,7 @@ fn untyped(u: &Subject, s: &State, file: u32, nodes: &[Node], node: &Node, i: us
 /// How far the rule goes of the object of the name at a place of a specification of variables with values.
 pub fn judge_variable_object(u: &Subject, s: &State, file: u32, node: &Node, i: usize) -> Step
     requires { IsScene u.now s.now }
-    ensures is { step_in s.now result ≡ tell (so_far s.now) (variable_object (unit_of u.now) file node.now i) }
+    ensures is { step_in s.now result ≡ tell (sight s.now) (variable_object (unit_of u.now) file node.now i) }
     ensures over { IsStepOf s.now result }
 {
     match type_of(node) {

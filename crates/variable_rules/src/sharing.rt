@@ -61,7 +61,8 @@ pub fn is_shared(u: &Subject, block: usize, p: Place, around: &Node) -> bool
 // ---- E32
 
 fn shared_if(u: &Subject, s: &State, x: Facts, holds: bool) -> Step
-    requires { AreFactsOf s.now x }
+    requires scene { IsScene u.now s.now }
+    requires facts { AreFactsOf s.now x }
     ensures comes { ComesTo u.now s.now (shared_if (known_of s.now x) holds) result }
     ensures over { IsStepOf s.now result }
 {
@@ -75,7 +76,8 @@ fn shared_if(u: &Subject, s: &State, x: Facts, holds: bool) -> Step
 }
 
 fn all_told(u: &Subject, s: &State, x: Facts, told: Reached<bool>) -> Step
-    requires { AreFactsOf s.now x }
+    requires scene { IsScene u.now s.now }
+    requires facts { AreFactsOf s.now x }
     ensures comes { ComesTo u.now s.now (all_told (known_of s.now x) told) result }
     ensures over { IsStepOf s.now result }
 {

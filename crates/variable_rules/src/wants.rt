@@ -3,10 +3,9 @@ ghost use Rattle.std.specs.Prelude.{◌≡◌};
 ghost use Rattle.mark_walk.specs.Telling.{tell};
 ghost use Rattle.type_model.specs.Tables.{types_in, count};
 ghost use Rattle.typed_marks.specs.Meanings.{wish_in, IsWantWithin};
-ghost use Rattle.typed_marks.specs.States.{so_far};
 ghost use Rattle.unit_read.specs.Subjects.{unit_of, IsRead};
 ghost use Rattle.rule_words.specs.Good.{known_of, AreFactsOf};
-ghost use Rattle.rule_words.specs.Scenes.{IsScene, told_by, IfFound, said, IsMarkOf};
+ghost use Rattle.rule_words.specs.Scenes.{sight, IsScene, told_by, IfFound, said, IsMarkOf};
 ghost use Rattle.variable_rules.specs.Wants.{value_demand, demand_in, type_wish, wish_told, typed_told, typed_want, type_of, value_want, slot_want, is_at, other_demand, want_by, variable_wants};
 
 use crate::forms::{shared_value, type_slot, value_slot};
@@ -64,7 +63,7 @@ fn wish_told(s: &State, m: Mark) -> Want
 
 fn typed_want(u: &Subject, s: &State, block: usize, demand: Demand, t: u32) -> Found<Mark, Item>
     requires { IsScene u.now s.now }
-    ensures is { told_by (said s.now) result ≡ tell (so_far s.now) (typed_want (unit_of u.now) block demand t) }
+    ensures is { told_by (said s.now) result ≡ tell (sight s.now) (typed_want (unit_of u.now) block demand t) }
     ensures over { IfFound result (IsMarkOf s.now) }
 {
     match look(u, s, Stage::Placed, block, t) {
@@ -91,7 +90,7 @@ fn value_want(
     demand: Demand,
 ) -> Found<Mark, Item>
     requires { IsScene u.now s.now }
-    ensures is { told_by (said s.now) result ≡ tell (so_far s.now) (value_want (unit_of u.now) block around.now demand) }
+    ensures is { told_by (said s.now) result ≡ tell (sight s.now) (value_want (unit_of u.now) block around.now demand) }
     ensures over { IfFound result (IsMarkOf s.now) }
 {
     match type_of(around) {
@@ -102,7 +101,7 @@ fn value_want(
 
 fn slot_want(u: &Subject, s: &State, block: usize, around: &Node, slot: usize) -> Found<Mark, Item>
     requires { IsScene u.now s.now }
-    ensures is { told_by (said s.now) result ≡ tell (so_far s.now) (slot_want (unit_of u.now) block around.now slot) }
+    ensures is { told_by (said s.now) result ≡ tell (sight s.now) (slot_want (unit_of u.now) block around.now slot) }
     ensures over { IfFound result (IsMarkOf s.now) }
 {
     value_want(u, s, block, around, demand_in(u, block, slot, around))
@@ -136,7 +135,7 @@ fn want_by(
     slot: usize,
 ) -> Found<Mark, Item>
     requires { IsScene u.now s.now }
-    ensures is { told_by (said s.now) result ≡ tell (so_far s.now) (want_by (unit_of u.now) block p around.now slot) }
+    ensures is { told_by (said s.now) result ≡ tell (sight s.now) (want_by (unit_of u.now) block p around.now slot) }
     ensures over { IfFound result (IsMarkOf s.now) }
 {
     if p.slot == slot {
@@ -155,7 +154,7 @@ pub fn want_variable(
     around: &Node,
 ) -> Found<Mark, Item>
     requires { IsScene u.now s.now }
-    ensures is { told_by (said s.now) result ≡ tell (so_far s.now) (variable_wants (unit_of u.now) block p around.now) }
+    ensures is { told_by (said s.now) result ≡ tell (sight s.now) (variable_wants (unit_of u.now) block p around.now) }
     ensures over { IfFound result (IsMarkOf s.now) }
 {
     match value_slot(around.kind) {

@@ -1,4 +1,4 @@
-use Rattle.typed_marks.specs.States.{so_far}
+use Rattle.rule_words.specs.Scenes.{sight}
 use Rattle.unit_read.specs.Subjects.{unit_of}
 use Rattle.rule_words.specs.Steps.{step_in}
 use Rattle.rule_words.specs.Good.{known_of}
@@ -11,10 +11,10 @@ pub returns-in-Is-clause-is : goal.returns-in-Is-clause-is
 returns-in-Is-clause-is c =
     let s = c.args.s.now in
     let u = unit_of c.args.u.now in
-    says_bind (so_far s) (ranging_ask u (known_of s c.args.x)) (range_held c.args.many) (ranging_in s c.in-Is.told) (step_in s c.range_held.result) c.in-Is.ensures.is c.range_held.ensures.is
+    says_bind (sight s) (ranging_ask u (known_of s c.args.x)) (range_held c.args.many) (ranging_in s c.in-Is.told) (step_in s c.range_held.result) c.in-Is.ensures.is c.range_held.ensures.is
 
 pub returns-in-Wait-clause-is : goal.returns-in-Wait-clause-is
 returns-in-Wait-clause-is c =
     let s = c.args.s.now in
     let u = unit_of c.args.u.now in
-    waits_bind (so_far s) (ranging_ask u (known_of s c.args.x)) (range_held c.args.many) c.in-Wait.item c.in-Wait.ensures.is
+    waits_bind (sight s) (ranging_ask u (known_of s c.args.x)) (range_held c.args.many) c.in-Wait.item c.in-Wait.ensures.is

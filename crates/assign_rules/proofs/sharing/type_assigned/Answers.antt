@@ -4,7 +4,7 @@ use Rattle.unit_read.specs.Subjects.{unit_of}
 use Rattle.rule_words.specs.Asking.{under_ask}
 use Rattle.rule_words.specs.Scenes.{type_in}
 use Rattle.assign_rules.specs.Sharing.{assigned_in, type_assigned}
-use Rattle.assign_rules.proofs.FoundLaws.{says_found}
+use Rattle.type_answers.proofs.ComingLaws.{says_found}
 use Rattle.assign_rules.proofs.sharing.type_assigned.Goals as goal
 
 pub returns-in_ok-found-in-Is : goal.returns-in_ok-found-in-Is
@@ -12,4 +12,4 @@ unfolding type_assigned
 returns-in_ok-found-in-Is c =
     let s = c.args.s.now in
     says_found c.args.u.now s (λ (x : Reached Bool). x) (under_ask (unit_of c.args.u.now) (type_in s c.args.to)) (assigned_in (type_in s c.args.of) (type_in s c.args.to))
-    (option_map (type_in s) c.in-Is.under) c.in_ok-found-in-Is.found c.in-Is.ensures.is c.in_ok-found-in-Is.ensures
+    (option_map (type_in s) c.in-Is.under) c.in_ok-found-in-Is.found c.requires.scene c.in-Is.ensures.is c.in_ok-found-in-Is.ensures

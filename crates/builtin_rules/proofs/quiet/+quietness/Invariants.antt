@@ -1,5 +1,5 @@
 use Rattle.std.proofs.Common.{◌+◌, ◌*◌}
-use Rattle.typed_marks.specs.States.{so_far}
+use Rattle.rule_words.specs.Scenes.{sight}
 use Rattle.unit_read.specs.Subjects.{unit_of}
 use Rattle.builtin_rules.specs.Quiet.{quiet_within}
 use Rattle.builtin_rules.proofs.QuietLemmas.{IsRest}
@@ -15,4 +15,4 @@ abbrev pub decreases-within : goal.decreases-within
 decreases-within l = 3 * l.levels
 
 abbrev pub invariant-every-loop-i : goal.invariant-every-loop-i
-invariant-every-loop-i l = IsRest (so_far l.s) (quiet_within (unit_of l.u) l.block l.file l.levels) l.parts l.i
+invariant-every-loop-i l = IsRest (sight l.s) (quiet_within (unit_of l.u) l.block l.file l.levels) l.parts l.i

@@ -1,12 +1,12 @@
 use Rattle.std.proofs.Common.{Bool, false, List, ℕ, if◌then◌else◌, sym, ap, ◌∙◌}
-use Rattle.unit_read.specs.Subjects.{unit_of}
+use Rattle.unit_read.specs.Subjects.{full_of}
 use Rattle.unit_read.specs.Units.{last_spelled}
 use Rattle.check_pkg.specs.Elsewhere.{owner_at, exports_struct}
 use Rattle.check_pkg.proofs.elsewhere.names_struct.Goals as goal
 
 pub returns-then-is_selector : goal.returns-then-is_selector
 returns-then-is_selector c =
-    let u = unit_of c.args.u.now in
+    let u = full_of c.args.u.now in
     let name = last_spelled u c.args.at.file c.args.node.now in
     c.exports_struct.ensures
     ∙ (ap (λ (n : List ℕ). exports_struct u n c.owner_at-owner.result) c.spelled.ensures

@@ -7,7 +7,7 @@ use Rattle.type_model.proofs.TypeLaws.{extends-itself}
 use Rattle.unit_read.specs.declared.environment.Environment.{Environment}
 use Rattle.unit_read.specs.Environments.{faces_in}
 use Rattle.unit_read.specs.Index.{texts_of}
-use Rattle.unit_read.specs.Subjects.{unit_of}
+use Rattle.unit_read.specs.Subjects.{full_of}
 use Rattle.body_facts.specs.Bodies.{AreBodies}
 use Rattle.check_pkg.specs.declared.judging.Outcome.{Outcome}
 use Rattle.check_pkg.specs.Checks.{HasTypes, IsOutcomeBy}
@@ -29,7 +29,7 @@ judge_unit-requires-clause-env g c =
 
 pub judge_unit-requires-clause-base : goal.judge_unit-requires-clause-base
 judge_unit-requires-clause-base g c = λ name.
-    c.requires.base name ∙ given_base (unit_of c.in_ok-subject.field-0.subject) c.args.path.now (faces_in c.args.env.now) c.in_ok-subject.ensures.of.path c.in_ok-subject.ensures.of.env name
+    c.requires.base name ∙ given_base (full_of c.in_ok-subject.field-0.subject) c.args.path.now (faces_in c.args.env.now) c.in_ok-subject.ensures.of.path c.in_ok-subject.ensures.of.env name
 
 pub returns-clause-is : goal.returns-clause-is
 returns-clause-is g c =

@@ -1,11 +1,11 @@
 use Rattle.mark_walk.specs.Asks.{filled}
 use Rattle.typed_marks.specs.Meanings.{Quiet}
 use Rattle.typed_marks.specs.States.{so_far}
-use Rattle.unit_read.specs.Subjects.{unit_of}
+use Rattle.unit_read.specs.Subjects.{full_of}
 use Rattle.check_pkg.proofs.LateLemmas.{nodes_gain}
 use Rattle.check_pkg.proofs.late_rules.refuse_by.Goals as goal
 
 pub returns : goal.returns
 returns c =
-    nodes_gain (unit_of c.args.u.now) (filled Quiet (so_far c.args.s.now)) c.args.late c.in_ok-nodes.nodes.items c.deref.result.now c.args.list.now.items c.refuse_nodes.new.list.items
+    nodes_gain (full_of c.args.u.now) (filled Quiet (so_far c.args.s.now)) c.args.late c.in_ok-nodes.nodes.items c.deref.result.now c.args.list.now.items c.refuse_nodes.new.list.items
     c.deref.ensures.value c.in_ok-nodes.ensures c.in_ok-refuse_nodes.ensures

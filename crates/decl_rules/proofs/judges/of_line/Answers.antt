@@ -1,6 +1,6 @@
 use Rattle.std.proofs.Common.{ap, ◌∙◌}
+use Rattle.rule_words.specs.Scenes.{sight}
 use Rattle.mark_walk.specs.Telling.{tell}
-use Rattle.typed_marks.specs.States.{so_far}
 use Rattle.unit_read.specs.Subjects.{unit_of}
 use Rattle.rule_words.specs.Parts.{Part}
 use Rattle.decl_rules.specs.Rules.{line_rule}
@@ -8,4 +8,4 @@ use Rattle.decl_rules.proofs.judges.of_line.Goals as goal
 
 pub returns-clause-is : goal.returns-clause-is
 returns-clause-is c =
-    c.judge_line.ensures.is ∙ ap (λ (p : Part). tell (so_far c.args.s.now) (line_rule (unit_of c.args.u.now) c.args.at p c.args.form)) c.part_at-first.ensures.is
+    c.judge_line.ensures.is ∙ ap (λ (p : Part). tell (sight c.args.s.now) (line_rule (unit_of c.args.u.now) c.args.at p c.args.form)) c.part_at-first.ensures.is

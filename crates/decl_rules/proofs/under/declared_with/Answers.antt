@@ -2,9 +2,8 @@ use Rattle.std.proofs.Common.{Bool, if◌then◌else◌, map, sym, ap, ◌∙◌
 use Rattle.mark_walk.specs.Asks.{done, bind}
 use Rattle.mark_walk.specs.Telling.{tell}
 use Rattle.typed_marks.specs.Meanings.{Quiet}
-use Rattle.typed_marks.specs.States.{so_far}
 use Rattle.unit_read.specs.Subjects.{unit_of}
-use Rattle.rule_words.specs.Scenes.{type_in}
+use Rattle.rule_words.specs.Scenes.{sight, type_in}
 use Rattle.type_rules.specs.Elements.{method_in}
 use Rattle.decl_rules.specs.Methods.{methods_ask, all_of}
 use Rattle.decl_rules.specs.Under.{with_methods}
@@ -16,13 +15,13 @@ returns-in-Some-clause-is c =
     let s = c.args.s.now in
     let under = type_in s c.args.under in
     let asked = methods_ask (unit_of c.args.u.now) under c.args.name in
-    waits_all (so_far s) asked (λ xss. with_methods under (all_of xss)) (map (method_in s) c.add_methods.new.out.items) c.in_ok-waits.waits c.in-Some.item c.in-Some.is c.in_ok-waits.ensures.gives
-    ∙ sym (ap (λ (b : Bool). tell (so_far s) (if b then done Quiet else bind asked (λ xss. with_methods under (all_of xss)))) (sym c.is_defined.ensures ∙ c.if-is_defined.false))
+    waits_all (sight s) asked (λ xss. with_methods under (all_of xss)) (map (method_in s) c.add_methods.new.out.items) c.in_ok-waits.waits c.in-Some.item c.in-Some.is c.in_ok-waits.ensures.gives
+    ∙ sym (ap (λ (b : Bool). tell (sight s) (if b then done Quiet else bind asked (λ xss. with_methods under (all_of xss)))) (sym c.is_defined.ensures ∙ c.if-is_defined.false))
 
 pub returns-in-None-clause-is : goal.returns-in-None-clause-is
 returns-in-None-clause-is c =
     let s = c.args.s.now in
     let under = type_in s c.args.under in
     let asked = methods_ask (unit_of c.args.u.now) under c.args.name in
-    told_all (so_far s) asked (with_methods under) (map (method_in s) c.add_methods.new.out.items) c.in_ok-waits.waits c.in-None.is c.in_ok-waits.ensures.gives
-    ∙ sym (ap (λ (b : Bool). tell (so_far s) (if b then done Quiet else bind asked (λ xss. with_methods under (all_of xss)))) (sym c.is_defined.ensures ∙ c.if-is_defined.false))
+    told_all (sight s) asked (with_methods under) (map (method_in s) c.add_methods.new.out.items) c.in_ok-waits.waits c.in-None.is c.in_ok-waits.ensures.gives
+    ∙ sym (ap (λ (b : Bool). tell (sight s) (if b then done Quiet else bind asked (λ xss. with_methods under (all_of xss)))) (sym c.is_defined.ensures ∙ c.if-is_defined.false))

@@ -1,7 +1,6 @@
 use Rattle.typed_marks.specs.declared.item.Stage.TheVariants as st
-use Rattle.typed_marks.specs.States.{so_far}
 use Rattle.unit_read.specs.Subjects.{unit_of}
-use Rattle.rule_words.specs.Scenes.{said}
+use Rattle.rule_words.specs.Scenes.{sight, said}
 use Rattle.rule_words.specs.Good.{known_of}
 use Rattle.decl_rules.proofs.UnderLemmas.{standing}
 use Rattle.decl_rules.proofs.under.own.Goals as goal
@@ -9,4 +8,4 @@ use Rattle.decl_rules.proofs.under.own.Goals as goal
 pub known_type-requires-clause-stands : goal.known_type-requires-clause-stands
 known_type-requires-clause-stands c =
     let s = c.args.s.now in
-    standing (unit_of c.args.u.now) (so_far s) st.Object c.args.name.file c.args.name.node (said s c.args.m) (known_of s c.in-Some.x) c.requires.told c.in-Some.ensures.is
+    standing (unit_of c.args.u.now) (sight s) st.Object c.args.name.file c.args.name.node (said s c.args.m) (known_of s c.in-Some.x) c.requires.told c.in-Some.ensures.is

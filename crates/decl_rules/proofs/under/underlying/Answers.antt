@@ -1,10 +1,9 @@
 use Rattle.std.proofs.Common.{option_map, sym, ◌∙◌}
-use Rattle.mark_walk.specs.Telling.{Says}
+use Rattle.mark_walk.specs.Telling.{Says, Waits}
 use Rattle.mark_walk.proofs.TellLaws.{told_bind}
-use Rattle.typed_marks.specs.States.{so_far}
 use Rattle.unit_read.specs.Subjects.{unit_of}
 use Rattle.rule_words.specs.Asking.{under_ask}
-use Rattle.rule_words.specs.Scenes.{type_in}
+use Rattle.rule_words.specs.Scenes.{sight, type_in}
 use Rattle.decl_rules.specs.Under.{declaring}
 use Rattle.decl_rules.proofs.under.underlying.Goals as goal
 
@@ -12,4 +11,9 @@ pub returns-in_ok-declaring-in-Is-clause-is : goal.returns-in_ok-declaring-in-Is
 returns-in_ok-declaring-in-Is-clause-is c =
     let s = c.args.s.now in
     c.in_ok-declaring-in-Is.ensures.is
-    ∙ sym (told_bind (so_far s) (under_ask (unit_of c.args.u.now) (type_in s c.args.x.of)) (λ under. declaring (unit_of c.args.u.now) c.args.name under) (Says (option_map (type_in s) c.in-Is.under)) (sym c.in-Is.ensures.is))
+    ∙ sym (told_bind (sight s) (under_ask (unit_of c.args.u.now) (type_in s c.args.x.of)) (λ under. declaring (unit_of c.args.u.now) c.args.name under) (Says (option_map (type_in s) c.in-Is.under)) (sym c.in-Is.ensures.is))
+
+pub returns-in-Wait-clause-is : goal.returns-in-Wait-clause-is
+returns-in-Wait-clause-is c =
+    let s = c.args.s.now in
+    sym (told_bind (sight s) (under_ask (unit_of c.args.u.now) (type_in s c.args.x.of)) (λ under. declaring (unit_of c.args.u.now) c.args.name under) (Waits c.in-Wait.item) (sym c.in-Wait.ensures.is))

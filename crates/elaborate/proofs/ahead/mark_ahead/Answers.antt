@@ -1,5 +1,5 @@
 use Rattle.std.proofs.Common.{refl}
-use Rattle.unit_read.specs.Subjects.{unit_of}
+use Rattle.unit_read.specs.Subjects.{full_of}
 use Rattle.elaborate.specs.Covering.{IsAnything}
 use Rattle.elaborate.proofs.WalkLemmas.{went_itself, went_then}
 use Rattle.elaborate.proofs.CoverLemmas.{rest_at, rest_from, early, ended_well}
@@ -18,7 +18,7 @@ mark_stretch-requires-clause-work g c = c.loop-i.invariant.went.work
 
 pub mark_stretch-requires-clause-rests : goal.mark_stretch-requires-clause-rests
 mark_stretch-requires-clause-rests g c =
-    rest_at (unit_of c.args.work.now.subject.now) (unit_of c.loop-i.work.subject.now) c.loop-i.work.state c.loop-i.walk c.loop-i.invariant.went.unit c.loop-i.invariant.rests
+    rest_at (full_of c.args.work.now.subject.now) (full_of c.loop-i.work.subject.now) c.loop-i.work.state c.loop-i.walk c.loop-i.invariant.went.full c.loop-i.invariant.rests
 
 pub loop-i-preserved : goal.loop-i-preserved
 loop-i-preserved g c =
@@ -29,7 +29,7 @@ loop-i-preserved g c =
     let made = c.in_ok-circle.ensures in
     record {
       went = went_then g.R.Rules.rule before.subject.now now.subject.now next.subject.now before.state now.state next.state was.went made.went;
-      rests = rest_from (unit_of before.subject.now) (unit_of now.subject.now) next.state c.mark_stretch.new.walk was.went.unit (made.ended.rests c.in_default.is);
+      rests = rest_from (full_of before.subject.now) (full_of now.subject.now) next.state c.mark_stretch.new.walk was.went.full (made.ended.rests c.in_default.is);
     }
 
 pub returns-in-Some-clause-went : goal.returns-in-Some-clause-went
@@ -41,9 +41,9 @@ returns-in-Some-clause-went g c =
 
 pub returns-in-Some-clause-ended : goal.returns-in-Some-clause-ended
 returns-in-Some-clause-ended g c =
-    early g.R.Rules.rule (unit_of c.args.work.now.subject.now) (unit_of c.loop-i.work.subject.now) c.mark_stretch.new.work.state c.mark_stretch.new.walk
-    IsAnything IsAnything c.in_ok-circle.circle c.in-Some.other c.loop-i.invariant.went.unit c.in-Some.is c.in_ok-circle.ensures.ended
+    early g.R.Rules.rule (full_of c.args.work.now.subject.now) (full_of c.loop-i.work.subject.now) c.mark_stretch.new.work.state c.mark_stretch.new.walk
+    IsAnything IsAnything c.in_ok-circle.circle c.in-Some.other c.loop-i.invariant.went.full c.in-Some.is c.in_ok-circle.ensures.ended
 
 pub returns-clause-ended : goal.returns-clause-ended
 returns-clause-ended g c =
-    ended_well g.R.Rules.rule (unit_of c.args.work.now.subject.now) c.loop-i.work.state c.loop-i.walk IsAnything c.loop-i.invariant.rests tt
+    ended_well g.R.Rules.rule (full_of c.args.work.now.subject.now) c.loop-i.work.state c.loop-i.walk IsAnything c.loop-i.invariant.rests tt

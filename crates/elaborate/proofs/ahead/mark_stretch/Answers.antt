@@ -1,6 +1,6 @@
 use Rattle.std.proofs.Common.{◌≡◌, ◌∙◌, sym, ap, slice_get, List}
 use Rattle.typed_marks.specs.declared.item.Block.{Block}
-use Rattle.unit_read.specs.Subjects.{unit_of}
+use Rattle.unit_read.specs.Subjects.{full_of}
 use Rattle.elaborate.specs.Covering.{IsAnything}
 use Rattle.elaborate.proofs.WalkLemmas.{went_itself}
 use Rattle.elaborate.proofs.CoverLemmas.{ended_well}
@@ -13,4 +13,4 @@ pub returns-in-None-clause-went : goal.returns-in-None-clause-went
 returns-in-None-clause-went g c = went_itself g.R.Rules.rule c.args.work.now.subject.now c.args.work.now.state c.requires.work
 
 pub returns-in-None-clause-ended : goal.returns-in-None-clause-ended
-returns-in-None-clause-ended g c = ended_well g.R.Rules.rule (unit_of c.args.work.now.subject.now) c.args.work.now.state c.args.walk.now IsAnything c.requires.rests tt
+returns-in-None-clause-ended g c = ended_well g.R.Rules.rule (full_of c.args.work.now.subject.now) c.args.work.now.state c.args.walk.now IsAnything c.requires.rests tt

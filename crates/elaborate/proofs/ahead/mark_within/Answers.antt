@@ -1,7 +1,7 @@
 use Rattle.std.proofs.Common.{◌≡◌, ◌∙◌, sym, ap, slice_get, List, arith}
 use Rattle.typed_marks.specs.declared.item.Block.{Block}
 use Rattle.typed_marks.specs.States.{so_far}
-use Rattle.unit_read.specs.Subjects.{unit_of}
+use Rattle.unit_read.specs.Subjects.{full_of, unit_of}
 use Rattle.elaborate.specs.Covering.{AreStagesOfNodes, IsAnything}
 use Rattle.elaborate.proofs.WalkLemmas.{ended_as}
 use Rattle.elaborate.proofs.CoverLemmas.{nodes_in, nodes_within, none_early}
@@ -18,5 +18,5 @@ mark_nodes-requires-clause-marked g c = none_early c.args.stretch.block _ _ (so_
 pub returns-clause-ended : goal.returns-clause-ended
 returns-clause-ended g c =
     let next = c.mark_nodes.new in
-    ended_as g.R.Rules.rule (unit_of c.args.work.now.subject.now) next.work.state next.walk
+    ended_as g.R.Rules.rule (full_of c.args.work.now.subject.now) next.work.state next.walk
     (AreStagesOfNodes c.args.stretch.block _ _ 4) IsAnything c.in_ok-circle.circle (λ none all. tt) c.in_ok-circle.ensures.ended

@@ -1,6 +1,6 @@
 use Rattle.std.proofs.Common.{arith}
 use Rattle.typed_marks.specs.States.{so_far}
-use Rattle.unit_read.specs.Subjects.{unit_of}
+use Rattle.unit_read.specs.Subjects.{full_of, unit_of}
 use Rattle.elaborate.specs.Covering.{AreStagesMarked, AreStagesOfNodes}
 use Rattle.elaborate.proofs.WalkLemmas.{went_itself, went_then, stages_still, staged_still}
 use Rattle.elaborate.proofs.CoverLemmas.{rest_at, rest_from, node_at, early, ended_well, next_staged, staged_to, none_staged}
@@ -30,7 +30,7 @@ mark_node-requires-clause-marked g c =
 
 pub mark_node-requires-clause-rests : goal.mark_node-requires-clause-rests
 mark_node-requires-clause-rests g c =
-    rest_at (unit_of c.args.work.now.subject.now) (unit_of c.loop-node.work.subject.now) c.loop-node.work.state c.loop-node.walk c.loop-node.invariant.went.unit c.loop-node.invariant.rests
+    rest_at (full_of c.args.work.now.subject.now) (full_of c.loop-node.work.subject.now) c.loop-node.work.state c.loop-node.walk c.loop-node.invariant.went.full c.loop-node.invariant.rests
 
 pub loop-node-preserved : goal.loop-node-preserved
 loop-node-preserved g c =
@@ -42,7 +42,7 @@ loop-node-preserved g c =
     let made = c.in_ok-circle.ensures in
     record {
       went = went_then rule before.subject.now now.subject.now next.subject.now before.state now.state next.state was.went made.went;
-      rests = rest_from (unit_of before.subject.now) (unit_of now.subject.now) next.state c.mark_node.new.walk was.went.unit (made.ended.rests c.in_default.is);
+      rests = rest_from (full_of before.subject.now) (full_of now.subject.now) next.state c.mark_node.new.walk was.went.full (made.ended.rests c.in_default.is);
       marked = next_staged c.args.block c.args.low c.loop-node.node c.args.stages (so_far next.state)
           (staged_still c.args.block c.args.low c.loop-node.node c.args.stages (so_far now.state) (so_far next.state) made.went.goes.keeps was.marked) (made.ended.marked c.in_default.is);
     }
@@ -56,11 +56,11 @@ returns-in-Some-clause-went g c =
 
 pub returns-in-Some-clause-ended : goal.returns-in-Some-clause-ended
 returns-in-Some-clause-ended g c =
-    early g.R.Rules.rule (unit_of c.args.work.now.subject.now) (unit_of c.loop-node.work.subject.now) c.mark_node.new.work.state c.mark_node.new.walk
-    (AreStagesMarked c.args.block c.loop-node.node c.args.stages) (AreStagesOfNodes c.args.block c.args.low c.args.end c.args.stages) c.in_ok-circle.circle c.in-Some.other c.loop-node.invariant.went.unit c.in-Some.is c.in_ok-circle.ensures.ended
+    early g.R.Rules.rule (full_of c.args.work.now.subject.now) (full_of c.loop-node.work.subject.now) c.mark_node.new.work.state c.mark_node.new.walk
+    (AreStagesMarked c.args.block c.loop-node.node c.args.stages) (AreStagesOfNodes c.args.block c.args.low c.args.end c.args.stages) c.in_ok-circle.circle c.in-Some.other c.loop-node.invariant.went.full c.in-Some.is c.in_ok-circle.ensures.ended
 
 pub returns-clause-ended : goal.returns-clause-ended
 returns-clause-ended g c =
     let now = c.loop-node.work in
-    ended_well g.R.Rules.rule (unit_of c.args.work.now.subject.now) now.state c.loop-node.walk (AreStagesOfNodes c.args.block c.args.low c.args.end c.args.stages) c.loop-node.invariant.rests
+    ended_well g.R.Rules.rule (full_of c.args.work.now.subject.now) now.state c.loop-node.walk (AreStagesOfNodes c.args.block c.args.low c.args.end c.args.stages) c.loop-node.invariant.rests
     (staged_to c.args.block c.args.low c.loop-node.node c.args.end c.args.stages (so_far now.state) (omega arith) c.loop-node.invariant.marked)

@@ -10,4 +10,4 @@ returns-in-Is-clause-follows c =
     let u = c.args.u.now in
     let s = c.args.s.now in
     subst (λ (x : Step). Follows u s x c.go_on.result) (sym c.in-Puts.is)
-    (follows_told u s c.in-Puts.asked c.in-Puts.rest c.in-Is.told c.go_on.result (subst (IsAnsweredTo u s (question_in s c.in-Puts.asked)) c.in-Is.is c.in_ok-found-in-Puts.ensures).1 c.go_on.ensures.is)
+    (follows_told u s c.in-Puts.asked c.in-Puts.rest c.in-Is.told c.go_on.result c.requires.scene (subst (IsAnsweredTo u s (question_in s c.in-Puts.asked)) c.in-Is.is c.in_ok-found-in-Puts.ensures).1 c.go_on.ensures.is)

@@ -36,6 +36,7 @@ returns-in_ok-keep-in-Mark-clause-work g c =
       scene = kept.scene;
       blocks = ap (λ (blocks : Vec Block). blocks.items) kept.blocks ∙ c.requires.work.blocks;
       cells = kept.cells ∙ c.requires.work.cells;
+      fits = c.requires.work.fits;
     }
 
 pub returns-in_ok-keep-in-Mark-clause-steps : goal.returns-in_ok-keep-in-Mark-clause-steps

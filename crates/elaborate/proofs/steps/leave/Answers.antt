@@ -10,4 +10,5 @@ returns-clause-work c =
       scene = kept.scene;
       blocks = ap (λ (blocks : Vec Block). blocks.items) kept.blocks ∙ c.requires.work.blocks;
       cells = kept.cells ∙ c.requires.work.cells;
+      fits = c.requires.work.fits;
     }

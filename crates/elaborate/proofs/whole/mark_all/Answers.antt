@@ -2,7 +2,7 @@ use Rattle.std.proofs.Common.{◌≡◌, ◌∙◌, sym, ap, length, subst, slic
 use Rattle.typed_marks.specs.declared.item.Block.{Block}
 use Rattle.typed_marks.specs.States.{so_far}
 use Rattle.unit_read.specs.Units.{Unit}
-use Rattle.unit_read.specs.Subjects.{unit_of}
+use Rattle.unit_read.specs.Subjects.{full_of, unit_of}
 use Rattle.elaborate.specs.Walks.{blocks_of}
 use Rattle.elaborate.specs.Covering.{AreNodesMarked, AreBlocksMarked}
 use Rattle.elaborate.proofs.WalkLemmas.{went_itself, went_then, blocks_still}
@@ -31,7 +31,7 @@ mark_block-requires-clause-block g c = ap (λ (bs : List Block). slice_get bs c.
 
 pub mark_block-requires-clause-rests : goal.mark_block-requires-clause-rests
 mark_block-requires-clause-rests g c =
-    rest_at (unit_of c.args.work.now.subject.now) (unit_of c.loop-k.work.subject.now) c.loop-k.work.state c.loop-k.walk c.loop-k.invariant.went.unit c.loop-k.invariant.rests
+    rest_at (full_of c.args.work.now.subject.now) (full_of c.loop-k.work.subject.now) c.loop-k.work.state c.loop-k.walk c.loop-k.invariant.went.full c.loop-k.invariant.rests
 
 pub loop-k-preserved : goal.loop-k-preserved
 loop-k-preserved g c =
@@ -45,7 +45,7 @@ loop-k-preserved g c =
     let here = block_here u (unit_of now.subject.now) now.state.blocks.items c.loop-k.k c.block_at-block.result was.went.unit was.went.work.blocks (ap (λ (bs : List Block). slice_get bs c.loop-k.k) (sym c.deref.ensures.value) ∙ c.block_at-block.ensures) in
     record {
       went = went_then rule before.subject.now now.subject.now next.subject.now before.state now.state next.state was.went made.went;
-      rests = rest_from u (unit_of now.subject.now) next.state c.mark_block.new.walk was.went.unit (made.ended.rests c.in_default.is);
+      rests = rest_from (full_of before.subject.now) (full_of now.subject.now) next.state c.mark_block.new.walk was.went.full (made.ended.rests c.in_default.is);
       marked = next_block u c.loop-k.k c.block_at-block.result (so_far next.state) here
           (blocks_still u c.loop-k.k (so_far now.state) (so_far next.state) made.went.goes.keeps was.marked) (made.ended.marked c.in_default.is);
     }
@@ -59,14 +59,14 @@ returns-in-Some-clause-went g c =
 
 pub returns-in-Some-clause-ended : goal.returns-in-Some-clause-ended
 returns-in-Some-clause-ended g c =
-    let u = unit_of c.args.work.now.subject.now in
-    early g.R.Rules.rule u (unit_of c.loop-k.work.subject.now) c.mark_block.new.work.state c.mark_block.new.walk
-    (AreNodesMarked c.loop-k.k c.block_at-block.result.low c.block_at-block.result.end) (AreBlocksMarked u (length (blocks_of u))) c.in_ok-circle.circle c.in-Some.other c.loop-k.invariant.went.unit c.in-Some.is c.in_ok-circle.ensures.ended
+    let u = full_of c.args.work.now.subject.now in
+    early g.R.Rules.rule u (full_of c.loop-k.work.subject.now) c.mark_block.new.work.state c.mark_block.new.walk
+    (AreNodesMarked c.loop-k.k c.block_at-block.result.low c.block_at-block.result.end) (AreBlocksMarked u (length (blocks_of u))) c.in_ok-circle.circle c.in-Some.other c.loop-k.invariant.went.full c.in-Some.is c.in_ok-circle.ensures.ended
 
 pub returns-clause-ended : goal.returns-clause-ended
 returns-clause-ended g c =
     let now = c.loop-k.work in
-    let u = unit_of c.args.work.now.subject.now in
+    let u = full_of c.args.work.now.subject.now in
     ended_well g.R.Rules.rule u now.state c.loop-k.walk (AreBlocksMarked u (length (blocks_of u))) c.loop-k.invariant.rests
     (subst (λ (n : ℕ). AreBlocksMarked u n (so_far now.state)) (ap (λ (bs : List Block). length bs) c.requires.work.blocks)
     (blocks_all u c.loop-k.k (length c.args.work.now.state.blocks.items) (so_far now.state) (omega arith) c.loop-k.invariant.marked))

@@ -1,6 +1,6 @@
 use Rattle.std.proofs.Common.{◌≡◌, ◌∙◌, refl, ap, slice_get}
 use Rattle.unit_read.specs.Units.{Unit}
-use Rattle.unit_read.specs.Subjects.{unit_of}
+use Rattle.unit_read.specs.Subjects.{full_of}
 use Rattle.elaborate.specs.Walks.{blocks_of}
 use Rattle.elaborate.specs.Covering.{AreStagesOfNodes, AreNodesMarked}
 use Rattle.elaborate.proofs.WalkLemmas.{went_then, ended_for}
@@ -19,12 +19,12 @@ mark_whole-requires-clause-early g c = c.in_ok-early.ensures.ended.marked c.in_d
 pub mark_whole-requires-clause-rests : goal.mark_whole-requires-clause-rests
 mark_whole-requires-clause-rests g c =
     let now = c.mark_early.new in
-    rest_at (unit_of c.args.work.now.subject.now) (unit_of now.work.subject.now) now.work.state now.walk c.in_ok-early.ensures.went.unit (c.in_ok-early.ensures.ended.rests c.in_default.is)
+    rest_at (full_of c.args.work.now.subject.now) (full_of now.work.subject.now) now.work.state now.walk c.in_ok-early.ensures.went.full (c.in_ok-early.ensures.ended.rests c.in_default.is)
 
 pub returns-in-Some-clause-ended : goal.returns-in-Some-clause-ended
 returns-in-Some-clause-ended g c =
     let now = c.mark_early.new in
-    early g.R.Rules.rule (unit_of c.args.work.now.subject.now) (unit_of c.args.work.now.subject.now) now.work.state now.walk (AreStagesOfNodes c.args.number c.args.block.low c.args.block.end 4) (AreNodesMarked c.args.number c.args.block.low c.args.block.end)
+    early g.R.Rules.rule (full_of c.args.work.now.subject.now) (full_of c.args.work.now.subject.now) now.work.state now.walk (AreStagesOfNodes c.args.number c.args.block.low c.args.block.end 4) (AreNodesMarked c.args.number c.args.block.low c.args.block.end)
     c.in_ok-early.early c.in-Some.other refl c.in-Some.is c.in_ok-early.ensures.ended
 
 pub returns-clause-went : goal.returns-clause-went
@@ -37,5 +37,5 @@ returns-clause-went g c =
 pub returns-clause-ended : goal.returns-clause-ended
 returns-clause-ended g c =
     let next = c.mark_whole.new in
-    ended_for g.R.Rules.rule (unit_of c.args.work.now.subject.now) (unit_of c.mark_early.new.work.subject.now) next.work.state next.walk (AreNodesMarked c.args.number c.args.block.low c.args.block.end)
-    c.in_ok-circle.circle c.in_ok-early.ensures.went.unit c.in_ok-circle.ensures.ended
+    ended_for g.R.Rules.rule (full_of c.args.work.now.subject.now) (full_of c.mark_early.new.work.subject.now) next.work.state next.walk (AreNodesMarked c.args.number c.args.block.low c.args.block.end)
+    c.in_ok-circle.circle c.in_ok-early.ensures.went.full c.in_ok-circle.ensures.ended

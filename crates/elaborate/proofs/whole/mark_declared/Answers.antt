@@ -1,6 +1,6 @@
 use Rattle.std.proofs.Common.{Bool, List, sym, subst}
 use Rattle.typed_marks.specs.States.{so_far}
-use Rattle.unit_read.specs.Subjects.{unit_of}
+use Rattle.unit_read.specs.Subjects.{full_of, unit_of}
 use Rattle.elaborate.specs.Covering.{AreStagesOfNodes, AreNodesMarked}
 use Rattle.elaborate.specs.Types.{AreQuietTypes}
 use Rattle.elaborate.proofs.WalkLemmas.{ended_as}
@@ -23,6 +23,6 @@ mark_types-requires-clause-marked g c = c.requires.early
 pub returns-clause-ended : goal.returns-clause-ended
 returns-clause-ended g c =
     let next = c.mark_types.new in
-    ended_as g.R.Rules.rule (unit_of c.args.work.now.subject.now) next.work.state next.walk
+    ended_as g.R.Rules.rule (full_of c.args.work.now.subject.now) next.work.state next.walk
     (AreStagesOfNodes c.args.number c.args.block.low c.args.block.end 6) (AreNodesMarked c.args.number c.args.block.low c.args.block.end) c.in_ok-circle.circle
     (λ none. nodes_whole c.args.number c.args.block.low c.args.block.end (so_far next.work.state)) c.in_ok-circle.ensures.ended

@@ -4,7 +4,7 @@ use Rattle.bind.specs.Answers.{AreSmall}
 use Rattle.unit_read.specs.declared.environment.Environment.{Environment}
 use Rattle.unit_read.specs.Environments.{faces_in}
 use Rattle.unit_read.specs.Index.{texts_of}
-use Rattle.unit_read.specs.Subjects.{unit_of}
+use Rattle.unit_read.specs.Subjects.{full_of}
 use Rattle.unit_read.specs.Texts.{AreTexts}
 use Rattle.unit_read.specs.Units.{Unit}
 use Rattle.check_pkg.specs.Typings.{marks_of}
@@ -39,8 +39,8 @@ pub outcomes_in-requires-clause-pass : goal.outcomes_in-requires-clause-pass
 outcomes_in-requires-clause-pass c =
     let l = c.args.loaded.now in
     let input = c.args.load.now in
-    let same : unit_of c.in_ok-subject.subject ≡ unit_loaded l input =
-    read-as l input c.requires.of (unit_of c.in_ok-subject.subject) c.as_bytes-path.result.now (texts_of c.args.texts.now) c.deref.result.now (faces_in c.args.env.now) c.in_ok-subject.ensures.of
+    let same : full_of c.in_ok-subject.subject ≡ unit_loaded l input =
+    read-as l input c.requires.of (full_of c.in_ok-subject.subject) c.as_bytes-path.result.now (texts_of c.args.texts.now) c.deref.result.now (faces_in c.args.env.now) c.in_ok-subject.ensures.of
     (c.as_bytes-path.ensures.value ∙ c.as_str.ensures) c.requires.texts c.deref.ensures.value c.requires.faces in
     let trees : c.in_ok-subject.subject.trees.now ≡ l.trees.items = ap (λ (u : Unit). u.trees) same in
     let few = few-files l input c.requires.of in
@@ -54,17 +54,17 @@ pub outcomes_in-requires-clause-given : goal.outcomes_in-requires-clause-given
 outcomes_in-requires-clause-given c = λ k r at.
     let l = c.args.loaded.now in
     let input = c.args.load.now in
-    let same : unit_of c.in_ok-subject.subject ≡ unit_loaded l input =
-    read-as l input c.requires.of (unit_of c.in_ok-subject.subject) c.as_bytes-path.result.now (texts_of c.args.texts.now) c.deref.result.now (faces_in c.args.env.now) c.in_ok-subject.ensures.of
+    let same : full_of c.in_ok-subject.subject ≡ unit_loaded l input =
+    read-as l input c.requires.of (full_of c.in_ok-subject.subject) c.as_bytes-path.result.now (texts_of c.args.texts.now) c.deref.result.now (faces_in c.args.env.now) c.in_ok-subject.ensures.of
     (c.as_bytes-path.ensures.value ∙ c.as_str.ensures) c.requires.texts c.deref.ensures.value c.requires.faces in
-    given-of l input c.requires.of (unit_of c.in_ok-subject.subject) c.as_slice-files.result.now c.args.named.now r.facts same c.as_slice-files.ensures c.requires.named (c.requires.apart k r at)
+    given-of l input c.requires.of (full_of c.in_ok-subject.subject) c.as_slice-files.result.now c.args.named.now r.facts same c.as_slice-files.ensures c.requires.named (c.requires.apart k r at)
 
 pub returns-clause-each : goal.returns-clause-each
 returns-clause-each c =
     let l = c.args.loaded.now in
     let input = c.args.load.now in
-    let same : unit_of c.in_ok-subject.subject ≡ unit_loaded l input =
-    read-as l input c.requires.of (unit_of c.in_ok-subject.subject) c.as_bytes-path.result.now (texts_of c.args.texts.now) c.deref.result.now (faces_in c.args.env.now) c.in_ok-subject.ensures.of
+    let same : full_of c.in_ok-subject.subject ≡ unit_loaded l input =
+    read-as l input c.requires.of (full_of c.in_ok-subject.subject) c.as_bytes-path.result.now (texts_of c.args.texts.now) c.deref.result.now (faces_in c.args.env.now) c.in_ok-subject.ensures.of
     (c.as_bytes-path.ensures.value ∙ c.as_str.ensures) c.requires.texts c.deref.ensures.value c.requires.faces in
     subst (λ (u : Unit). AreOutcomesIn u (marks_of l.typed) (map path_of input.files) c.args.asked.now c.in_ok-outcomes.outcomes.items) same
-    (subst (λ (files : List Named). AreOutcomesIn (unit_of c.in_ok-subject.subject) (marks_of l.typed) (map path_of files) c.args.asked.now c.in_ok-outcomes.outcomes.items) c.as_slice-files.ensures c.in_ok-outcomes.ensures.each)
+    (subst (λ (files : List Named). AreOutcomesIn (full_of c.in_ok-subject.subject) (marks_of l.typed) (map path_of files) c.args.asked.now c.in_ok-outcomes.outcomes.items) c.as_slice-files.ensures c.in_ok-outcomes.ensures.each)

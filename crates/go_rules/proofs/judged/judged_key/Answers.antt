@@ -14,7 +14,7 @@ returns-in-Field-clause-comes c =
     let s = c.args.s.now in
     let u = c.args.u.now in
     subst (λ (key : KeyRole). IfOk c.in_brief.result (ComesBriefly u s (judged_key (unit_of u) c.args.block c.args.at c.args.node.now key))) (sym c.in-Field.is)
-    (c.in_brief.ensures.comes u s (done nothing) (same_comes u s (done nothing) c.nothing.result c.nothing.ensures.is))
+    (c.in_brief.ensures.comes u s (done nothing) (same_comes u s (done nothing) c.nothing.result c.requires c.nothing.ensures.is))
 
 pub returns-in-Field-clause-over : goal.returns-in-Field-clause-over
 returns-in-Field-clause-over c = c.in_brief.ensures.over c.args.s.now c.nothing.ensures.over

@@ -15,4 +15,4 @@ returns-in-Embedded-clause-comes c =
     let s = c.args.s.now in
     let rule : Placing → Rule = λ placing. placed_as placing (unit_of c.args.u.now) c.args.block c.args.at c.args.p c.args.around.now (said s c.args.j) in
     subst (λ (placing : Placing). IfOk c.placed_embedded.result (ComesBriefly c.args.u.now s (rule placing))) (sym c.in-Embedded.is)
-    (same_briefly c.args.u.now s (rule pl.Embedded) c.placed_embedded.result c.placed_embedded.ensures.is)
+    (same_briefly c.args.u.now s (rule pl.Embedded) c.placed_embedded.result c.requires.scene c.placed_embedded.ensures.is)

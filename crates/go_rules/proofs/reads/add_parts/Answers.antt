@@ -1,12 +1,12 @@
 use Rattle.std.proofs.Common.{◌+◌, List, sym, ap, ◌∙◌, subst, arith}
 use Rattle.mark_walk.proofs.TellLaws.{says_gives, waits_awaits}
-use Rattle.typed_marks.specs.States.{so_far}
 use Rattle.unit_read.specs.Subjects.{unit_of}
 use Rattle.rule_words.specs.declared.seen.Seen.{Seen}
 use Rattle.rule_words.specs.Asking.{part_ask, parts_ask}
-use Rattle.rule_words.specs.Scenes.{part_in, parts_in, AreSeenOf}
+use Rattle.rule_words.specs.Scenes.{sight, part_in, parts_in, AreSeenOf}
 use Rattle.rule_words.proofs.PartLemmas.{Rests, rests_first, rests_more, rests_end, rests_wait, parts_last, seen_last}
 use Rattle.type_answers.specs.Coming.{says_at, pends_at}
+use Rattle.type_answers.proofs.PendingLemmas.{true_sight}
 use Rattle.go_rules.proofs.reads.add_parts.Goals as goal
 
 pub loop-i-init : goal.loop-i-init
@@ -14,7 +14,7 @@ loop-i-init c =
     let s = c.args.s.now in
     let f = part_ask (unit_of c.args.u.now) c.args.stage c.args.block in
     record {
-      rests = subst (λ (l : List Seen). Rests (so_far s) f c.args.list.now 0 (parts_in s l)) (sym c.clear.ensures.items) (rests_first (so_far s) f c.args.list.now);
+      rests = subst (λ (l : List Seen). Rests (sight s) f c.args.list.now 0 (parts_in s l)) (sym c.clear.ensures.items) (rests_first (sight s) f c.args.list.now);
       over = subst (AreSeenOf s) (sym c.clear.ensures.items) (λ i p at. absurd cc);
     }
 
@@ -26,8 +26,8 @@ loop-i-preserved c =
     let seen = c.in-Is.seen in
     let items = c.in_ok-push-in-Is.ensures.items in
     record {
-      rests = subst (Rests (so_far s) (part_ask u c.args.stage c.args.block) c.args.list.now (c.loop-i.i + 1)) (sym (ap (parts_in s) items ∙ parts_last s out seen))
-          (rests_more (so_far s) (part_ask u c.args.stage c.args.block) c.args.list.now c.loop-i.i (parts_in s out) c.read_at-read.result (part_in s seen)
+      rests = subst (Rests (sight s) (part_ask u c.args.stage c.args.block) c.args.list.now (c.loop-i.i + 1)) (sym (ap (parts_in s) items ∙ parts_last s out seen))
+          (rests_more (sight s) (part_ask u c.args.stage c.args.block) c.args.list.now c.loop-i.i (parts_in s out) c.read_at-read.result (part_in s seen)
           c.read_at-read.ensures (sym c.in-Is.ensures.is) c.loop-i.invariant.rests);
       over = subst (AreSeenOf s) (sym items) (seen_last s out seen c.loop-i.invariant.over c.in-Is.ensures.over);
     }
@@ -36,13 +36,13 @@ pub returns-clause-is : goal.returns-clause-is
 returns-clause-is c =
     let u = c.args.u.now in
     let s = c.args.s.now in
-    says_gives (says_at u) (so_far s) (parts_ask (unit_of u) c.args.stage c.args.block c.args.list.now) (parts_in s c.loop-i.out.items)
-    (sym (rests_end (so_far s) (part_ask (unit_of u) c.args.stage c.args.block) c.args.list.now c.loop-i.i (parts_in s c.loop-i.out.items) (omega arith) c.loop-i.invariant.rests))
+    says_gives (says_at u) (sight s) (pends_at u) (true_sight u s c.requires) (parts_ask (unit_of u) c.args.stage c.args.block c.args.list.now) (parts_in s c.loop-i.out.items)
+    (sym (rests_end (sight s) (part_ask (unit_of u) c.args.stage c.args.block) c.args.list.now c.loop-i.i (parts_in s c.loop-i.out.items) (omega arith) c.loop-i.invariant.rests))
 
 pub returns-in-Wait-clause-is : goal.returns-in-Wait-clause-is
 returns-in-Wait-clause-is c =
     let u = c.args.u.now in
     let s = c.args.s.now in
-    waits_awaits (says_at u) (pends_at u) (so_far s) (parts_ask (unit_of u) c.args.stage c.args.block c.args.list.now) c.in-Wait.item
-    (sym (rests_wait (so_far s) (part_ask (unit_of u) c.args.stage c.args.block) c.args.list.now c.loop-i.i (parts_in s c.loop-i.out.items) c.read_at-read.result c.in-Wait.item
+    waits_awaits (says_at u) (sight s) (pends_at u) (true_sight u s c.requires) (parts_ask (unit_of u) c.args.stage c.args.block c.args.list.now) c.in-Wait.item
+    (sym (rests_wait (sight s) (part_ask (unit_of u) c.args.stage c.args.block) c.args.list.now c.loop-i.i (parts_in s c.loop-i.out.items) c.read_at-read.result c.in-Wait.item
     c.read_at-read.ensures (sym c.in-Wait.ensures.is) c.loop-i.invariant.rests))

@@ -1,13 +1,12 @@
 use Rattle.std.proofs.Common.{◌≡◌}
-use Rattle.typed_marks.specs.States.{so_far}
 use Rattle.unit_read.specs.Subjects.{unit_of}
 use Rattle.rule_words.specs.Asking.{part_ask}
-use Rattle.rule_words.specs.Scenes.{parts_in, AreSeenOf}
+use Rattle.rule_words.specs.Scenes.{sight, parts_in, AreSeenOf}
 use Rattle.rule_words.proofs.PartLemmas.{Rests}
 use Rattle.go_rules.proofs.reads.add_parts.Given as goal
 
 abbrev pub invariant-loop-i : goal.invariant-loop-i
 invariant-loop-i l = record {
-  rests : Rests (so_far l.s) (part_ask (unit_of l.u) l.stage l.block) l.list l.i (parts_in l.s l.out.items);
+  rests : Rests (sight l.s) (part_ask (unit_of l.u) l.stage l.block) l.list l.i (parts_in l.s l.out.items);
   over : AreSeenOf l.s l.out.items;
 }

@@ -1,9 +1,9 @@
-use Rattle.std.proofs.Common.{◌++◌, ◌∷◌, [], refl, sym, ◌∙◌, subst, ap, set, true, option_to_list, Option}
-use Rattle.mark_walk.specs.Asks.{Awaits, WaitsFor}
+use Rattle.std.proofs.Common.{◌≡◌, ◌++◌, ◌∷◌, [], refl, sym, ◌∙◌, subst, ap, set, true, option_to_list, List, Option, Some}
+use Rattle.mark_walk.specs.Asks.{Awaits}
 use Rattle.mark_walk.specs.Marking.{Goes}
-use Rattle.mark_walk.specs.Waiting.{Waits}
+use Rattle.mark_walk.specs.Waiting.{Waits, IsCircle, IsFirst}
 use Rattle.mark_walk.proofs.AskLaws.{goes_itself, goes_then}
-use Rattle.mark_walk.proofs.WaitLemmas.{first_waits, first_noted, not_marked, circle_of}
+use Rattle.mark_walk.proofs.WaitLemmas.{first_waits, first_noted, first_is, not_marked, circle_of}
 use Rattle.mark_walk.proofs.walk.mark.Goals as goal
 
 pub loop-next-init : goal.loop-next-init
@@ -21,6 +21,7 @@ loop-next-init g c =
       waits = first_waits (k.IsItem s) (k.number s) (k.count s) (k.numbers s) (λ x. Awaits (k.says s) (k.pends s) (k.so_far kit) (k.rule s x)) (k.so_far kit) walk c.args.item c.requires.rests c.requires.item none
           (walk.waiting.items ++ c.args.item ∷ []) refl c.note.new.met.items met;
       idle = λ never. absurd cc;
+      first = λ x at. first_is walk.waiting.items c.args.item x c.requires.rests.idle at;
       noted = first_noted (k.IsItem s) (k.number s) (k.count s) (k.numbers s) (λ x. Awaits (k.says s) (k.pends s) (k.so_far kit) (k.rule s x)) (k.so_far kit) walk c.args.item c.requires.rests c.requires.item
           c.note.new.met.items met;
     }
@@ -52,6 +53,8 @@ loop-next-preserved g c =
       goes = goes_then (k.says s) (k.rule s) (k.so_far c.args.kit.now) so next was.goes (subst (λ (x : k.Subject). Goes (k.says x) (k.rule x) so next) was.subject made.goes);
       waits = subst (λ l. Waits (k.IsItem s) (k.number s) (k.count s) (λ y. Awaits (k.says s) (k.pends s) next (k.rule s y)) next l c.step.new.met.items) c.last-next.ensures.items waits;
       idle = c.last-next.ensures.idle;
+      first = λ x at. was.first x (subst (λ (o : Option _). IsFirst (c.loop-next.walk.waiting.items ++ option_to_list o) x) (sym c.in-Some.is)
+          (made.first c.in_default-circle.is x (subst (λ (l : List _). IsFirst l x) (sym c.last-next.ensures.items) at)));
       noted = made.notes c.in_default-circle.is (k.number s c.args.item) was.noted;
     }
 
@@ -59,5 +62,7 @@ pub returns-in-Some-circle-clause-ends : goal.returns-in-Some-circle-clause-ends
 returns-in-Some-circle-clause-ends g c =
     let k = g.K.Marking in
     let at = k.subject c.loop-next.kit in
-    let made = circle_of (λ x. Awaits (k.says at) (k.pends at) (k.so_far c.step.new.kit) (k.rule at x)) c.in_ok-circle.circle c.in-Some-circle.other c.in-Some-circle.is c.in_ok-circle.ensures.circle in
-    subst (λ (s : k.Subject). WaitsFor (λ x. Awaits (k.says s) (k.pends s) (k.so_far c.step.new.kit) (k.rule s x)) c.in-Some-circle.other c.in-Some-circle.other) c.loop-next.invariant.subject made
+    let first = subst (λ (o : Option _). (x : _) → IsFirst (c.loop-next.walk.waiting.items ++ option_to_list o) x → x ≡ c.args.item) c.in-Some.is c.loop-next.invariant.first in
+    let made = circle_of (λ x. Awaits (k.says at) (k.pends at) (k.so_far c.step.new.kit) (k.rule at x)) (IsFirst (c.loop-next.walk.waiting.items ++ c.in-Some.top ∷ [])) c.args.item
+    c.in_ok-circle.circle c.in-Some-circle.other c.in-Some-circle.is c.in_ok-circle.ensures.circle first in
+    subst (λ (s : k.Subject). IsCircle (λ x. Awaits (k.says s) (k.pends s) (k.so_far c.step.new.kit) (k.rule s x)) (λ x. x ≡ c.args.item) (Some c.in-Some-circle.other)) c.loop-next.invariant.subject made

@@ -1,7 +1,7 @@
 use Rattle.std.proofs.Common.{◌≡◌, ◌++◌, [], true, Some, None, option_to_list, slice_get}
 use Rattle.mark_walk.specs.Asks.{Awaits}
 use Rattle.mark_walk.specs.Marking.{Goes}
-use Rattle.mark_walk.specs.Waiting.{Waits, left_to_do}
+use Rattle.mark_walk.specs.Waiting.{Waits, IsFirst, left_to_do}
 use Rattle.mark_walk.proofs.walk.mark.Given as goal
 
 abbrev pub invariant-loop-next : goal.invariant-loop-next
@@ -14,6 +14,7 @@ invariant-loop-next g l =
       goes : Goes (k.says s) (k.rule s) (k.so_far l.fn.kit) (k.so_far l.kit);
       waits : Waits (k.IsItem s) (k.number s) (k.count s) (λ x. Awaits (k.says s) (k.pends s) (k.so_far l.kit) (k.rule s x)) (k.so_far l.kit) (l.walk.waiting.items ++ option_to_list l.next) l.walk.met.items;
       idle : l.next ≡ None → l.walk.waiting.items ≡ [];
+      first : (x : _) → IsFirst (l.walk.waiting.items ++ option_to_list l.next) x → x ≡ l.fn.item;
       noted : slice_get l.walk.met.items (k.number s l.fn.item) ≡ Some true;
     }
 

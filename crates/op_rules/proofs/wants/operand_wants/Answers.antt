@@ -1,9 +1,8 @@
 use Rattle.std.proofs.Common.{sym, ◌∙◌}
 use Rattle.mark_walk.specs.Telling.{Says, Waits}
 use Rattle.mark_walk.proofs.TellLaws.{told_bind}
-use Rattle.typed_marks.specs.States.{so_far}
 use Rattle.unit_read.specs.Subjects.{unit_of}
-use Rattle.rule_words.specs.Scenes.{said}
+use Rattle.rule_words.specs.Scenes.{sight, said}
 use Rattle.rule_words.specs.Wishes.{before}
 use Rattle.op_rules.specs.Wants.{operand_beside, operand_wants}
 use Rattle.op_rules.proofs.wants.operand_wants.Goals as goal
@@ -13,11 +12,11 @@ unfolding operand_wants
 returns-in-Is-clause-is c =
     let s = c.args.s.now in
     let u = unit_of c.args.u.now in
-    c.operand_beside.ensures.is ∙ sym (told_bind (so_far s) (before u c.args.block c.args.around.now c.args.p.slot) (operand_beside u c.args.block c.args.p c.args.around.now c.args.op) (Says (said s c.in-Is.own)) (sym c.in-Is.ensures.is))
+    c.operand_beside.ensures.is ∙ sym (told_bind (sight s) (before u c.args.block c.args.around.now c.args.p.slot) (operand_beside u c.args.block c.args.p c.args.around.now c.args.op) (Says (said s c.in-Is.own)) (sym c.in-Is.ensures.is))
 
 pub returns-in-Wait-clause-is : goal.returns-in-Wait-clause-is
 unfolding operand_wants
 returns-in-Wait-clause-is c =
     let s = c.args.s.now in
     let u = unit_of c.args.u.now in
-    sym (told_bind (so_far s) (before u c.args.block c.args.around.now c.args.p.slot) (operand_beside u c.args.block c.args.p c.args.around.now c.args.op) (Waits c.in-Wait.item) (sym c.in-Wait.ensures.is))
+    sym (told_bind (sight s) (before u c.args.block c.args.around.now c.args.p.slot) (operand_beside u c.args.block c.args.p c.args.around.now c.args.op) (Waits c.in-Wait.item) (sym c.in-Wait.ensures.is))

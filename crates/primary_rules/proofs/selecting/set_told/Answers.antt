@@ -1,4 +1,5 @@
 use Rattle.std.proofs.Common.{◌≡◌, List, map, sym, ap, ◌∙◌}
+use Rattle.rule_words.specs.Scenes.{sight}
 use Rattle.mark_walk.specs.Telling.{tell}
 use Rattle.method_sets.specs.Members.{selector}
 use Rattle.method_sets.specs.Replies.{listed_in}
@@ -7,7 +8,6 @@ use Rattle.type_model.specs.Parts.{GoMethod, method_of}
 use Rattle.type_model.specs.Tables.{types_in}
 use Rattle.type_questions.specs.declared.reached.Reached.{Reached}
 use Rattle.type_questions.specs.declared.reached.Reached.TheVariants.{Got}
-use Rattle.typed_marks.specs.States.{so_far}
 use Rattle.rule_words.specs.Answers.{answer_in}
 use Rattle.type_answers.specs.Answering.{listed_methods}
 use Rattle.type_answers.proofs.ComingLaws.{same_comes}
@@ -20,7 +20,7 @@ returns-in-Got-clause-comes c =
     let name = selector c.args.name.now c.args.from.now in
     let good = answer_in s c.args.good in
     let told : listed_methods s c.args.told ≡ Got (listed_in s.table c.in-Got.methods.items) = ap (listed_methods s) c.in-Got.is in
-    same_comes c.args.u.now s (set_told name good (listed_methods s c.args.told)) c.in_set.result
+    same_comes c.args.u.now s (set_told name good (listed_methods s c.args.told)) c.in_set.result c.requires.scene
     (c.in_set.ensures.is
-    ∙ (ap (λ (l : List Method). tell (so_far s) (in_set name good (map (method_of (types_in s.table)) l))) c.deref.ensures.value
-    ∙ sym (ap (λ (r : Reached (List GoMethod)). tell (so_far s) (set_told name good r)) told)))
+    ∙ (ap (λ (l : List Method). tell (sight s) (in_set name good (map (method_of (types_in s.table)) l))) c.deref.ensures.value
+    ∙ sym (ap (λ (r : Reached (List GoMethod)). tell (sight s) (set_told name good r)) told)))

@@ -2,9 +2,8 @@ use Rattle.std.proofs.Common.{ℕ, Option, sym, ap, ◌∙◌}
 use Rattle.mark_walk.specs.Telling.{Says, Waits, tell}
 use Rattle.mark_walk.proofs.TellLaws.{told_bind}
 use Rattle.package_objects.specs.Declares.{part}
-use Rattle.typed_marks.specs.States.{so_far}
 use Rattle.unit_read.specs.Subjects.{unit_of}
-use Rattle.rule_words.specs.Scenes.{said}
+use Rattle.rule_words.specs.Scenes.{sight, said}
 use Rattle.primary_rules.specs.Wants.{before_part, star_beside}
 use Rattle.primary_rules.proofs.wants.star_own.Goals as goal
 
@@ -13,12 +12,12 @@ returns-in-Is-clause-is c =
     let s = c.args.s.now in
     let u = unit_of c.args.u.now in
     c.star_beside.ensures.is
-    ∙ sym (told_bind (so_far s) (before_part u c.args.block (part c.args.around.now 0)) star_beside (Says (said s c.in-Is.own))
-    (ap (λ (p : Option ℕ). tell (so_far s) (before_part u c.args.block p)) (sym c.part_of.ensures) ∙ sym c.in-Is.ensures.is))
+    ∙ sym (told_bind (sight s) (before_part u c.args.block (part c.args.around.now 0)) star_beside (Says (said s c.in-Is.own))
+    (ap (λ (p : Option ℕ). tell (sight s) (before_part u c.args.block p)) (sym c.part_of.ensures) ∙ sym c.in-Is.ensures.is))
 
 pub returns-in-Wait-clause-is : goal.returns-in-Wait-clause-is
 returns-in-Wait-clause-is c =
     let s = c.args.s.now in
     let u = unit_of c.args.u.now in
-    sym (told_bind (so_far s) (before_part u c.args.block (part c.args.around.now 0)) star_beside (Waits c.in-Wait.item)
-    (ap (λ (p : Option ℕ). tell (so_far s) (before_part u c.args.block p)) (sym c.part_of.ensures) ∙ sym c.in-Wait.ensures.is))
+    sym (told_bind (sight s) (before_part u c.args.block (part c.args.around.now 0)) star_beside (Waits c.in-Wait.item)
+    (ap (λ (p : Option ℕ). tell (sight s) (before_part u c.args.block p)) (sym c.part_of.ensures) ∙ sym c.in-Wait.ensures.is))

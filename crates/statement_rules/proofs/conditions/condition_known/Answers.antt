@@ -1,15 +1,19 @@
 use Rattle.std.proofs.Common.{option_map}
-use Rattle.typed_marks.specs.States.{so_far}
 use Rattle.unit_read.specs.Subjects.{unit_of}
 use Rattle.rule_words.specs.Asking.{under_ask}
-use Rattle.rule_words.specs.Scenes.{type_in}
+use Rattle.rule_words.specs.Scenes.{sight, type_in}
 use Rattle.rule_words.specs.Steps.{step_in}
-use Rattle.rule_words.proofs.BindLaws.{says_bind}
+use Rattle.rule_words.proofs.BindLaws.{says_bind, waits_bind}
 use Rattle.statement_rules.specs.Conditions.{condition_told}
 use Rattle.statement_rules.proofs.conditions.condition_known.Goals as goal
 
 pub returns-in-Is-clause-is : goal.returns-in-Is-clause-is
 returns-in-Is-clause-is c =
     let s = c.args.s.now in
-    says_bind (so_far s) (under_ask (unit_of c.args.u.now) (type_in s c.args.x.last)) condition_told (option_map (type_in s) c.in-Is.under) (step_in s c.condition_told.result)
+    says_bind (sight s) (under_ask (unit_of c.args.u.now) (type_in s c.args.x.last)) condition_told (option_map (type_in s) c.in-Is.under) (step_in s c.condition_told.result)
     c.in-Is.ensures.is c.condition_told.ensures.is
+
+pub returns-in-Wait-clause-is : goal.returns-in-Wait-clause-is
+returns-in-Wait-clause-is c =
+    let s = c.args.s.now in
+    waits_bind (sight s) (under_ask (unit_of c.args.u.now) (type_in s c.args.x.last)) condition_told c.in-Wait.item c.in-Wait.ensures.is

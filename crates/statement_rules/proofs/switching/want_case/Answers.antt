@@ -1,7 +1,6 @@
 use Rattle.std.proofs.Common.{option_map}
-use Rattle.typed_marks.specs.States.{so_far}
 use Rattle.unit_read.specs.Subjects.{unit_of}
-use Rattle.rule_words.specs.Scenes.{told_by, said, type_in}
+use Rattle.rule_words.specs.Scenes.{sight, told_by, said, type_in}
 use Rattle.rule_words.proofs.BindLaws.{says_bind, waits_bind}
 use Rattle.statement_rules.specs.Switching.{tag_ask, case_told}
 use Rattle.statement_rules.proofs.switching.want_case.Goals as goal
@@ -10,11 +9,11 @@ pub returns-in-Is-clause-is : goal.returns-in-Is-clause-is
 returns-in-Is-clause-is c =
     let s = c.args.s.now in
     let u = unit_of c.args.u.now in
-    says_bind (so_far s) (tag_ask u c.args.block c.args.file c.args.clause) (case_told u c.args.block c.args.n) (option_map (type_in s) c.in-Is.o) (told_by (said s) c.case_told.result)
+    says_bind (sight s) (tag_ask u c.args.block c.args.file c.args.clause) (case_told u c.args.block c.args.n) (option_map (type_in s) c.in-Is.o) (told_by (said s) c.case_told.result)
     c.in-Is.ensures.is c.case_told.ensures.is
 
 pub returns-in-Wait-clause-is : goal.returns-in-Wait-clause-is
 returns-in-Wait-clause-is c =
     let s = c.args.s.now in
     let u = unit_of c.args.u.now in
-    waits_bind (so_far s) (tag_ask u c.args.block c.args.file c.args.clause) (case_told u c.args.block c.args.n) c.in-Wait.item c.in-Wait.ensures.is
+    waits_bind (sight s) (tag_ask u c.args.block c.args.file c.args.clause) (case_told u c.args.block c.args.n) c.in-Wait.item c.in-Wait.ensures.is

@@ -6,6 +6,7 @@ use Rattle.type_questions.specs.Questions.{Question, Holds}
 use Rattle.type_answers.specs.Answering.{IsAnswered}
 use Rattle.type_answers.specs.declared.relations.Relation.TheVariants as r
 use Rattle.type_answers.proofs.OperandLemmas.{of_operand}
+use Rattle.type_answers.proofs.PendingLemmas.{in_step}
 use Rattle.type_answers.proofs.relations.assignable_at.Goals as goal
 
 pub returns : goal.returns
@@ -15,3 +16,6 @@ returns c =
     of_operand s r.Assignable c.args.methods.now c.args.to x.of c.args.of x.value c.args.value
     (λ (q : Question). IsAnswered c.args.u.now s q Holds c.assignable_to.result)
     c.in_ok-x.ensures.of c.in_ok-x.ensures.value c.assignable_to.ensures
+
+pub assignable_to-requires-clause-step : goal.assignable_to-requires-clause-step
+assignable_to-requires-clause-step c = in_step c.args.u.now c.args.s.now c.requires.scene

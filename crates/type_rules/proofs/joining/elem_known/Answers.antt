@@ -1,11 +1,11 @@
-use Rattle.std.proofs.Common.{option_map, sym, ◌∙◌}
+use Rattle.std.proofs.Common.{option_map, sym, ◌∙◌, rules}
 use Rattle.mark_walk.specs.Telling.{Says}
 use Rattle.mark_walk.proofs.TellLaws.{told_bind}
-use Rattle.typed_marks.specs.States.{so_far}
 use Rattle.unit_read.specs.Subjects.{unit_of}
 use Rattle.rule_words.specs.Asking.{under_ask}
-use Rattle.rule_words.specs.Scenes.{said, type_in}
+use Rattle.rule_words.specs.Scenes.{sight, said, type_in}
 use Rattle.type_rules.specs.Joining.{elem_with}
+use Rattle.rule_words.proofs.BindLaws.{waits_at}
 use Rattle.type_rules.proofs.joining.elem_known.Goals as goal
 
 pub returns-in_ok-step-in-Is-clause-is : goal.returns-in_ok-step-in-Is-clause-is
@@ -13,5 +13,8 @@ returns-in_ok-step-in-Is-clause-is c =
     let s = c.args.s.now in
     let u = unit_of c.args.u.now in
     c.in_ok-step-in-Is.ensures.is
-    ∙ sym (told_bind (so_far s) (under_ask u (type_in s c.args.x.of)) (λ under. elem_with u c.args.block c.args.file c.args.reads.now (said s c.args.m) under)
+    ∙ sym (told_bind (sight s) (under_ask u (type_in s c.args.x.of)) (λ under. elem_with u c.args.block c.args.file c.args.reads.now (said s c.args.m) under)
     (Says (option_map (type_in s) c.in-Is.under)) (sym c.in-Is.ensures.is))
+
+pub returns-in-Wait-clause-is : goal.returns-in-Wait-clause-is
+returns-in-Wait-clause-is c = search (rules, waits_at, c.in-Wait.ensures.is)

@@ -1,5 +1,6 @@
 use Rattle.std.proofs.Common.{List, map, ap, ◌∙◌, option_map, ◌≡◌}
 use Rattle.unit_read.specs.Environments.{faces_in}
+use Rattle.unit_read.specs.Imports.{bare}
 use Rattle.unit_read.specs.Index.{texts_of}
 use Rattle.unit_read.specs.Subjects.{top_name}
 use Rattle.unit_read.specs.Units.{named_by, type_name_at, repeater}
@@ -15,17 +16,18 @@ use Rattle.unit_rows.proofs.reader.read_unit.Goals as goal
 
 pub local_rows-requires : goal.local_rows-requires
 local_rows-requires c =
-    let u = package_unit c.args.path.now (texts_of c.args.texts.now) c.args.trees.now c.args.uses.now (faces_in c.args.env.now) c.args.redeclared.items c.args.cyclic.items c.args.circular.items c.args.owners.items in
+    let u = bare (package_unit c.args.path.now (texts_of c.args.texts.now) c.args.trees.now c.args.uses.now (faces_in c.args.env.now) c.args.redeclared.items c.args.cyclic.items c.args.circular.items c.args.owners.items) in
     places_read u c.in_ok-places.places.items c.in_ok-places.ensures
 
 pub named_types-requires : goal.named_types-requires
 named_types-requires c =
-    let u = package_unit c.args.path.now (texts_of c.args.texts.now) c.args.trees.now c.args.uses.now (faces_in c.args.env.now) c.args.redeclared.items c.args.cyclic.items c.args.circular.items c.args.owners.items in
+    let u = bare (package_unit c.args.path.now (texts_of c.args.texts.now) c.args.trees.now c.args.uses.now (faces_in c.args.env.now) c.args.redeclared.items c.args.cyclic.items c.args.circular.items c.args.owners.items) in
     places_read u c.in_ok-places.places.items c.in_ok-places.ensures
 
 pub returns-clause-read : goal.returns-clause-read
 returns-clause-read c =
-    let u = package_unit c.args.path.now (texts_of c.args.texts.now) c.args.trees.now c.args.uses.now (faces_in c.args.env.now) c.args.redeclared.items c.args.cyclic.items c.args.circular.items c.args.owners.items in
+    let full = package_unit c.args.path.now (texts_of c.args.texts.now) c.args.trees.now c.args.uses.now (faces_in c.args.env.now) c.args.redeclared.items c.args.cyclic.items c.args.circular.items c.args.owners.items in
+    let u = bare full in
     let numbers : (at : NodeRef) → entry c.in_ok-locals.locals.items at ≡ option_map (λ (n : TypeName). n.local) (type_name_at u at) = λ at. c.in_ok-locals.ensures at ∙ locals_read u c.in_ok-defined.defined.items c.in_ok-local_cells.local_cells.items c.in_ok-defined.ensures c.in_ok-local_cells.ensures at in
     record {
       blocks = c.in_ok-passages.ensures;
@@ -33,7 +35,7 @@ returns-clause-read c =
       places = places_read u c.in_ok-places.places.items c.in_ok-places.ensures;
       specs = λ at. c.in_ok-specs.ensures at ∙ specs_read u at;
       env = c.requires.env;
-      leads = λ at. c.in_ok-leads.ensures at ∙ leads_read u c.in_ok-lead_cells.lead_cells.items c.in_ok-lead_cells.ensures at;
+      leads = λ at. c.in_ok-leads.ensures at ∙ leads_read full c.in_ok-lead_cells.lead_cells.items c.in_ok-lead_cells.ensures at;
       types = c.in_ok-defined.ensures;
       locals = λ k at there. numbers at ∙ local_there u k at there;
       inside = numbers;

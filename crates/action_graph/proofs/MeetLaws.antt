@@ -1,8 +1,7 @@
 -- What is met from a type, where two sets of declarations agree on all names that are met; and what stands in the text of an interface.
-use Rattle.std.proofs.Common.{◌≡◌, ◌⊎◌, inl, inr, ℕ, zero, suc, ◌<◌, List, [], ◌∷◌, ◌++◌, length, map, Option, Some, None, refl, sym, ap, ◌∙◌, subst, arith}
+use Rattle.std.proofs.Common.{◌≡◌, ◌⊎◌, inl, inr, ℕ, zero, suc, ◌<◌, List, [], ◌∷◌, length, Option, Some, None, refl, sym, ap, subst, arith}
 use Rattle.std.specs.List.{Contains, flat_map}
 use Rattle.std.specs.Option.{option_map_or}
-use Rattle.std.proofs.lemmas.Option.{same_Some}
 use Rattle.std.proofs.lemmas.List.Elements.{Contains-append_left, Contains-append_right}
 use Rattle.type_model.specs.declared.term.TypeName.{TypeName}
 use Rattle.type_model.specs.GoTypes.{GoType, BasicType, DefinedType, PointerTo, SliceOf, ArrayOf, MapOf, ChanOf, FuncOf, StructOf, InterfaceOf}
@@ -11,7 +10,7 @@ use Rattle.package_faces.specs.Faces.{DefinedOut, Face}
 use Rattle.package_faces.specs.Reaching.{Reaches, ReachesStart, ReachesNext, next_types}
 use Rattle.export_text.specs.Reaching.{nothing_declared}
 use Rattle.export_text.specs.Mentions.{StandsIn, defined_types, face_types, object_types}
-use Rattle.gv_driver.proofs.Places.{contains-head, contains-tail}
+use Rattle.action_graph.proofs.StayFaces.{contains_head as contains-head}
 
 pub type-cases : {X : Type 0} (x y : X) (xs : List X) → Contains (x ∷ xs) y → (x ≡ y) ⊎ Contains xs y
 type-cases x y xs (zero, l, c) = inl c

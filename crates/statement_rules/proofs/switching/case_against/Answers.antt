@@ -1,0 +1,23 @@
+use Rattle.std.proofs.Common.{option_map, sym, ap, ◌∙◌}
+use Rattle.mark_walk.specs.Telling.{Says, Waits}
+use Rattle.mark_walk.proofs.TellLaws.{told_bind}
+use Rattle.unit_read.specs.Subjects.{unit_of}
+use Rattle.rule_words.specs.Asking.{under_ask}
+use Rattle.rule_words.specs.Scenes.{sight, told_by, type_in}
+use Rattle.statement_rules.specs.Switching.{case_wish}
+use Rattle.statement_rules.proofs.switching.case_against.Goals as goal
+
+pub returns-in-Is-clause-is : goal.returns-in-Is-clause-is
+returns-in-Is-clause-is c =
+    let s = c.args.s.now in
+    let u = unit_of c.args.u.now in
+    c.case_wish.ensures.is
+    ∙ sym (told_bind (sight s) (under_ask u (type_in s c.args.tag)) (case_wish (type_in s c.args.tag)) (Says (option_map (type_in s) c.in-Is.under))
+    (sym c.under_of.ensures.is ∙ ap (told_by (option_map (type_in s))) c.in-Is.is))
+
+pub returns-in-Wait-clause-is : goal.returns-in-Wait-clause-is
+returns-in-Wait-clause-is c =
+    let s = c.args.s.now in
+    let u = unit_of c.args.u.now in
+    sym (told_bind (sight s) (under_ask u (type_in s c.args.tag)) (case_wish (type_in s c.args.tag)) (Waits c.in-Wait.item)
+    (sym c.under_of.ensures.is ∙ ap (told_by (option_map (type_in s))) c.in-Wait.is))
