@@ -2,9 +2,20 @@
 # docs/ARCHITECTURE.md has each crate of crates.txt once, at its level: one above the highest of the crates that it stands on.
 # The ways that lead from a crate down to others are counted too: rt sums a library's files up twice for each of them, some two milliseconds
 # each, in which little else is done. A crate that passes on (`pub use`) what its public clauses cite spares those above it a dependency.
+# And what a crate's files cite stands in its row: a check over the sources of the crates below lets more pass, and the gate sees it late.
 # Prints what differs, and ends with 1 where something does.
 set -u
 cd "$(dirname "$0")/.." || exit 1
+status=0
+while IFS=: read -r head below; do
+    crate=${head%% *}
+    for cited in $(grep -rhoE 'Rattle\.[a-z][a-z_0-9]*' "crates/$crate" --include='*.rt' --include='*.antt' --exclude-dir=out | sort -u | cut -d. -f2); do
+        if [[ $cited != "$crate" && " $below " != *" $cited "* ]] && grep -q "^$cited[ :]" crates.txt; then
+            echo "$crate: its files cite $cited, which its row of crates.txt lacks"
+            status=1
+        fi
+    done
+done < <(grep '^[a-z]' crates.txt)
 awk -F: '
     FNR == NR && !/^#/ && NF > 1 { split($1, word, " "); name[++n] = word[1]; below[word[1]] = $2; next }
     FNR == NR { next }
@@ -33,4 +44,5 @@ awk -F: '
         for (crate in said) if (!(crate in below)) { print crate ": no crate of crates.txt"; bad = 1 }
         print "levels: " n " crates looked at"
         exit bad
-    }' crates.txt docs/ARCHITECTURE.md
+    }' crates.txt docs/ARCHITECTURE.md || status=1
+exit $status
